@@ -1,0 +1,4 @@
+pub mod Quote
+pub mod Figures
+pub mod Put
+pub mod Signed

@@ -1,0 +1,7 @@
+-- The laws of a text and its groups, for the proofs of several functions and for other crates.
+-- Assumes nothing.
+pub mod Leads
+pub mod Groups
+pub mod Texts
+pub mod Joins
+pub mod Writes

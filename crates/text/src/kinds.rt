@@ -1,0 +1,37 @@
+// The answers of the cutting functions, and document 01's refusals by name.
+
+// What stands at or after a position of a text.
+pub enum Cut {
+    // A group, from start up to end.
+    Group { start: usize, end: usize },
+    // No group is left: the first "=", or the end of the text, is at `at`.
+    End { at: usize },
+}
+
+// What follows the first "=": parting bytes only, or the place of the first other byte.
+pub enum Tail {
+    Clear,
+    Junk(usize),
+}
+
+// Refusals 1 and 2, judged over the whole text.
+pub enum Bytes {
+    Sound,
+    Length,
+    Byte(usize),
+}
+
+// Document 01's refusal numbers, by what they say; `refusal_number` gives the number.
+pub enum Refusal {
+    Length,
+    Byte,
+    Kind,
+    Shape,
+    Figure,
+    Order,
+    Disagreement,
+    Absence,
+    Limit,
+    Room,
+    Value,
+}

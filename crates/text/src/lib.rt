@@ -1,0 +1,247 @@
+// Cutting a text: its bytes and length judged, its groups one after the other with their places, what follows the "=", the trimmed part;
+// and the bytes that part groups and end a report when one is written.
+pub mod kinds;
+
+use figures::put;
+use kinds::Bytes;
+use kinds::Cut;
+use kinds::Refusal;
+use kinds::Tail;
+ghost use mathlib.Core.Path.{_≡_};
+ghost use mathlib.Core.List.{_∷_, []};
+ghost use Prim.Native.Nat.{_+_};
+ghost use lib.ListN.{drop};
+ghost use Rattle.figures.specs.Put.{Put};
+ghost use Rattle.text.specs.Refusals.{numberOf};
+ghost use Rattle.text.specs.Bytes.{parting, inner, allowed, lead, lastEnd};
+ghost use Rattle.text.specs.Groups.{nextOf, partOf, opening};
+ghost use Rattle.text.specs.Text.{equalsAt, bytesOf, tailOf, trimmedOf};
+
+// Document 01's number of a refusal.
+pub fn refusal_number(r: Refusal) -> u8
+    ensures { λ n. ⌜ n ≡ numberOf r ⌝ }
+{
+    match r {
+        Refusal::Length => 1,
+        Refusal::Byte => 2,
+        Refusal::Kind => 3,
+        Refusal::Shape => 4,
+        Refusal::Figure => 5,
+        Refusal::Order => 6,
+        Refusal::Disagreement => 7,
+        Refusal::Absence => 8,
+        Refusal::Limit => 9,
+        Refusal::Room => 10,
+        Refusal::Value => 11,
+    }
+}
+
+pub fn is_parting(b: u8) -> bool
+    ensures { λ r. ⌜ r ≡ parting b ⌝ }
+{
+    (b == b' ') | (b == b'\r') | (b == b'\n')
+}
+
+// A byte of a group: no parting byte and not "=".
+pub fn is_inner(b: u8) -> bool
+    ensures { λ r. ⌜ r ≡ inner b ⌝ }
+{
+    !((b == b' ') | (b == b'\r') | (b == b'\n') | (b == b'='))
+}
+
+// A byte that a text may hold.
+pub fn is_allowed(b: u8) -> bool
+    ensures { λ r. ⌜ r ≡ allowed b ⌝ }
+{
+    ((b'A' <= b) & (b <= b'Z'))
+        | ((b'0' <= b) & (b <= b'9'))
+        | (b == b'/')
+        | (b == b'+')
+        | (b == b'-')
+        | (b == b'=')
+        | (b == b' ')
+        | (b == b'\r')
+        | (b == b'\n')
+}
+
+// The first position at or after `at` that holds no parting byte.
+fn skip(text: &[u8], at: usize) -> usize
+    ensures { λ r. ⌜ r ≡ at + lead parting (drop at (now (text .entry))) ⌝ }
+{
+    let mut i = at;
+    while i < text.len() {
+        if is_parting(text[i]) {
+            i += 1;
+        } else {
+            return i;
+        }
+    }
+    i
+}
+
+// The first position at or after `at` that holds no byte of a group.
+fn run(text: &[u8], at: usize) -> usize
+    ensures { λ r. ⌜ r ≡ at + lead inner (drop at (now (text .entry))) ⌝ }
+{
+    let mut i = at;
+    while i < text.len() {
+        if is_inner(text[i]) {
+            i += 1;
+        } else {
+            return i;
+        }
+    }
+    i
+}
+
+// The next group at or after `at`, or where the groups end.
+pub fn next_group(text: &[u8], at: usize) -> Cut
+    ensures { λ r. ⌜ r ≡ nextOf (now (text .entry)) at ⌝ }
+{
+    if text.len() <= at {
+        return Cut::End { at: text.len() };
+    }
+    let start = skip(text, at);
+    if text.len() <= start {
+        return Cut::End { at: start };
+    }
+    if is_inner(text[start]) {
+        let end = run(text, start);
+        Cut::Group { start, end }
+    } else {
+        Cut::End { at: start }
+    }
+}
+
+// The empty part at the text's end.
+fn no_part(text: &[u8]) -> &[u8]
+    ensures { λ r. ⌜ now r ≡ [] ⌝ }
+{
+    let over = text.len();
+    &text[over..]
+}
+
+// The part of the text from start up to end; the empty part at the text's end where there is no such part.
+pub fn part(text: &[u8], start: usize, end: usize) -> &[u8]
+    ensures { λ r. ⌜ now r ≡ partOf (now (text .entry)) start end ⌝ }
+{
+    if start <= end {
+        if end <= text.len() {
+            return &text[start..end];
+        }
+    }
+    no_part(text)
+}
+
+// The place of the first "="; the length where there is none.
+fn find_equals(text: &[u8]) -> usize
+    ensures { λ r. ⌜ r ≡ equalsAt (now (text .entry)) ⌝ }
+{
+    let mut i = 0;
+    while i < text.len() {
+        if text[i] == b'=' {
+            return i;
+        }
+        i += 1;
+    }
+    i
+}
+
+// The position of the first byte that a text may not hold; the length where each may.
+fn find_bad_byte(text: &[u8]) -> usize
+    ensures { λ r. ⌜ r ≡ lead allowed (now (text .entry)) ⌝ }
+{
+    let mut place = 0;
+    while place < text.len() {
+        if is_allowed(text[place]) {
+            place += 1;
+        } else {
+            return place;
+        }
+    }
+    place
+}
+
+// The position after the last byte that is no parting byte; 0 where all are.
+fn find_last_end(text: &[u8]) -> usize
+    ensures { λ r. ⌜ r ≡ lastEnd (now (text .entry)) ⌝ }
+{
+    let mut end = text.len();
+    while 0 < end {
+        if is_parting(text[end - 1]) {
+            end -= 1;
+        } else {
+            return end;
+        }
+    }
+    0
+}
+
+// Refusals 1 and 2 over the whole text.
+pub fn judge_bytes(text: &[u8]) -> Bytes
+    ensures { λ r. ⌜ r ≡ bytesOf (now (text .entry)) ⌝ }
+{
+    if text.len() == 0 {
+        return Bytes::Length;
+    }
+    if 2048 < text.len() {
+        return Bytes::Length;
+    }
+    let bad = find_bad_byte(text);
+    if bad < text.len() {
+        Bytes::Byte(bad)
+    } else {
+        Bytes::Sound
+    }
+}
+
+// What follows the first "=".
+pub fn tail(text: &[u8]) -> Tail
+    ensures { λ r. ⌜ r ≡ tailOf (now (text .entry)) ⌝ }
+{
+    let equals = find_equals(text);
+    if text.len() <= equals {
+        return Tail::Clear;
+    }
+    let place = skip(text, equals + 1);
+    if place < text.len() {
+        Tail::Junk(place)
+    } else {
+        Tail::Clear
+    }
+}
+
+// From the first group's first byte through the first "=" or, without one, the last group; the empty part at the text's end where no group
+// stands before an "=" or the end.
+pub fn trimmed(text: &[u8]) -> &[u8]
+    ensures { λ r. ⌜ now r ≡ trimmedOf (now (text .entry)) ⌝ }
+{
+    let start = skip(text, 0);
+    let equals = find_equals(text);
+    if equals <= start {
+        return no_part(text);
+    }
+    if equals < text.len() {
+        part(text, start, equals + 1)
+    } else {
+        part(text, start, find_last_end(text))
+    }
+}
+
+// Writing: parts a group from the one before it, if any stands before it.
+pub fn open_group(out: &mut [u8], at: usize) -> usize
+    ensures { λ r. ⌜ Put (now (out .entry)) at (opening at) r (now (out .exit)) ⌝ }
+{
+    if at == 0 {
+        at
+    } else {
+        put::put_byte(out, at, b' ')
+    }
+}
+
+// Writing: ends the report.
+pub fn close_report(out: &mut [u8], at: usize) -> usize
+    ensures { λ r. ⌜ Put (now (out .entry)) at (61 ∷ []) r (now (out .exit)) ⌝ }
+{
+    put::put_byte(out, at, b'=')
+}
