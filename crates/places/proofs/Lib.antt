@@ -1,0 +1,8 @@
+-- What the proofs of several functions use, and the laws for other crates.
+pub mod Seek
+pub mod Rows
+pub mod Going
+pub mod ReadBack
+pub mod Shelf
+pub mod Joined
+pub mod Examples

@@ -1,0 +1,122 @@
+-- A row of places as the search sees it, and what a place that takes a group has: room for it, and its shape.
+-- Assumes nothing.
+use Prim.Native.Nat.{ℕ, zero, suc, _+_, _<_}
+use native.Mathlib.Omega.{arith}
+use native.Mathlib.Numerals.{add-one}
+use mathlib.Core.Path.{_≡_, refl, ap}
+use mathlib.Core.Bool.{Bool, true, false, _&&_, _||_, and-eq-true-iff}
+use mathlib.Core.List.{List, [], _∷_, map}
+use lib.ListN.{length, getD, drop, length-map, List·getD-map}
+use lib.Dec.{ltb, eqb}
+use borrow.Author.Tests.{ltb-true}
+use Rattle.places.specs.Seek.{Stand, stands, seek, anywhere, orEarlier, findOf}
+use Rattle.places.specs.Engine.{Group, Place, nowhere, placeAt, standing, standsOf, mustsOf}
+use Rattle.places.specs.declared.kinds.Found.{Found}
+use Rattle.places.specs.declared.kinds.Found.the-variants.{Take, Skips, Full, Earlier, Unknown}
+
+-- ---- what stands at a position of a list
+
+module _ {A : Type 0} where
+  drop-suc : {x : A} {xs : List A} (l : List A) (i : ℕ) → drop i l ≡ x ∷ xs → drop (suc i) l ≡ xs
+  drop-suc [] zero e = cc
+  drop-suc [] (suc i) e = cc
+  drop-suc (y ∷ ys) zero e = cc
+  drop-suc (y ∷ ys) (suc i) e = drop-suc ys i e
+
+  pub at-next : {x : A} {xs : List A} (l : List A) (i : ℕ) → drop i l ≡ x ∷ xs → drop (i + 1) l ≡ xs
+  at-next l i e = rw (add-one i) (drop-suc l i e)
+
+  pub at-is : (d : A) {x : A} {xs : List A} (l : List A) (i : ℕ) → drop i l ≡ x ∷ xs → getD l i d ≡ x
+  at-is d [] zero e = let z : _≡_ {A = ℕ} 0 1 = cc in absurd (omega arith)
+  at-is d [] (suc i) e = let z : _≡_ {A = ℕ} 0 1 = cc in absurd (omega arith)
+  at-is d (y ∷ ys) zero e = cc
+  at-is d (y ∷ ys) (suc i) e = at-is d ys i e
+
+  pub at-in : {x : A} {xs : List A} (l : List A) (i : ℕ) → drop i l ≡ x ∷ xs → i < length l
+  at-in [] zero e = let z : _≡_ {A = ℕ} 0 1 = cc in absurd (omega arith)
+  at-in [] (suc i) e = let z : _≡_ {A = ℕ} 0 1 = cc in absurd (omega arith)
+  at-in (y ∷ ys) zero e = omega arith
+  at-in (y ∷ ys) (suc i) e = let h = at-in ys i e in omega arith
+
+  pub drop-map : {B : Type 0} (f : A → B) (l : List A) (i : ℕ) → drop i (map f l) ≡ map f (drop i l)
+  drop-map f [] zero = refl
+  drop-map f [] (suc i) = refl
+  drop-map f (x ∷ xs) zero = refl
+  drop-map f (x ∷ xs) (suc i) = drop-map f xs i
+
+-- ---- a place that takes a group
+
+abbrev none : Stand
+none = record { has = false; most = 0; must = false }
+
+-- place j is one of the row's, has room where n groups stand, and has the group's shape
+record Fit (ps : List Stand) (j n : ℕ) : Type 0 where
+  within : j < length ps
+  room : n < getD ps j none .most
+  shaped : getD ps j none .has ≡ true
+
+seek-fits : (ps qs : List Stand) (i k : ℕ) (late : Bool) (j n : ℕ) → drop i ps ≡ qs → seek i k late qs ≡ Take j n → Fit ps j n
+unfolding seek
+seek-fits ps [] i k late j n d e = let z : _≡_ {A = ℕ} 0 1 = cc in absurd (omega arith)
+seek-fits ps (q ∷ qs) i k late j n d e =
+    go (q .has && ltb k (q .most)) refl late refl (q .has && ltb 1 (q .most)) refl
+    (λ r s. seek-fits ps qs (i + 1) 0 (late || (q .must && eqb k 0)) j n (at-next ps i d) (rw (r, s) at e))
+  where
+    go : (b : Bool) → (q .has && ltb k (q .most)) ≡ b → (l : Bool) → late ≡ l → (f : Bool) → (q .has && ltb 1 (q .most)) ≡ f
+        → ((q .has && ltb k (q .most)) ≡ false → (q .has && ltb 1 (q .most)) ≡ false → Fit ps j n) → Fit ps j n
+    go true r true l f s ih =
+        let a : Skips ≡ Take j n = rw (r, l) at e in
+        let z : _≡_ {A = ℕ} 0 1 = cc in
+        absurd (omega arith)
+    go true r false l f s ih =
+        let a : Take i k ≡ Take j n = rw (r, l) at e in
+        let ij : i ≡ j = cc in
+        let kn : k ≡ n = cc in
+        let both = and-eq-true-iff (q .has) (ltb k (q .most)) .0 r in
+        rw (← ij, ← kn)
+        (record {
+          within = at-in ps i d;
+          room = rw (at-is none ps i d) (ltb-true k (q .most) (both .1));
+          shaped = rw (at-is none ps i d) (both .0);
+        })
+    go false r b l true s ih =
+        let a : Full ≡ Take j n = rw (r, s) at e in
+        let z : _≡_ {A = ℕ} 0 1 = cc in
+        absurd (omega arith)
+    go false r b l false s ih = ih r s
+
+found : (here : Bool) (f : Found) (j n : ℕ) → orEarlier here f ≡ Take j n → f ≡ Take j n
+found here (Take i k) j n e = e
+found here Skips j n e = e
+found here Full j n e = e
+found here Earlier j n e = e
+found true Unknown j n e = let z : _≡_ {A = ℕ} 0 1 = cc in absurd (omega arith)
+found false Unknown j n e = e
+
+find-fits : (ps : List Stand) (c k j n : ℕ) → findOf ps c k ≡ Take j n → Fit ps j n
+unfolding findOf
+find-fits ps c k j n e = seek-fits ps (drop c ps) c k false j n refl (found (anywhere ps) (seek c k false (drop c ps)) j n e)
+
+module _ {R : Type 0} where
+  -- the row's three lists, as a kind's arrays hold them, say the row
+  pub row-stands : (row : List (Place R)) (g : Group)
+      → stands (map (λ (p : Place R). p .has g) row) (map (λ (p : Place R). p .most) row) (mustsOf row) ≡ standsOf row g
+  unfolding stands
+  row-stands [] g = refl
+  row-stands (p ∷ ps) g = ap (λ (l : List Stand). standing g p ∷ l) (row-stands ps g)
+
+  -- A GROUP THAT IS TAKEN GOES TO A PLACE OF THE ROW THAT HAS ROOM FOR IT AND HAS ITS SHAPE.
+  pub record Open (row : List (Place R)) (g : Group) (j n : ℕ) : Type 0 where
+    pub within : j < length row
+    pub room : n < placeAt row j .most
+    pub shaped : placeAt row j .has g ≡ true
+
+  pub taken-open : (row : List (Place R)) (g : Group) (c k j n : ℕ) → findOf (standsOf row g) c k ≡ Take j n → Open row g j n
+  taken-open row g c k j n e =
+      let f = find-fits (standsOf row g) c k j n e in
+      let is : getD (standsOf row g) j none ≡ standing g (placeAt row j) = List·getD-map (standing g) row j nowhere in
+      record {
+        within = rw length-map at (f .within);
+        room = rw is at (f .room);
+        shaped = rw is at (f .shaped);
+      }
