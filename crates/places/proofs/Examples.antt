@@ -51,6 +51,7 @@ one p most must ends add show put =
     record {
       has = hasAny (p ∷ []);
       cover = p ∷ [];
+      spoken = p ∷ [];
       most = most;
       must = must;
       ends = ends;
@@ -138,7 +139,7 @@ unfolding hasAny hasPattern fits low high
 row-back end gs are =
     read-back row words full blank (omega arith) row-sound
     ((λ g h. h), ((λ g h. h), ((λ g h. h), ((λ g h. h), ((λ g h. h), tt)))))
-    ((refl, tt), ((refl, tt), (tt, ((refl, tt), ((refl, (refl, tt)), tt))))) (
+    (((refl, refl), tt), (((refl, refl), tt), (tt, (((refl, refl), tt), (((refl, refl), ((refl, refl), tt)), tt))))) (
       record { few = omega arith; there = λ e. omega arith; reads = refl },
       (λ e. absurd (false≢true e)),
       λ e. (

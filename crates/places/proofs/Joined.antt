@@ -1,5 +1,5 @@
 -- The groups that a row writes can be joined to a text and cut again: each has a byte, and none holds a parting byte or "=". Of a place whose
--- cover leaves no room for one (`tidies`) that is computed; a place with a wider cover says it of its own groups. So the text is read back.
+-- spoken patterns leave no room for one (`tidies`) that is computed; a place with wider ones says it of its own groups. So the text is read back.
 -- Assumes nothing.
 use Prim.Native.Nat.{ℕ, _<_}
 use native.Mathlib.Omega.{arith}
@@ -74,27 +74,27 @@ wholes-all [] h = tt
 wholes-all (g ∷ gs) h = (h .0, wholes-all gs (h .1))
 
 module _ {R : Type 0} where
-  -- each place's groups are whole, by its cover or of themselves
+  -- each place's groups are whole, by its spoken patterns or of themselves
   abbrev pub Joinable : List (Place R) → R → Type 0
   Joinable [] r = Unit {0}
-  Joinable (p ∷ ps) r = ((tidies (p .cover) ≡ true) ⊎ All Whole (p .show r)) × Joinable ps r
+  Joinable (p ∷ ps) r = ((tidies (p .spoken) ≡ true) ⊎ All Whole (p .show r)) × Joinable ps r
 
-  all-whole : (ps : List (Place R)) (r : R) → Covered ps → Spoken ps r → Joinable ps r → All Whole (written ps r)
-  all-whole [] r v o j = tt
-  all-whole (p ∷ ps) r v o j =
+  all-whole : (ps : List (Place R)) (r : R) → Spoken ps r → Joinable ps r → All Whole (written ps r)
+  all-whole [] r o j = tt
+  all-whole (p ∷ ps) r o j =
       All-join Whole (p .show r) (written ps r)
-      (⊎-elim (λ t. All-map (λ g h. tidies-whole (p .cover) g t (v .0 g h)) (p .show r) (o .0)) (λ h. h) (j .0))
-      (all-whole ps r (v .1) (o .1) (j .1))
+      (⊎-elim (λ t. All-map (λ g h. tidies-whole (p .spoken) g t (h .1)) (p .show r) (o .0)) (λ h. h) (j .0))
+      (all-whole ps r (o .1) (j .1))
 
   -- WHAT A ROW WRITES CAN BE JOINED AND CUT.
-  pub wholes : (ps : List (Place R)) (r : R) → Covered ps → Spoken ps r → Joinable ps r → Wholes (written ps r)
-  wholes ps r v o j = wholes-all (written ps r) (all-whole ps r v o j)
+  pub wholes : (ps : List (Place R)) (r : R) → Spoken ps r → Joinable ps r → Wholes (written ps r)
+  wholes ps r o j = wholes-all (written ps r) (all-whole ps r o j)
 
   -- THE CANONICAL TEXT OF WHAT A ROW WRITES IS READ BACK WHOLE.
   pub read-text : (row : List (Place R)) (words : List Pattern) (r acc : R) → 0 < length row → sound words row ≡ true → Covered row → Spoken row r
       → ServedRow row r acc → Joinable row r → going row words (join (written row r)) 0 0 acc 0 ≡ Done (length (join (written row r))) (putAll row r acc)
   unfolding going
   read-text row words r acc some told v o served j =
-      let w = wholes row r v o j in
+      let w = wholes row r o j in
       rw (join-tail (written row r) w)
       (read-back row words r acc some told v o served (groupsFrom (join (written row r)) 0) (round-trip-bytes (written row r) w) (length (join (written row r))))

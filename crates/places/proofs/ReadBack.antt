@@ -1,5 +1,5 @@
 -- What the engine writes of a record it reads back, from pieces of a text wherever they stand: one law for every row. That no written group can be
--- taken at another place or is a stop word is computed from the places' covers alone (`sound`).
+-- taken at another place or is a stop word is computed from the places' patterns alone (`sound`).
 -- Assumes nothing.
 use Prim.Native.Nat.{ℕ, suc, _+_, _≤_, _<_}
 use native.Mathlib.Omega.{arith}
@@ -13,7 +13,7 @@ use borrow.Author.Tests.{lt-ltb, le-ltb, ne-eqb, eqb-true}
 use Rattle.text.specs.declared.kinds.Tail.{Tail}
 use Rattle.text.specs.declared.kinds.Tail.the-variants.{Clear}
 use Rattle.text.specs.Groups.{Piece}
-use Rattle.shapes.specs.Pattern.{Pattern, hasAny, allApart}
+use Rattle.shapes.specs.Pattern.{Pattern, hasPattern, hasAny, allApart}
 use Rattle.shapes.proofs.Patterns.{both, or-cases, or-right, all-excluded}
 use Rattle.places.specs.Seek.{seek, findOf, owed}
 use Rattle.places.specs.Engine.{Group, Read, Good, Bad, Place, nowhere, placeAt, standing, standsOf, mustsOf, On, step, Outcome, Done, closed, run, written, putAll}
@@ -47,6 +47,11 @@ All-left : (P : Group → Type 0) (xs ys : List Group) → All P (xs ++ ys) → 
 All-left P [] ys h = tt
 All-left P (x ∷ xs) ys h = (h .0, All-left P xs ys (h .1))
 
+-- a group of a pattern fits it where it stands alone, as the one that a place speaks
+pub one-pattern : (p : Pattern) (g : Group) → hasPattern g p ≡ true → hasAny (p ∷ []) g ≡ true
+unfolding hasAny
+one-pattern p g h = rw h
+
 -- the groups that pieces hold
 abbrev pub groupsOf : List Piece → List Group
 groupsOf gs = map (λ (g : Piece). g .bytes) gs
@@ -54,19 +59,19 @@ groupsOf gs = map (λ (g : Piece). g .bytes) gs
 module _ {R : Type 0} where
   -- ---- the computed test of a row
 
-  -- no group of a later place has one of the patterns
+  -- no group that a later place writes has one of the patterns
   abbrev pub ahead : List Pattern → List (Place R) → Bool
   ahead hs [] = true
-  ahead hs (q ∷ qs) = allApart (q .cover) hs && ahead hs qs
+  ahead hs (q ∷ qs) = allApart (q .spoken) hs && ahead hs qs
 
   -- once a place that takes one group and must have one has it, it is shut
   abbrev pub sure : Place R → Bool
   sure p = p .must && eqb (p .most) 1
 
-  -- A row tells its groups apart from the stop words, and from the groups of each later place unless the place is shut by then.
+  -- What a row writes is told apart from the stop words, and from every group with an earlier place's shape unless that place is shut by then.
   abbrev pub sound : List Pattern → List (Place R) → Bool
   sound words [] = true
-  sound words (p ∷ ps) = allApart (p .cover) words && ((sure p || ahead (p .cover) ps) && sound words ps)
+  sound words (p ∷ ps) = allApart (p .spoken) words && ((sure p || ahead (p .cover) ps) && sound words ps)
 
   -- ---- what a row owes
 
@@ -89,10 +94,11 @@ module _ {R : Type 0} where
   fill p k [] acc = Good acc
   fill p k (g ∷ gs) acc = chain (p .read k g acc) (fill p (k + 1) gs)
 
+  -- each group has the place's shape, and fits its spoken patterns
   abbrev pub Shaped : Place R → List Group → Type 0
-  Shaped p gs = All (λ g. p .has g ≡ true) gs
+  Shaped p gs = All (λ g. (p .has g ≡ true) × (hasAny (p .spoken) g ≡ true)) gs
 
-  -- each written group has its place's shape
+  -- so has each written group, of its place
   abbrev pub Spoken : List (Place R) → R → Type 0
   Spoken [] r = Unit {0}
   Spoken (p ∷ ps) r = Shaped p (p .show r) × Spoken ps r
@@ -143,23 +149,23 @@ module _ {R : Type 0} where
   -- ---- what a sound row says of its written groups
 
   -- none is a stop word
-  plain : (words : List Pattern) (ps : List (Place R)) (r : R) → sound words ps ≡ true → Covered ps → Spoken ps r
+  plain : (words : List Pattern) (ps : List (Place R)) (r : R) → sound words ps ≡ true → Spoken ps r
       → All (λ g. hasAny words g ≡ false) (written ps r)
-  plain words [] r s v o = tt
-  plain words (p ∷ ps) r s v o =
-      let t = both (allApart (p .cover) words) _ s in
+  plain words [] r s o = tt
+  plain words (p ∷ ps) r s o =
+      let t = both (allApart (p .spoken) words) _ s in
       All-join (λ g. hasAny words g ≡ false) (p .show r) (written ps r)
-      (All-map (λ g h. all-excluded g (p .cover) words (t .0) (v .0 g h)) (p .show r) (o .0))
-      (plain words ps r (both (sure p || ahead (p .cover) ps) (sound words ps) (t .1) .1) (v .1) (o .1))
+      (All-map (λ g h. all-excluded g (p .spoken) words (t .0) (h .1)) (p .show r) (o .0))
+      (plain words ps r (both (sure p || ahead (p .cover) ps) (sound words ps) (t .1) .1) (o .1))
 
-  -- what later places write does not fit patterns that their covers exclude
-  passed : (hs : List Pattern) (ps : List (Place R)) (r : R) → ahead hs ps ≡ true → Covered ps → Spoken ps r → All (λ g. hasAny hs g ≡ false) (written ps r)
-  passed hs [] r a v o = tt
-  passed hs (q ∷ qs) r a v o =
-      let t = both (allApart (q .cover) hs) (ahead hs qs) a in
+  -- what later places write does not fit patterns that their spoken ones exclude
+  passed : (hs : List Pattern) (ps : List (Place R)) (r : R) → ahead hs ps ≡ true → Spoken ps r → All (λ g. hasAny hs g ≡ false) (written ps r)
+  passed hs [] r a o = tt
+  passed hs (q ∷ qs) r a o =
+      let t = both (allApart (q .spoken) hs) (ahead hs qs) a in
       All-join (λ g. hasAny hs g ≡ false) (q .show r) (written qs r)
-      (All-map (λ g h. all-excluded g (q .cover) hs (t .0) (v .0 g h)) (q .show r) (o .0))
-      (passed hs qs r (t .1) (v .1) (o .1))
+      (All-map (λ g h. all-excluded g (q .spoken) hs (t .0) (h .1)) (q .show r) (o .0))
+      (passed hs qs r (t .1) (o .1))
 
   -- a place with n groups does not take the group, and does not answer that it is full
   record Shut (p : Place R) (n : ℕ) (g : Group) : Type 0 where
@@ -167,10 +173,10 @@ module _ {R : Type 0} where
     single : (p .has g && ltb 1 (p .most)) ≡ false
 
   -- a place is shut to what later places write
-  shut : (words : List Pattern) (p : Place R) (ps : List (Place R)) (r : R) → sound words (p ∷ ps) ≡ true → Covered (p ∷ ps) → Spoken ps r
+  shut : (words : List Pattern) (p : Place R) (ps : List (Place R)) (r : R) → sound words (p ∷ ps) ≡ true → Covers p → Spoken ps r
       → (p .must ≡ true → 0 < length (p .show r)) → All (Shut p (length (p .show r))) (written ps r)
   shut words p ps r s v o there =
-      or-cases (sure p) (ahead (p .cover) ps) (both (sure p || ahead (p .cover) ps) (sound words ps) (both (allApart (p .cover) words) _ s .1) .0)
+      or-cases (sure p) (ahead (p .cover) ps) (both (sure p || ahead (p .cover) ps) (sound words ps) (both (allApart (p .spoken) words) _ s .1) .0)
       (λ e.
       let t = both (p .must) (eqb (p .most) 1) e in
       let one = eqb-true (p .most) 1 (t .1) in
@@ -184,8 +190,8 @@ module _ {R : Type 0} where
       (λ e.
       All-map
       (λ g h.
-      let other = untrue (p .has g) (hasAny (p .cover) g) (v .0 g) h in
-      record { closed = rw other; single = rw other }) (written ps r) (passed (p .cover) ps r e (v .1) o))
+      let other = untrue (p .has g) (hasAny (p .cover) g) (v g) h in
+      record { closed = rw other; single = rw other }) (written ps r) (passed (p .cover) ps r e o))
 
   -- ---- the law
 
@@ -254,7 +260,7 @@ module _ {R : Type 0} where
         let (u, eu, ef) = chained (p .read j it acc) (fill p (j + 1) its) acc′ f in
         let bq : q .bytes ≡ it = cc in
         let bs : groupsOf gs ≡ its ++ rest = cc in
-        goes i j i j acc u q gs it p false z bq (at-in row i d) (w .0) (fits-at i j p ps it d (s .0) (omega arith)) (at-is nowhere row i d) eu
+        goes i j i j acc u q gs it p false z bq (at-in row i d) (w .0) (fits-at i j p ps it d (s .0 .0) (omega arith)) (at-is nowhere row i d) eu
         ∙ block its gs (j + 1) n i u acc′ p ps rest y bs z d (omega arith) m (s .1) (w .1) ef next
 
     -- the groups of one place, read from where reading goes on as it would from that place
@@ -275,7 +281,7 @@ module _ {R : Type 0} where
     items (it ∷ its) [] c k i acc acc′ p ps rest y b h d s w v shuts last same o next = let z : _≡_ {A = ℕ} 0 1 = cc in absurd (omega arith)
     items (it ∷ its) (q ∷ gs) c k i acc acc′ p ps rest y b h d s w v shuts last same o next =
         let (u, eu, ef) = chained (p .read 0 it acc) (fill p 1 its) acc′ (v .reads) in
-        ending (p .ends) refl u eu ef (same .0 ∙ fits-at i 0 p ps it d (s .0) (omega (arith, v .few))) (lt-ltb 0 (suc (length its)) (omega arith)) (cc) (cc)
+        ending (p .ends) refl u eu ef (same .0 ∙ fits-at i 0 p ps it d (s .0 .0) (omega (arith, v .few))) (lt-ltb 0 (suc (length its)) (omega arith)) (cc) (cc)
       where
         ending : (t : Bool) → p .ends ≡ t → (u : R) → p .read 0 it acc ≡ Good u → fill p 1 its u ≡ Good acc′ → looks c k it ≡ Take i 0
             → ltb 0 (suc (length its)) ≡ true → q .bytes ≡ it → groupsOf gs ≡ its ++ rest → reads c k acc (q ∷ gs) ≡ y
@@ -306,9 +312,9 @@ module _ {R : Type 0} where
       go r [] [] c k i acc b h d s v sp law same o ended = done c k acc h (o ∙ owed-end (mustsOf row) i 0 (drop-map (λ (q : Place R). q .must) row i ∙ ap mustsOf d))
       go r [] (q ∷ gs) c k i acc b h d s v sp law same o ended = let y : _≡_ {A = ℕ} 0 1 = cc in absurd (omega arith)
       go r (p ∷ ps) gs c k i acc b h d s v sp law same o ended =
-          let s′ = both (sure p || ahead (p .cover) ps) (sound words ps) (both (allApart (p .cover) words) _ s .1) .1 in
+          let s′ = both (sure p || ahead (p .cover) ps) (sound words ps) (both (allApart (p .spoken) words) _ s .1) .1 in
           items (p .show r) gs c k i acc (p .put r acc) p ps (written ps r) (x (putAll (p ∷ ps) r acc)) b h d (sp .0)
-          (All-left Plain (p .show r) (written ps r) (plain words (p ∷ ps) r s v sp)) (law .0) (shut words p ps r s v (sp .1) (law .0 .there))
+          (All-left Plain (p .show r) (written ps r) (plain words (p ∷ ps) r s sp)) (law .0) (shut words p ps r s (v .0) (sp .1) (law .0 .there))
           (λ e.
           let l = law .1 e in
           (l .0, l .1, ended (rw e) (p .put r acc) ∙ ap x (sym (l .2)))) same o

@@ -29,6 +29,8 @@ pub record Place (R : Type 0) : Type 0 where
   -- a group has the place's shape; and patterns of which every such group fits one
   pub has : Group → Bool
   pub cover : List Pattern
+  -- patterns of which every group that is written here fits one
+  pub spoken : List Pattern
   -- so many groups may stand here, whether one must, and whether it ends the report (NIL, CNL)
   pub most : ℕ
   pub must : Bool
@@ -53,7 +55,7 @@ pub data Outcome (R : Type 0) : Type 0 where
 module _ {R : Type 0} where
   -- past the row no group is taken
   abbrev pub nowhere : Place R
-  nowhere = record { has = λ g. false; cover = []; most = 0; must = false; ends = false; read = λ k g r. Bad refusal.Shape; show = λ r. []; put = λ r acc. acc }
+  nowhere = record { has = λ g. false; cover = []; spoken = []; most = 0; must = false; ends = false; read = λ k g r. Bad refusal.Shape; show = λ r. []; put = λ r acc. acc }
 
   abbrev pub placeAt : List (Place R) → ℕ → Place R
   placeAt row i = getD row i nowhere

@@ -1,0 +1,30 @@
+-- `examples::rows::figures` meets its contract: the index stays within the list.
+-- Assumes nothing.
+use Prim.Native.Nat.{_≤_, _-_}
+use lib.ListN.{length}
+use borrow.Author.Needs.{needs}
+use Rattle.examples.proofs.rows.figures.Statement.{statement}
+use Rattle.examples.proofs.rows.figures.Tie as tie
+
+abbrev Inv : tie.InvT-loop
+Inv s list w i₀ i = i ≤ length list
+
+abbrev μ : tie.MeasureT-loop
+μ s list w i₀ i = length list - i
+
+pub figures-spec : {M : Type 1} → statement M
+figures-spec =
+    tie.close
+    (tie.spec Inv μ
+    (λ c κs. search needs)
+    (λ c. search needs)
+    (λ c. search needs)
+    (λ c. search needs)
+    (λ c κs. search needs)
+    (λ c κs. search needs)
+    (λ c κs. search needs)
+    (λ c κs. search needs)
+    (λ c. search needs)
+    (λ c. search needs)
+    (λ c. search needs)
+    (λ c. search needs))

@@ -1,0 +1,12 @@
+pub mod Answers
+pub mod DegreesLaws
+pub mod DirectionLaws
+pub mod Laws
+pub mod Listed
+pub mod MarkedRows
+pub mod MetresLaws
+pub mod MetresRounds
+pub mod PressureLaws
+pub mod RainLaws
+pub mod Rounds
+pub mod Runs

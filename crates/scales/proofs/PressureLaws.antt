@@ -1,0 +1,61 @@
+-- Q in and out of range, and its laws: how far off, the order, and what is written reads back.
+-- Assumes nothing.
+use mathlib.Core.Path.{_≡_, sym, ap, _∙_}
+use mathlib.Core.Logic.{⊎-elim}
+use Prim.Native.Nat.{ℕ, _+_, _*_, _/_, _≤_, _<_}
+use native.Mathlib.Omega.{arith}
+use borrow.Author.Tests.{le-leb, lt-leb}
+use Rattle.scales.specs.Rounded.{pressureFigure, pressureReading, roundedPressure}
+use Rattle.scales.specs.declared.kinds.Figure.the-variants as figure
+use Rattle.scales.specs.declared.kinds.Reading.the-variants as reading
+use Rattle.scales.proofs.Laws.{reached}
+use Rattle.scales.proofs.Rounds.{Rounds, rounds}
+
+module _ (v : ℕ) where
+  pub written : v ≤ 99999 → figure.Is (v / 10) ≡ pressureFigure v
+  unfolding pressureFigure
+  written h = rw (le-leb v 99999 h)
+
+  pub none-written : 99999 < v → figure.OutOfRange ≡ pressureFigure v
+  unfolding pressureFigure
+  none-written h = rw (lt-leb v 99999 h)
+
+module _ (f : ℕ) where
+  pub read : f ≤ 9999 → reading.Is (f * 10) ≡ pressureReading f
+  unfolding pressureReading
+  read h = rw (le-leb f 9999 h)
+
+  pub none-read : 9999 < f → reading.Unused ≡ pressureReading f
+  unfolding pressureReading
+  none-read h = rw (lt-leb f 9999 h)
+
+back : (v f : ℕ) → pressureFigure v ≡ figure.Is f → pressureReading f ≡ reading.Is (roundedPressure v)
+unfolding roundedPressure
+back v f w =
+    ⊎-elim
+    (λ h. let i : figure.Is (v / 10) ≡ pressureFigure v = written v h in let j : v / 10 ≡ f = cc in rw j (sym (read f (omega arith))))
+    (λ h. let i : figure.OutOfRange ≡ pressureFigure v = none-written v h in let z : _≡_ {A = ℕ} 0 1 = cc in absurd (omega arith))
+    (reached v 99999)
+
+own : (f v : ℕ) → pressureReading f ≡ reading.Is v → pressureFigure v ≡ figure.Is f
+own f v e =
+    ⊎-elim
+    (λ h.
+    let i : reading.Is (f * 10) ≡ pressureReading f = read f h in
+    let j : f * 10 ≡ v = cc in
+    let k : v / 10 ≡ f = omega arith in
+    sym (written v (omega arith)) ∙ ap figure.Is k)
+    (λ h. let i : reading.Unused ≡ pressureReading f = none-read f h in let z : _≡_ {A = ℕ} 0 1 = cc in absurd (omega arith))
+    (reached f 9999)
+
+pub pressure-rounds : Rounds (λ v f. pressureFigure v ≡ figure.Is f) (λ f v. pressureReading f ≡ reading.Is v) (λ f. pressureReading f ≡ reading.Unused) roundedPressure
+pressure-rounds = rounds back own (λ f v u e. let z : _≡_ {A = ℕ} 0 1 = cc in omega arith)
+
+-- value less reading is 0 to 9
+pub pressure-near : (v : ℕ) → (roundedPressure v ≤ v) × (v ≤ roundedPressure v + 9)
+unfolding roundedPressure
+pressure-near v = (omega arith, omega arith)
+
+pub pressure-order : (v w : ℕ) → v ≤ w → roundedPressure v ≤ roundedPressure w
+unfolding roundedPressure
+pressure-order v w h = omega arith

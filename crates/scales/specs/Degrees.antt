@@ -1,0 +1,37 @@
+-- "The scales and how far off": aerodrome temperature; and the signed tenths of SYNOP and SHIP, which are exact.
+-- Assumes nothing: these are definitions.
+use Prim.Native.Nat.{ℕ, _*_}
+use mathlib.Core.Bool.{Bool, cond, _&&_, _||_}
+use lib.Dec.{ltb, eqb}
+use lib.IntN.{ℤ, pos, negsuc, natAbs, _+ℤ_, _*ℤ_}
+use lib.Signed.{leZ, shrZ}
+use Rattle.figures.specs.Signed.{negative, withSign}
+use Rattle.scales.specs.declared.kinds.Degrees.{Degrees}
+use Rattle.scales.specs.declared.kinds.Degrees.the-variants as degrees
+use Rattle.scales.specs.declared.kinds.Tenths.{Tenths}
+use Rattle.scales.specs.declared.kinds.Tenths.the-variants as tenths
+
+-- "Aerodrome temperature is kept in tenths and written as whole degrees, -99 to 99, halves up (a record may hold -99.5 to 99.4)"
+
+-- the nearest whole degree, halves up: five tenths more, divided by ten and rounded down
+unfoldable pub wholeDegrees : ℤ → ℤ
+wholeDegrees t = shrZ (t +ℤ pos 5) 10
+
+-- the reading of a value: whole degrees in tenths
+unfoldable pub roundedDegrees : ℤ → ℤ
+roundedDegrees t = wholeDegrees t *ℤ pos 10
+
+-- "M goes by the rounded value": minus where that is below zero
+unfoldable pub degreesOf : ℤ → Degrees
+degreesOf t =
+    cond (leZ (negsuc 994) t && leZ t (pos 994)) (degrees.Is (negative (wholeDegrees t)) (natAbs (wholeDegrees t))) degrees.OutOfRange
+
+-- "M00 is 5"
+unfoldable pub degreesReading : Bool → ℕ → Tenths
+degreesReading minus whole =
+    cond (ltb 99 whole || (minus && eqb whole 0)) tenths.Unused (tenths.Is (withSign minus (whole * 10)))
+
+-- "1sTTT, 2sTTT tenths of a degree, s 0 or 1; s 1 with 000 is 5": a sign's figure and three figures
+unfoldable pub signedReading : ℕ → ℕ → Tenths
+signedReading s ttt =
+    cond (ltb 1 s || ltb 999 ttt || (eqb s 1 && eqb ttt 0)) tenths.Unused (tenths.Is (withSign (eqb s 1) ttt))

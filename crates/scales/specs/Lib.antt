@@ -1,0 +1,5 @@
+pub mod Scale
+pub mod Metres
+pub mod Rounded
+pub mod Degrees
+pub mod MarkedRows

@@ -1,0 +1,7 @@
+// The scales: the figure that a value is written as, and the reading of a figure.
+pub mod degrees;
+pub mod direction;
+pub mod kinds;
+pub mod metres;
+pub mod pressure;
+pub mod rain;
