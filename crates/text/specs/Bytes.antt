@@ -4,6 +4,8 @@ use Prim.Native.Nat.{ℕ, suc}
 use mathlib.Core.Bool.{Bool, true, false, not, cond, _&&_, _||_}
 use mathlib.Core.List.{List, [], _∷_}
 use lib.Dec.{leb, eqb}
+use Rattle.text.specs.declared.Run.{Run}
+use Rattle.text.specs.declared.Run.the-variants as run
 
 -- "Groups are parted by one or more of space, CR, LF."
 abbrev pub parting : ℕ → Bool
@@ -23,6 +25,13 @@ allowed b =
     leb 65 b && leb b 90
     || leb 48 b && leb b 57
     || eqb b 47 || eqb b 43 || eqb b 45 || eqb b 61 || eqb b 32 || eqb b 13 || eqb b 10
+
+-- a byte of a run
+abbrev pub passes : Run → ℕ → Bool
+passes run.Parting = parting
+passes run.Inner = inner
+passes run.Other = other
+passes run.Allowed = allowed
 
 -- how many bytes at the front of a list pass a test
 unfoldable pub lead : (ℕ → Bool) → List ℕ → ℕ

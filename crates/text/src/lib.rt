@@ -13,9 +13,9 @@ ghost use Prim.Native.Nat.{_+_};
 ghost use lib.ListN.{drop};
 ghost use Rattle.figures.specs.Put.{Put};
 ghost use Rattle.text.specs.Refusals.{numberOf};
-ghost use Rattle.text.specs.Bytes.{parting, inner, allowed, lead, lastEnd};
+ghost use Rattle.text.specs.Bytes.{parting, inner, allowed, passes, lead, lastEnd};
 ghost use Rattle.text.specs.Groups.{nextOf, partOf, opening};
-ghost use Rattle.text.specs.Text.{equalsAt, bytesOf, tailOf, trimmedOf};
+ghost use Rattle.text.specs.Text.{bytesOf, tailOf, trimmedOf};
 
 // Document 01's number of a refusal.
 pub fn refusal_number(r: Refusal) -> u8
@@ -64,28 +64,37 @@ pub fn is_allowed(b: u8) -> bool
         | (b == b'\n')
 }
 
-// The first position at or after `at` that holds no parting byte.
-fn skip(text: &[u8], at: usize) -> usize
-    ensures { λ r. ⌜ r ≡ at + lead parting (drop at (now (text .entry))) ⌝ }
-{
-    let mut i = at;
-    while i < text.len() {
-        if is_parting(text[i]) {
-            i += 1;
-        } else {
-            return i;
-        }
-    }
-    i
+// The kinds of bytes that a run over a text goes by.
+enum Run {
+    // Bytes that part groups.
+    Parting,
+    // Bytes of a group.
+    Inner,
+    // Bytes other than "=".
+    Other,
+    // Bytes that a text may hold.
+    Allowed,
 }
 
-// The first position at or after `at` that holds no byte of a group.
-fn run(text: &[u8], at: usize) -> usize
-    ensures { λ r. ⌜ r ≡ at + lead inner (drop at (now (text .entry))) ⌝ }
+// Whether a byte belongs to a run.
+fn passes(run: Run, b: u8) -> bool
+    ensures { λ r. ⌜ r ≡ passes run b ⌝ }
+{
+    match run {
+        Run::Parting => is_parting(b),
+        Run::Inner => is_inner(b),
+        Run::Other => !(b == b'='),
+        Run::Allowed => is_allowed(b),
+    }
+}
+
+// The first position at or after `at` whose byte is not of the run.
+fn reach(text: &[u8], at: usize, run: Run) -> usize
+    ensures { λ r. ⌜ r ≡ at + lead (passes run) (drop at (now (text .entry))) ⌝ }
 {
     let mut i = at;
     while i < text.len() {
-        if is_inner(text[i]) {
+        if passes(run, text[i]) {
             i += 1;
         } else {
             return i;
@@ -101,12 +110,12 @@ pub fn next_group(text: &[u8], at: usize) -> Cut
     if text.len() <= at {
         return Cut::End { at: text.len() };
     }
-    let start = skip(text, at);
+    let start = reach(text, at, Run::Parting);
     if text.len() <= start {
         return Cut::End { at: start };
     }
     if is_inner(text[start]) {
-        let end = run(text, start);
+        let end = reach(text, start, Run::Inner);
         Cut::Group { start, end }
     } else {
         Cut::End { at: start }
@@ -131,35 +140,6 @@ pub fn part(text: &[u8], start: usize, end: usize) -> &[u8]
         }
     }
     no_part(text)
-}
-
-// The place of the first "="; the length where there is none.
-fn find_equals(text: &[u8]) -> usize
-    ensures { λ r. ⌜ r ≡ equalsAt (now (text .entry)) ⌝ }
-{
-    let mut i = 0;
-    while i < text.len() {
-        if text[i] == b'=' {
-            return i;
-        }
-        i += 1;
-    }
-    i
-}
-
-// The position of the first byte that a text may not hold; the length where each may.
-fn find_bad_byte(text: &[u8]) -> usize
-    ensures { λ r. ⌜ r ≡ lead allowed (now (text .entry)) ⌝ }
-{
-    let mut place = 0;
-    while place < text.len() {
-        if is_allowed(text[place]) {
-            place += 1;
-        } else {
-            return place;
-        }
-    }
-    place
 }
 
 // The position after the last byte that is no parting byte; 0 where all are.
@@ -187,7 +167,7 @@ pub fn judge_bytes(text: &[u8]) -> Bytes
     if 2048 < text.len() {
         return Bytes::Length;
     }
-    let bad = find_bad_byte(text);
+    let bad = reach(text, 0, Run::Allowed);
     if bad < text.len() {
         Bytes::Byte(bad)
     } else {
@@ -199,11 +179,11 @@ pub fn judge_bytes(text: &[u8]) -> Bytes
 pub fn tail(text: &[u8]) -> Tail
     ensures { λ r. ⌜ r ≡ tailOf (now (text .entry)) ⌝ }
 {
-    let equals = find_equals(text);
+    let equals = reach(text, 0, Run::Other);
     if text.len() <= equals {
         return Tail::Clear;
     }
-    let place = skip(text, equals + 1);
+    let place = reach(text, equals + 1, Run::Parting);
     if place < text.len() {
         Tail::Junk(place)
     } else {
@@ -216,8 +196,8 @@ pub fn tail(text: &[u8]) -> Tail
 pub fn trimmed(text: &[u8]) -> &[u8]
     ensures { λ r. ⌜ now r ≡ trimmedOf (now (text .entry)) ⌝ }
 {
-    let start = skip(text, 0);
-    let equals = find_equals(text);
+    let start = reach(text, 0, Run::Parting);
+    let equals = reach(text, 0, Run::Other);
     if equals <= start {
         return no_part(text);
     }

@@ -1,6 +1,7 @@
 -- `text::judge_bytes` meets its contract: each return is one of the cases of `bytesOf`.
 -- Assumes nothing.
-use mathlib.Core.Path.{sym}
+use mathlib.Core.Path.{sym, _∙_}
+use native.Mathlib.Nat.{zero-add}
 use borrow.Author.Needs.{needs}
 use Rattle.text.proofs.Texts.{bytes-none, bytes-long, bytes-bad, bytes-sound}
 use Rattle.text.proofs.judge_bytes.Statement.{statement}
@@ -15,7 +16,7 @@ judge-bytes-spec =
     (λ c κs. search needs)
     (λ c.
     let d = c .before .before in
-    sym (bytes-bad (d .before .before .before .args .text .now) (d .before .if1 .left) (d .if2 .left) _ (c .before .find-bad-byte .ensures) (c .if3 .taken)))
+    sym (bytes-bad (d .before .before .before .args .text .now) (d .before .if1 .left) (d .if2 .left) _ (c .before .reach .ensures ∙ zero-add _) (c .if3 .taken)))
     (λ c.
     let d = c .before .before in
-    sym (bytes-sound (d .before .before .before .args .text .now) (d .before .if1 .left) (d .if2 .left) _ (c .before .find-bad-byte .ensures) (c .if3 .left))))
+    sym (bytes-sound (d .before .before .before .args .text .now) (d .before .if1 .left) (d .if2 .left) _ (c .before .reach .ensures ∙ zero-add _) (c .if3 .left))))

@@ -15,16 +15,16 @@ next-group-spec =
     (λ c κs. search needs)
     (λ c.
     let a = c .before .before .before .before .args in
-    sym (next-end (a .text .now) (a .at) _ (c .before .before .if1 .left) (c .before .skip .ensures) (c .if2 .taken)))
+    sym (next-end (a .text .now) (a .at) _ (c .before .before .if1 .left) (c .before .reach .ensures) (c .if2 .taken)))
     (λ c. search needs)
     (λ c κs. search needs)
     (λ c κs. search needs)
     (λ c.
     let d = c .before .before .before .before in
     let a = d .before .before .before .before .args in
-    ap (Group (d .before .skip .result)) (c .run .ensures)
-    ∙ sym (next-group (a .text .now) (a .at) _ (d .before .before .if1 .left) (d .before .skip .ensures) (d .if2 .left) (sym (c .before .before .is-inner .ensures) ∙ c .before .if3 .taken)))
+    ap (Group (d .before .reach .result)) (c .reach2 .ensures)
+    ∙ sym (next-group (a .text .now) (a .at) _ (d .before .before .if1 .left) (d .before .reach .ensures) (d .if2 .left) (sym (c .before .before .is-inner .ensures) ∙ c .before .if3 .taken)))
     (λ c.
     let d = c .before .before .before in
     let a = d .before .before .before .before .args in
-    sym (next-stop (a .text .now) (a .at) _ (d .before .before .if1 .left) (d .before .skip .ensures) (d .if2 .left) (sym (c .before .is-inner .ensures) ∙ c .if3 .left))))
+    sym (next-stop (a .text .now) (a .at) _ (d .before .before .if1 .left) (d .before .reach .ensures) (d .if2 .left) (sym (c .before .is-inner .ensures) ∙ c .if3 .left))))

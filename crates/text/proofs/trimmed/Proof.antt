@@ -4,11 +4,13 @@ use mathlib.Core.Path.{sym, ap, _∙_}
 use native.Mathlib.Nat.{zero-add}
 use borrow.Author.Needs.{needs}
 use Rattle.text.specs.Groups.{partOf}
+use Rattle.text.specs.Text.{equalsAt}
 use Rattle.text.proofs.Texts.{trimmed-none, trimmed-equals, trimmed-last}
 use Rattle.text.proofs.trimmed.Statement.{statement}
 use Rattle.text.proofs.trimmed.Tie as tie
 
 pub trimmed-spec : {M : Type 1} → statement M
+unfolding equalsAt
 trimmed-spec =
     tie.close
     (tie.spec
@@ -18,7 +20,7 @@ trimmed-spec =
     (λ c.
     let d = c .before .before in
     c .no-part .ensures
-    ∙ sym (trimmed-none (d .before .before .before .args .text .now) _ (d .find-equals .ensures) _ (d .before .skip .ensures ∙ zero-add _) (c .before .if1 .taken)))
+    ∙ sym (trimmed-none (d .before .before .before .args .text .now) _ (d .reach2 .ensures ∙ zero-add _) _ (d .before .reach .ensures ∙ zero-add _) (c .before .if1 .taken)))
     (λ c. search needs)
     (λ c κs. search needs)
     (λ c κs. search needs)
@@ -26,10 +28,10 @@ trimmed-spec =
     (λ c.
     let d = c .before .before .before in
     c .part .ensures
-    ∙ sym (trimmed-equals (d .before .before .before .args .text .now) _ (d .find-equals .ensures) _ (d .before .skip .ensures ∙ zero-add _) (c .before .before .if1 .left) (c .before .if2 .taken)))
+    ∙ sym (trimmed-equals (d .before .before .before .args .text .now) _ (d .reach2 .ensures ∙ zero-add _) _ (d .before .reach .ensures ∙ zero-add _) (c .before .before .if1 .left) (c .before .if2 .taken)))
     (λ c.
     let d = c .before .before .before .before in
     let text = d .before .before .before .args .text .now in
     c .part2 .ensures
-    ∙ ap (partOf text (d .before .skip .result)) (c .before .find-last-end .ensures)
-    ∙ sym (trimmed-last text _ (d .find-equals .ensures) _ (d .before .skip .ensures ∙ zero-add _) (c .before .before .before .if1 .left) (c .before .before .if2 .left))))
+    ∙ ap (partOf text (d .before .reach .result)) (c .before .find-last-end .ensures)
+    ∙ sym (trimmed-last text _ (d .reach2 .ensures ∙ zero-add _) _ (d .before .reach .ensures ∙ zero-add _) (c .before .before .before .if1 .left) (c .before .before .if2 .left))))
