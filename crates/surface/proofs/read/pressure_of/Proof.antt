@@ -1,0 +1,11 @@
+-- `surface::read::pressure_of` meets its contract.
+-- Assumes nothing.
+use Rattle.surface.proofs.Readings.{readings}
+use Rattle.surface.proofs.read.pressure_of.Statement.{statement}
+use Rattle.surface.proofs.read.pressure_of.Tie as tie
+
+pub pressure-of-spec : {M : Type 1} → statement M
+pressure-of-spec =
+    tie.close
+    (tie.spec
+    (λ c. search readings) (λ c. search readings) (λ c. search readings))

@@ -1,0 +1,16 @@
+-- `surface::read::read_speed` meets its contract.
+-- Assumes nothing.
+use Rattle.surface.specs.Reads.{saidSpeed, speedIs}
+use Rattle.surface.proofs.Readings.{readings}
+use Rattle.surface.proofs.read.read_speed.Statement.{statement}
+use Rattle.surface.proofs.read.read_speed.Tie as tie
+
+pub read-speed-spec : {M : Type 1} → statement M
+unfolding saidSpeed speedIs
+read-speed-spec =
+    tie.close
+    (tie.spec
+    (λ c κs. search readings) (λ c. search readings) (λ c κs. search readings) (λ c. search readings)
+    (λ c κs. search readings) (λ c κs. search readings) (λ c. search readings)
+    (λ c. search readings)
+    (λ c. search readings))

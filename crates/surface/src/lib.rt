@@ -1,0 +1,3 @@
+// The groups of SYNOP and SHIP: what each says.
+pub mod kinds;
+pub mod read;

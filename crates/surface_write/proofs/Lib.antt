@@ -1,0 +1,3 @@
+-- Laws that the proofs of several printers and judgements use.
+pub mod Writings
+pub mod Judging

@@ -1,0 +1,13 @@
+-- `surface_write::judge::judge_clock` meets its contract, by what its parts are judged.
+-- Assumes nothing.
+use Rattle.surface.specs.Judge.{judgeClock}
+use Rattle.surface_write.proofs.judge.judge_clock.Statement.{statement}
+use Rattle.surface_write.proofs.judge.judge_clock.Tie as tie
+
+pub judge-clock-spec : {M : Type 1} → statement M
+judge-clock-spec =
+    tie.close
+    (tie.spec
+    (λ c κs. tt)
+    (λ c κs. tt)
+    (λ c. unfold judgeClock in rw (c .verdict .ensures, c .before .clock-fits .ensures)))

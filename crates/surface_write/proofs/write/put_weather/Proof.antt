@@ -1,0 +1,21 @@
+-- `surface_write::write::put_weather` meets its contract, by its test.
+-- Assumes nothing.
+use borrow.Author.Needs.{needs}
+use Rattle.surface.specs.Shows.{showWeather}
+use Rattle.surface_write.proofs.Writings.{write-none, group-if}
+use Rattle.surface_write.proofs.write.put_weather.Statement.{statement}
+use Rattle.surface_write.proofs.write.put_weather.Tie as tie
+
+pub put-weather-spec : {M : Type 1} → statement M
+put-weather-spec =
+    tie.close
+    (tie.spec
+    (λ c κs. tt)
+    (λ c κs. tt)
+    (λ c. search needs)
+    (λ c.
+    let d = c .before .before .before .before in
+    let e = d .before in
+    unfold showWeather in
+    rw (group-if, ← e .no-weather .ensures, d .if1 .taken) (c .before .before .put-weather-group .ensures))
+    (λ c. unfold showWeather in rw (group-if, ← c .before .no-weather .ensures, c .if1 .left) (write-none _ _)))
