@@ -55,13 +55,13 @@ use Rattle.surface.specs.declared.kinds.Said.{Said}
 use Rattle.surface.specs.declared.kinds.Said.the-variants as said
 use Rattle.surface.specs.declared.kinds.Judged.the-variants as judged
 use Rattle.surface.specs.Reads.{Group, wrong, mayMiss, usedRain, speedIs, saidSpeed, pressureOf, isLevel, airIs, saidAir, moistureIs, saidMoisture, saidPressure, levelIs, saidLevel, tendencyIs, saidTendency, saidRainfall, saidWeather, saidClouds, clockIs, saidClock}
-use Rattle.surface.specs.Shows.{fieldOf, fieldBy, isMissing, isGale, speedGroup, showSpeed, signText, airGroup, showAir, moistGroup, showMoisture, pressureGroup, showPressure, levelGroup, showLevel, tendencyGroup, showTendency, rainfallGroup, showRainfall, weatherText, noWeather, showWeather, noClouds, cloudsText, showClouds, clockGroup, showClock}
+use Rattle.surface.specs.Shows.{moistureSpoken, fieldOf, fieldBy, isMissing, isGale, speedGroup, showSpeed, signText, airGroup, showAir, moistGroup, showMoisture, pressureGroup, showPressure, levelGroup, showLevel, tendencyGroup, showTendency, rainfallGroup, showRainfall, weatherText, noWeather, showWeather, noClouds, cloudsText, showClouds, clockGroup, showClock}
 use Rattle.surface.specs.Judge.{judge, between, optional, windFits, judgeWind, tenthsFit, judgeAir, moistFits, judgeMoisture, judgePressure, heightFits, judgeLevel, changeFits, changeAgrees, judgeTendency, amountFits, fallFits, noFall, judgeRainfall, judgeWeather, judgeClouds, clockFits, judgeClock}
-use Rattle.surface.specs.Classes.{classFall, classRainfall}
+use Rattle.surface.specs.Classes.{classFall, classRainfall, inTwo, speedInTwo}
 use Rattle.surface.proofs.RoundTripParts.{figures-join, at, Laid, parts}
 use Rattle.surface.proofs.RoundTripFields.{fine, in-range, chosen, optional-fits, oneFigure, one-fits, is-missing, Slot, slot, partsOf, nth, part-is, asked-back}
 use Rattle.surface.proofs.RoundTripScales.{rain-written, rain-is, rain-again, amount-classed}
-use Rattle.surface.proofs.RoundTripHead.{inTwo, speedInTwo, wind-fine}
+use Rattle.surface.proofs.RoundTripHead.{wind-fine}
 
 -- The groups written for a part x of the record: none, where none must stand and the part is blank, or one that has the shape and says the part.
 pub data Back {X : Type 0} (shape : Pattern) (must : Bool) (says : Group → Said) (meant : X → Said) (blank x : X) : List Group → Type 0 where
@@ -209,22 +209,19 @@ moisture-back m e = go (m .is) e
         (9 * 1000 + u) (bytes "9" ++ figures 3 u) refl (omega arith) (figures-join 1 3 9 u (omega arith)) (humidity-read u h)
 
 -- "222 with two more characters" stops the reading, and has the shape 2sTTT: but the second figure that is written is 0, 1 or 9
-unfoldable pub moistureCover : List Pattern
-moistureCover = bytes "20###" ∷ bytes "21###" ∷ bytes "29###" ∷ []
-
 any : (p : Pattern) (g : Group) (ps qs : List Pattern) → hasPattern g p ≡ true → hasAny (ps ++ (p ∷ qs)) g ≡ true
 unfolding hasAny
 any p g [] qs h = rw h
 any p g (q ∷ ps) qs h = or-right (hasPattern g q) (hasAny (ps ++ (p ∷ qs)) g) (any p g ps qs h)
 
-pub moisture-covered : (m : Moisture) → judgeMoisture m ≡ judged.Fine → Each (λ g. hasAny moistureCover g ≡ true) (showMoisture m)
-unfolding judgeMoisture showMoisture moistureCover fieldText numberText
+pub moisture-covered : (m : Moisture) → judgeMoisture m ≡ judged.Fine → Each (λ g. hasAny moistureSpoken g ≡ true) (showMoisture m)
+unfolding judgeMoisture showMoisture fieldText numberText
 moisture-covered m e = go (m .is) (fine (moistFits (m .is)) true e .0)
   where
     after : (x : List ℕ) (n : ℕ) → every isFigure x ≡ true → n ≤ 999 → hasPattern (x ++ figures 3 n) (x ++ bytes "###") ≡ true
     after x n f h = parts x (at 3 (field.Number n) ∷ []) f refl (omega arith, tt) .shaped
 
-    go : (w : Moist) → moistFits w ≡ true → Each (λ g. hasAny moistureCover g ≡ true) (moistGroup w)
+    go : (w : Moist) → moistFits w ≡ true → Each (λ g. hasAny moistureSpoken g ≡ true) (moistGroup w)
     go moist.Missing e = tt
     go (moist.DewPoint (pos n)) e = (any _ _ [] (bytes "21###" ∷ bytes "29###" ∷ []) (after (bytes "20") n refl (leb-true n 999 e)), tt)
     go (moist.DewPoint (negsuc n)) e =

@@ -43,7 +43,7 @@ use Rattle.surface.specs.Position.{isQuadrant, isSouth, isWest, quadrant
 use Rattle.surface.specs.Reads.{Group, isUnit, timeOf, saidTime, saidStation, latitudeIs, saidLatitude, positionOf, saidLongitude, sightOf, indicatorsOf, saidIndicators, figured, mayMiss, missing, windBy, noWind, saidWind}
 use Rattle.surface.specs.Shows.{fieldOf, magnitudeOf, showTime, showStation, showSign, showLatitude, showLongitude, baseField, sightField, showIndicators, directionField, showWind}
 use Rattle.surface.specs.Judge.{between, present, optional, presentTenths, metres, judgeTime, judgeStation, judgeSign, judgePosition, sightFits, judgeIndicators, windFits, windAgrees, judgeWind}
-use Rattle.surface.specs.Classes.{classBase, classSight, classIndicators, classDirection, classWind}
+use Rattle.surface.specs.Classes.{classBase, classSight, classIndicators, classDirection, classWind, unsignedPosition, inTwo, speedInTwo, windInTwo}
 use Rattle.surface.proofs.RoundTripParts.{Part, at, parts}
 use Rattle.surface.proofs.RoundTripFields.{fine, in-range, chosen, oneFigure, one-fits, part-is}
 use Rattle.surface.proofs.RoundTripScales.{base-fits, base-is, base-again, base-classed, sight-fits, sight-is, sight-again, sight-classed, direction-written, direction-classed}
@@ -117,11 +117,7 @@ northFits = presentTenths (λ t. leb (natAbs t) 900)
 abbrev eastFits : Signed → Bool
 eastFits = presentTenths (λ t. leZ (negsuc 1798) t && leZ t (pos 1800))
 
--- the position before its quadrant is read
-abbrev pub unsigned : Position → Position
-unsigned p = record { latitude = signed.Is (pos (magnitudeOf (p .latitude))); longitude = signed.Missing }
-
-pub latitude-back : (p : Position) → judgePosition p ≡ judged.Fine → Stands (bytes "99###") saidLatitude (said.Position (unsigned p)) (showLatitude p)
+pub latitude-back : (p : Position) → judgePosition p ≡ judged.Fine → Stands (bytes "99###") saidLatitude (said.Position (unsignedPosition p)) (showLatitude p)
 unfolding judgePosition showLatitude saidLatitude latitudeIs fieldText numberText
 latitude-back p e =
     let small = north (p .latitude) (both (northFits (p .latitude)) (eastFits (p .longitude)) (fine _ true e .0) .0) in
@@ -149,12 +145,12 @@ east-is (negsuc n) e =
     let h = leb-true n 1798 (both (leb n 1798) true e .0) in
     (omega arith, rw (ne-eqb (suc n) 1800 (λ q. omega arith)))
 
-pub longitude-back : (p : Position) → judgePosition p ≡ judged.Fine → Stands (bytes "#####") (saidLongitude (unsigned p)) (said.Position p) (showLongitude p)
+pub longitude-back : (p : Position) → judgePosition p ≡ judged.Fine → Stands (bytes "#####") (saidLongitude (unsignedPosition p)) (said.Position p) (showLongitude p)
 unfolding judgePosition showLongitude saidLongitude positionOf fieldText numberText
 longitude-back p e = let t = both (northFits (p .latitude)) (eastFits (p .longitude)) (fine _ true e .0) in go (p .latitude) (p .longitude) (t .0) (t .1)
   where
     go : (a o : Signed) → northFits a ≡ true → eastFits o ≡ true
-        → Stands (bytes "#####") (saidLongitude (unsigned (record { latitude = a; longitude = o }))) (said.Position (record { latitude = a; longitude = o }))
+        → Stands (bytes "#####") (saidLongitude (unsignedPosition (record { latitude = a; longitude = o }))) (said.Position (record { latitude = a; longitude = o }))
         (showLongitude (record { latitude = a; longitude = o }))
     go signed.Missing o f g = absurd (false≢true f)
     go (signed.Is a) signed.Missing f g = absurd (false≢true g)
@@ -224,17 +220,6 @@ unfolding judgeIndicators
 indicators-classed i e = let t = indicators-fine i e in rw (t .0, t .1, base-classed (i .base) (t .2), sight-classed (i .sight) (t .3))
 
 -- ---- N dd ff
-
--- the wind as Nddff leaves it, before 00fff is read
-abbrev pub inTwo : ℕ → ℕ
-inTwo s = cond (leb 99 s) 99 s
-
-abbrev pub speedInTwo : Speed → Speed
-speedInTwo speed.Missing = speed.Missing
-speedInTwo (speed.Is s) = speed.Is (inTwo s)
-
-abbrev pub windInTwo : Wind → Wind
-windInTwo w = record { cover = w .cover; direction = classDirection (w .direction); speed = speedInTwo (w .speed) }
 
 -- ff has two figures, and is zero only where the speed is
 two-figures : (s : ℕ) → (inTwo s ≤ 99) × (eqb (inTwo s) 0 ≡ eqb s 0)

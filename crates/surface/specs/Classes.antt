@@ -1,6 +1,9 @@
 -- The record that a written group is read back as: each rounded number replaced by the reading of its class, all else as it is.
 -- Assumes nothing: these are definitions.
 use Prim.Native.Nat.{ℕ}
+use mathlib.Core.Bool.{cond}
+use lib.Dec.{leb}
+use lib.IntN.{pos}
 use Rattle.scales.specs.Scale.{footOf}
 use Rattle.scales.specs.Metres.{land, sea, base}
 use Rattle.scales.specs.declared.kinds.Figure.{Figure}
@@ -15,6 +18,10 @@ use Rattle.record.specs.declared.values.Number.{Number}
 use Rattle.record.specs.declared.values.Number.the-variants as number
 use Rattle.record.specs.declared.values.Direction.{Direction}
 use Rattle.record.specs.declared.values.Direction.the-variants as direction
+use Rattle.record.specs.declared.values.Tenths.the-variants as signed
+use Rattle.record.specs.declared.values.Speed.{Speed}
+use Rattle.record.specs.declared.values.Speed.the-variants as speed
+use Rattle.record.specs.declared.surface.Position.{Position}
 use Rattle.record.specs.declared.surface.Sight.{Sight}
 use Rattle.record.specs.declared.surface.Sight.the-variants as sight
 use Rattle.record.specs.declared.surface.Indicators.{Indicators}
@@ -22,6 +29,7 @@ use Rattle.record.specs.declared.surface.Wind.{Wind}
 use Rattle.record.specs.declared.surface.Fall.{Fall}
 use Rattle.record.specs.declared.surface.Fall.the-variants as fall
 use Rattle.record.specs.declared.surface.Rainfall.{Rainfall}
+use Rattle.surface.specs.Shows.{magnitudeOf}
 
 -- ---- h and VV: the foot of the class
 
@@ -73,3 +81,20 @@ classFall (fall.Is r t) = fall.Is (classRain r) t
 
 abbrev pub classRainfall : Rainfall → Rainfall
 classRainfall r = record { is = classFall (r .is) }
+
+-- ---- what the first of two groups leaves
+
+-- the latitude before the quadrant is read
+abbrev pub unsignedPosition : Position → Position
+unsignedPosition p = record { latitude = signed.Is (pos (magnitudeOf (p .latitude))); longitude = signed.Missing }
+
+-- the wind as Nddff leaves it, before 00fff is read
+abbrev pub inTwo : ℕ → ℕ
+inTwo s = cond (leb 99 s) 99 s
+
+abbrev pub speedInTwo : Speed → Speed
+speedInTwo speed.Missing = speed.Missing
+speedInTwo (speed.Is s) = speed.Is (inTwo s)
+
+abbrev pub windInTwo : Wind → Wind
+windInTwo w = record { cover = w .cover; direction = classDirection (w .direction); speed = speedInTwo (w .speed) }

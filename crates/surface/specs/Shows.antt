@@ -51,6 +51,7 @@ use Rattle.record.specs.declared.surface.Clouds.{Clouds}
 use Rattle.record.specs.declared.surface.Observed.{Observed}
 use Rattle.record.specs.declared.surface.Observed.the-variants as observed
 use Rattle.record.specs.declared.surface.Clock.{Clock}
+use Rattle.shapes.specs.Pattern.{Pattern}
 use Rattle.surface.specs.Position.{quadrantOf}
 use Rattle.surface.specs.Reads.{Group}
 
@@ -150,6 +151,10 @@ abbrev pub moistGroup : Moist → List Group
 moistGroup moist.Missing = []
 moistGroup (moist.DewPoint t) = (bytes "2" ++ signText t) ∷ []
 moistGroup (moist.Humidity u) = (bytes "29" ++ figures 3 u) ∷ []
+
+-- a dew point is written with the sign 0 or 1, a humidity with 9: no such group is the stop word 222 with two more characters
+abbrev pub moistureSpoken : List Pattern
+moistureSpoken = bytes "20###" ∷ bytes "21###" ∷ bytes "29###" ∷ []
 
 unfoldable pub showMoisture : Moisture → List Group
 showMoisture m = moistGroup (m .is)

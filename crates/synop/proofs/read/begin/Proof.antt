@@ -1,0 +1,11 @@
+-- `read::begin` meets its contract.
+-- Assumes nothing.
+use borrow.Author.Needs.{needs}
+use Rattle.synop.proofs.read.begin.Statement.{statement}
+use Rattle.synop.proofs.read.begin.Tie as tie
+
+pub begin-spec : {M : Type 1} → statement M
+begin-spec =
+    tie.close
+    (tie.spec
+    (λ c κs. search needs) (λ c. rw (c .begin .ensures)))

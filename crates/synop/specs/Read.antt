@@ -1,0 +1,186 @@
+-- Reading a SYNOP or SHIP: "In SYNOP and SHIP the groups through Nddff are known by position alone (another shape: 4)"; the others are read against
+-- the row of section 1.
+-- Assumes nothing: these are definitions.
+use Prim.Native.Nat.{ℕ, _+_}
+use mathlib.Core.Bool.{Bool, true, false, cond, not, _&&_, _||_}
+use mathlib.Core.List.{List, [], _∷_, _++_}
+use lib.ListN.{length, take, replicate}
+use lib.Dec.{leb, ltb, eqb}
+use lib.IntN.{ℤ, pos, natAbs}
+use Rattle.figures.specs.Quote.{bytes}
+use Rattle.figures.specs.Figures.{isFigure, isLetter, every}
+use Rattle.text.specs.declared.kinds.Refusal.{Refusal}
+use Rattle.text.specs.declared.kinds.Refusal.the-variants as refusal
+use Rattle.text.specs.declared.kinds.Tail.{Tail}
+use Rattle.text.specs.declared.kinds.Tail.the-variants.{Clear, Junk}
+use Rattle.text.specs.declared.kinds.Bytes.{Bytes}
+use Rattle.text.specs.declared.kinds.Bytes.the-variants as judgement
+use Rattle.text.specs.Groups.{Piece, groupsFrom}
+use Rattle.text.specs.Text.{bytesOf, tailOf}
+use Rattle.shapes.specs.Pattern.{hasPattern}
+use Rattle.places.specs.Engine.{Group, Read, Good, Bad, Outcome, Done, Fault, run}
+use Rattle.record.specs.declared.values.Number.{Number}
+use Rattle.record.specs.declared.values.Number.the-variants as number
+use Rattle.record.specs.declared.values.Tenths.{Tenths as Signed}
+use Rattle.record.specs.declared.values.Tenths.the-variants as signed
+use Rattle.record.specs.declared.values.Speed.{Speed}
+use Rattle.record.specs.declared.values.Speed.the-variants as speed
+use Rattle.record.specs.declared.surface.CallSign.{CallSign}
+use Rattle.record.specs.declared.surface.Position.{Position}
+use Rattle.record.specs.declared.surface.Wind.{Wind}
+use Rattle.record.specs.declared.surface.Surface.{Surface}
+use Rattle.record.specs.declared.surface.Site.{Site}
+use Rattle.record.specs.declared.surface.Synop.{Synop}
+use Rattle.record.specs.Blank.{blankSynop}
+use Rattle.record.specs.Set.{setStation, setSign, setPosition, setTime, setNil, setSite, setSurface, setIndicators, setWind}
+use Rattle.surface.specs.declared.kinds.Said.{Said}
+use Rattle.surface.specs.declared.kinds.Said.the-variants as said
+use Rattle.surface.specs.Reads.{saidTime, saidStation, saidLatitude, saidLongitude, saidIndicators, saidWind}
+use Rattle.surface.specs.Shows.{showTime, showStation, showSign, showLatitude, showLongitude, showIndicators, showWind}
+use Rattle.surface.specs.Classes.{classIndicators, unsignedPosition, windInTwo}
+use Rattle.synop.specs.declared.kinds.Verdict.the-variants as verdict
+use Rattle.synop.specs.declared.kinds.Reading.{Reading}
+use Rattle.synop.specs.Row.{needsOf, withSaid, row, stopWords}
+
+-- ---- the groups through Nddff
+
+-- A group known by its position alone: its shape, whether NIL may stand instead, what it says; how it is written and what it is read back as.
+pub record Post : Type 0 where
+  pub has : Group → Bool
+  pub nil : Bool
+  pub read : Group → Synop → Read Synop
+  pub show : Synop → Group
+  pub put : Synop → Synop → Synop
+
+abbrev pub ontoSurface : Synop → Read Surface → Read Synop
+ontoSurface r (Good s) = Good (setSurface s r)
+ontoSurface r (Bad f) = Bad f
+
+-- the report with what a group says
+unfoldable pub withHead : Said → Synop → Read Synop
+withHead (said.Refused f) r = Bad f
+withHead (said.Time t) r = Good (setSite (setTime t (r .site)) r)
+withHead (said.Station n) r = Good (setSite (setStation (number.Is n) (r .site)) r)
+withHead (said.Position p) r = Good (setSite (setPosition p (r .site)) r)
+withHead (said.Indicators i) r = ontoSurface r (withSaid (said.Indicators i) (r .surface))
+withHead (said.Wind w) r = ontoSurface r (withSaid (said.Wind w) (r .surface))
+withHead (said.Speed n) r = Good r
+withHead (said.Air a) r = Good r
+withHead (said.Moisture m) r = Good r
+withHead (said.Pressure p) r = Good r
+withHead (said.Level l) r = Good r
+withHead (said.Tendency t) r = Good r
+withHead (said.Rainfall x) r = Good r
+withHead (said.Weather w) r = Good r
+withHead (said.Clouds c) r = Good r
+withHead (said.Clock c) r = Good r
+
+abbrev pub five : Group → Bool
+five g = hasPattern g (bytes "#####")
+
+abbrev pub timePost : Post
+timePost =
+    record { has = five; nil = false; read = λ g r. withHead (saidTime g) r; show = λ r. showTime (r .site .time); put = λ r acc. setSite (setTime (r .site .time) (acc .site)) acc }
+
+abbrev pub stationPost : Post
+stationPost =
+    record { has = five; nil = false; read = λ g r. withHead (saidStation g) r; show = λ r. showStation (r .site .station); put = λ r acc. setSite (setStation (r .site .station) (acc .site)) acc }
+
+-- "a call sign of 3 to 9 letters and figures"
+abbrev pub isCallSign : Group → Bool
+isCallSign g = leb 3 (length g) && leb (length g) 9 && every (λ b. isLetter b || isFigure b) g
+
+unfoldable pub signOf : Group → CallSign
+signOf g = record { letters = take 9 (g ++ replicate 9 0); length = length g }
+
+abbrev pub signPost : Post
+signPost =
+    record { has = isCallSign; nil = false; read = λ g r. Good (setSite (setSign (signOf g) (r .site)) r); show = λ r. showSign (r .site .sign); put = λ r acc. setSite (setSign (r .site .sign) (acc .site)) acc }
+
+abbrev pub latitudePost : Post
+latitudePost =
+    record { has = λ g. hasPattern g (bytes "99###"); nil = false; read = λ g r. withHead (saidLatitude g) r; show = λ r. showLatitude (r .site .position); put = λ r acc. setSite (setPosition (unsignedPosition (r .site .position)) (acc .site)) acc }
+
+abbrev pub longitudePost : Post
+longitudePost =
+    record { has = five; nil = false; read = λ g r. withHead (saidLongitude (r .site .position) g) r; show = λ r. showLongitude (r .site .position); put = λ r acc. setSite (setPosition (r .site .position) (acc .site)) acc }
+
+-- "NIL after IIiii ends a land report."
+abbrev pub indicatorsPost : Bool → Post
+indicatorsPost land =
+    record { has = five; nil = land; read = λ g r. withHead (saidIndicators g) r; show = λ r. showIndicators (r .surface .indicators); put = λ r acc. setSurface (setIndicators (classIndicators (r .surface .indicators)) (acc .surface)) acc }
+
+abbrev pub windPost : Post
+windPost =
+    record { has = five; nil = false; read = λ g r. withHead (saidWind g) r; show = λ r. showWind (r .surface .wind); put = λ r acc. setSurface (setWind (windInTwo (r .surface .wind)) (acc .surface)) acc }
+
+-- "AAXX YYGGiw IIiii, or BBXX, a call sign .., YYGGiw, 99LaLaLa, QcLoLoLoLo", then iRixhVV and Nddff
+unfoldable pub posts : Bool → List Post
+posts false = timePost ∷ stationPost ∷ indicatorsPost true ∷ windPost ∷ []
+posts true = signPost ∷ timePost ∷ latitudePost ∷ longitudePost ∷ indicatorsPost false ∷ windPost ∷ []
+
+-- ---- the reading
+
+abbrev pub isNil : Group → Bool
+isNil g = hasPattern g (bytes "NIL")
+
+-- the text ends before a required group: what follows the "=" is refused first
+abbrev pub cutShort : Tail → ℕ → Outcome Synop
+cutShort (Junk at) end = Fault refusal.Shape at
+cutShort Clear end = Fault refusal.Absence end
+
+-- after NIL: "a group .. after NIL" is 4
+abbrev pub afterNil : Tail → ℕ → Synop → List Piece → Outcome Synop
+afterNil (Junk at) end r [] = Fault refusal.Shape at
+afterNil Clear end r [] = Done end (setSite (setNil true (r .site)) r)
+afterNil tail end r (g ∷ gs) = Fault refusal.Shape (g .start)
+
+abbrev pub ontoReport : Synop → Outcome Surface → Outcome Synop
+ontoReport r (Done at s) = Done at (setSurface s r)
+ontoReport r (Fault f at) = Fault f at
+
+-- section 1 after Nddff
+unfoldable pub section : Synop → Tail → ℕ → List Piece → Outcome Synop
+section r tail end gs = ontoReport r (run (row (needsOf (r .surface))) stopWords tail end 0 0 (r .surface) gs)
+
+abbrev pub onward : Read Synop → ℕ → (Synop → Outcome Synop) → Outcome Synop
+onward (Good r) at k = k r
+onward (Bad f) at k = Fault f at
+
+-- the groups known by position, one after the other, then section 1
+unfoldable pub walk : List Post → Synop → Tail → ℕ → List Piece → Outcome Synop
+walk [] r tail end gs = section r tail end gs
+walk (p ∷ ps) r tail end [] = cutShort tail end
+walk (p ∷ ps) r tail end (g ∷ gs) =
+    cond (p .nil && isNil (g .bytes)) (afterNil tail end r gs)
+    (cond (p .has (g .bytes)) (onward (p .read (g .bytes) r) (g .start) (λ r′. walk ps r′ tail end gs)) (Fault refusal.Shape (g .start)))
+
+-- a blank record of the kind
+abbrev pub begun : Bool → Synop
+begun ship = record { ship = ship; site = blankSynop .site; surface = blankSynop .surface }
+
+-- refusal 3: "the first group is not AAXX, BBXX, METAR, SPECI or TAF; its place, 0 if no group stands before an "=" or the end". Here AAXX and BBXX.
+unfoldable pub fromFirst : Tail → ℕ → List Piece → Outcome Synop
+fromFirst tail end [] = Fault refusal.Kind 0
+fromFirst tail end (g ∷ gs) =
+    cond (hasPattern (g .bytes) (bytes "AAXX")) (walk (posts false) (begun false) tail end gs)
+    (cond (hasPattern (g .bytes) (bytes "BBXX")) (walk (posts true) (begun true) tail end gs) (Fault refusal.Kind (g .start)))
+
+abbrev pub accepted : ℕ → Synop → Reading
+accepted rest r = record { verdict = verdict.Accepted rest; report = r }
+
+abbrev pub refused : Refusal → ℕ → Reading
+refused f at = record { verdict = verdict.Refused f at; report = blankSynop }
+
+abbrev pub answer : Outcome Synop → Reading
+answer (Done rest r) = accepted rest r
+answer (Fault f at) = refused f at
+
+abbrev pub afterBytes : Bytes → Reading → Reading
+afterBytes judgement.Sound r = r
+afterBytes judgement.Length r = refused refusal.Length 0
+afterBytes (judgement.Byte at) r = refused refusal.Byte at
+
+-- WHAT A TEXT IS READ AS. "1, 2 and 3 are judged over the whole text in that order. Then groups go left to right and the first at fault answers".
+unfoldable pub readOf : List ℕ → Reading
+readOf text = afterBytes (bytesOf text) (answer (fromFirst (tailOf text) (length text) (groupsFrom text 0)))
