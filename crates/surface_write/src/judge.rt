@@ -113,7 +113,7 @@ fn slot_fits(filled: bool, b: u8) -> bool
     }
 }
 
-fn slots_fit(filled: bool, s: &[u8]) -> bool
+pub fn slots_fit(filled: bool, s: &[u8]) -> bool
     ensures { λ r. ⌜ r ≡ every (slotFits filled) (now (s .entry)) ⌝ }
 {
     let mut i = 0;
@@ -379,7 +379,7 @@ fn fall_fits(f: Fall) -> bool
     }
 }
 
-fn no_fall(f: Fall) -> bool
+pub fn no_fall(f: Fall) -> bool
     ensures { λ r. ⌜ r ≡ noFall f ⌝ }
 {
     match f {

@@ -424,7 +424,7 @@ pub fn put_weather(out: &mut [u8], at: usize, required: bool, w: Weather) -> usi
     }
 }
 
-fn no_clouds(c: Clouds) -> bool
+pub fn no_clouds(c: Clouds) -> bool
     ensures { λ r. ⌜ r ≡ noClouds c ⌝ }
 {
     let amount = c.amount;

@@ -60,7 +60,7 @@ fn is_gale(speed: Speed) -> bool
     }
 }
 
-fn needs_of(s: Surface) -> Needs
+pub fn needs_of(s: Surface) -> Needs
     ensures { λ r. ⌜ r ≡ needsOf s ⌝ }
 {
     let indicators = s.indicators;

@@ -1,0 +1,2 @@
+-- Laws that the proofs of the writer use.
+pub mod Writing

@@ -1,0 +1,301 @@
+// What the writer judges of a record before it writes anything: foreign fields first, then the others in written order.
+use record::surface::CallSign;
+use record::surface::Change;
+use record::surface::Height;
+use record::surface::Indicators;
+use record::surface::Moist;
+use record::surface::Observed;
+use record::surface::Position;
+use record::surface::Sight;
+use record::surface::Site;
+use record::surface::Surface;
+use record::surface::Synop;
+use record::values::Direction;
+use record::values::Speed;
+use record::values::Tenths;
+use surface::kinds::Judged;
+use surface_write::judge::judge_air;
+use surface_write::judge::judge_clock;
+use surface_write::judge::judge_clouds;
+use surface_write::judge::judge_indicators;
+use surface_write::judge::judge_level;
+use surface_write::judge::judge_moisture;
+use surface_write::judge::judge_position;
+use surface_write::judge::judge_pressure;
+use surface_write::judge::judge_rainfall;
+use surface_write::judge::judge_sign;
+use surface_write::judge::judge_station;
+use surface_write::judge::judge_tendency;
+use surface_write::judge::judge_time;
+use surface_write::judge::judge_weather;
+use surface_write::judge::judge_wind;
+use surface_write::judge::no_fall;
+use surface_write::judge::slots_fit;
+use surface_write::write::is_missing;
+use surface_write::write::no_clouds;
+use surface_write::write::no_weather;
+use synop::kinds::Needs;
+use synop::section::needs_of;
+use text::kinds::Refusal;
+ghost use mathlib.Core.Path.{_≡_};
+ghost use mathlib.Core.Bool.{cond, not, _&&_};
+ghost use Rattle.surface.specs.declared.kinds.Judged.the-variants as judged;
+ghost use Rattle.surface.specs.Shows.{isMissing};
+ghost use Rattle.synop.specs.Write.{noTenths, noSign, noPosition, noSight, noDirection, noSpeed, noMoist, noHeight, noChange, noClock, noSurface};
+ghost use Rattle.synop.specs.Write.{foreignBlank, foreign, andThen, judgeSite, judgeSection, judgeSurface, judgeOf};
+
+fn no_tenths(t: Tenths) -> bool
+    ensures { λ r. ⌜ r ≡ noTenths t ⌝ }
+{
+    match t {
+        Tenths::Missing => true,
+        Tenths::Is(_) => false,
+    }
+}
+
+fn no_sign(s: CallSign) -> bool
+    ensures { λ r. ⌜ r ≡ noSign s ⌝ }
+{
+    let letters = s.letters;
+    let length = s.length;
+    let blank = slots_fit(false, &letters);
+    (length == 0) & blank
+}
+
+fn no_position(p: Position) -> bool
+    ensures { λ r. ⌜ r ≡ noPosition p ⌝ }
+{
+    let latitude = p.latitude;
+    let longitude = p.longitude;
+    no_tenths(latitude) & no_tenths(longitude)
+}
+
+fn no_sight(s: Sight) -> bool
+    ensures { λ r. ⌜ r ≡ noSight s ⌝ }
+{
+    match s {
+        Sight::Missing => true,
+        Sight::Land(_) => false,
+        Sight::Sea(_) => false,
+    }
+}
+
+fn no_indicators(i: Indicators) -> bool
+    ensures { λ r. ⌜ r ≡ (isMissing (i .rain) && isMissing (i .weather) && isMissing (i .base) && noSight (i .sight)) ⌝ }
+{
+    let rain = i.rain;
+    let weather = i.weather;
+    let base = i.base;
+    let sight = i.sight;
+    is_missing(rain) & is_missing(weather) & is_missing(base) & no_sight(sight)
+}
+
+fn no_direction(d: Direction) -> bool
+    ensures { λ r. ⌜ r ≡ noDirection d ⌝ }
+{
+    match d {
+        Direction::Missing => true,
+        Direction::Calm => false,
+        Direction::Variable => false,
+        Direction::Degrees(_) => false,
+    }
+}
+
+fn no_speed(s: Speed) -> bool
+    ensures { λ r. ⌜ r ≡ noSpeed s ⌝ }
+{
+    match s {
+        Speed::Missing => true,
+        Speed::Is(_) => false,
+    }
+}
+
+fn no_moist(m: Moist) -> bool
+    ensures { λ r. ⌜ r ≡ noMoist m ⌝ }
+{
+    match m {
+        Moist::Missing => true,
+        Moist::DewPoint(_) => false,
+        Moist::Humidity(_) => false,
+    }
+}
+
+fn no_height(h: Height) -> bool
+    ensures { λ r. ⌜ r ≡ noHeight h ⌝ }
+{
+    match h {
+        Height::Missing => true,
+        Height::SeaLevel(_) => false,
+        Height::Surface {
+            level: _,
+            height: _,
+        } => false,
+    }
+}
+
+fn no_change(c: Change) -> bool
+    ensures { λ r. ⌜ r ≡ noChange c ⌝ }
+{
+    match c {
+        Change::Missing => true,
+        Change::Is {
+            tendency: _,
+            change: _,
+        } => false,
+    }
+}
+
+fn no_clock(o: Observed) -> bool
+    ensures { λ r. ⌜ r ≡ noClock o ⌝ }
+{
+    match o {
+        Observed::Missing => true,
+        Observed::At { hour: _, minute: _ } => false,
+    }
+}
+
+fn no_surface(s: Surface) -> bool
+    ensures { λ r. ⌜ r ≡ noSurface s ⌝ }
+{
+    let indicators = s.indicators;
+    let wind = s.wind;
+    let cover = wind.cover;
+    let direction = wind.direction;
+    let speed = wind.speed;
+    let air = s.air;
+    let temperature = air.temperature;
+    let moisture = s.moisture;
+    let moist = moisture.is;
+    let pressure = s.pressure;
+    let station = pressure.station;
+    let level = s.level;
+    let height = level.is;
+    let tendency = s.tendency;
+    let change = tendency.is;
+    let rainfall = s.rainfall;
+    let fall = rainfall.is;
+    let weather = s.weather;
+    let clouds = s.clouds;
+    let clock = s.clock;
+    let observed = clock.is;
+    let first = no_indicators(indicators)
+        & is_missing(cover)
+        & no_direction(direction)
+        & no_speed(speed);
+    let second = first & no_tenths(temperature) & no_moist(moist) & is_missing(station);
+    let third = second & no_height(height) & no_change(change) & no_fall(fall);
+    third & no_weather(weather) & no_clouds(clouds) & no_clock(observed)
+}
+
+// A land report has no call sign and no position, a ship no station number and no NIL.
+fn site_suits(ship: bool, site: Site) -> bool
+    ensures { λ r. ⌜ r ≡ cond ship (isMissing (site .station) && not (site .nil)) (noSign (site .sign) && noPosition (site .position)) ⌝ }
+{
+    let station = site.station;
+    let nil = site.nil;
+    let sign = site.sign;
+    let position = site.position;
+    if ship {
+        is_missing(station) & !nil
+    } else {
+        no_sign(sign) & no_position(position)
+    }
+}
+
+// Fields foreign to the kind, or to NIL, are blank.
+fn foreign_blank(r: Synop) -> bool
+    ensures { λ b. ⌜ b ≡ foreignBlank r ⌝ }
+{
+    let ship = r.ship;
+    let site = r.site;
+    let nil = site.nil;
+    let surface = r.surface;
+    site_suits(ship, site) & (!nil | no_surface(surface))
+}
+
+fn judge_foreign(r: Synop) -> Judged
+    ensures { λ j. ⌜ j ≡ foreign r ⌝ }
+{
+    if foreign_blank(r) {
+        Judged::Fine
+    } else {
+        Judged::Refused(Refusal::Value)
+    }
+}
+
+// The first refusal of two.
+fn and_then(first: Judged, second: Judged) -> Judged
+    ensures { λ j. ⌜ j ≡ andThen first second ⌝ }
+{
+    match first {
+        Judged::Fine => second,
+        Judged::Refused(refusal) => Judged::Refused(refusal),
+    }
+}
+
+fn judge_site(r: Synop) -> Judged
+    ensures { λ j. ⌜ j ≡ judgeSite r ⌝ }
+{
+    let ship = r.ship;
+    let site = r.site;
+    let sign = site.sign;
+    let time = site.time;
+    let station = site.station;
+    let position = site.position;
+    let timed = judge_time(time);
+    if ship {
+        and_then(judge_sign(sign), and_then(timed, judge_position(position)))
+    } else {
+        and_then(timed, judge_station(station))
+    }
+}
+
+fn judge_section(n: Needs, s: Surface) -> Judged
+    ensures { λ j. ⌜ j ≡ judgeSection n s ⌝ }
+{
+    let rain_due = n.rain;
+    let weather_due = n.weather;
+    let air = s.air;
+    let moisture = s.moisture;
+    let pressure = s.pressure;
+    let level = s.level;
+    let tendency = s.tendency;
+    let rainfall = s.rainfall;
+    let weather = s.weather;
+    let clouds = s.clouds;
+    let clock = s.clock;
+    let from8 = and_then(judge_clouds(clouds), judge_clock(clock));
+    let from7 = and_then(judge_weather(!weather_due, weather), from8);
+    let from6 = and_then(judge_rainfall(!rain_due, rainfall), from7);
+    let from5 = and_then(judge_tendency(tendency), from6);
+    let from4 = and_then(judge_level(level), from5);
+    let from3 = and_then(judge_pressure(pressure), from4);
+    let from2 = and_then(judge_moisture(moisture), from3);
+    and_then(judge_air(air), from2)
+}
+
+fn judge_surface(s: Surface) -> Judged
+    ensures { λ j. ⌜ j ≡ judgeSurface s ⌝ }
+{
+    let indicators = s.indicators;
+    let wind = s.wind;
+    let blown = and_then(judge_wind(wind), judge_section(needs_of(s), s));
+    and_then(judge_indicators(indicators), blown)
+}
+
+// A NIL report has no surface to judge.
+fn judge_rest(nil: bool, s: Surface) -> Judged
+    ensures { λ j. ⌜ j ≡ cond nil judged.Fine (judgeSurface s) ⌝ }
+{
+    if nil { Judged::Fine } else { judge_surface(s) }
+}
+
+pub fn judge(r: Synop) -> Judged
+    ensures { λ j. ⌜ j ≡ judgeOf r ⌝ }
+{
+    let site = r.site;
+    let nil = site.nil;
+    let surface = r.surface;
+    let stood = and_then(judge_site(r), judge_rest(nil, surface));
+    and_then(judge_foreign(r), stood)
+}

@@ -1,0 +1,3 @@
+// The writer of SYNOP and SHIP: a record judged, and written as its canonical text.
+pub mod judge;
+pub mod write;
