@@ -8,3 +8,4 @@ pub mod Sections
 pub mod Heads
 pub mod Canonical
 pub mod Promises
+pub mod Examples
