@@ -1,2 +1,4 @@
 pub mod Blank
 pub mod Set
+pub mod Metar
+pub mod Taf

@@ -1,4 +1,5 @@
 // The record: what a report says, one struct for each code group. What may be missing is an enum, never a number of its own; whole numbers are
 // in document 01's units.
+pub mod aerodrome;
 pub mod surface;
 pub mod values;

@@ -1,0 +1,6 @@
+pub mod Parts
+pub mod Judge
+pub mod Wind
+pub mod Visibility
+pub mod Weather
+pub mod Sky

@@ -1,0 +1,3 @@
+-- The test that tells the groups apart, and worked examples.
+pub mod Sound
+pub mod Examples

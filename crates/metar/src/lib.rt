@@ -1,0 +1,2 @@
+// METAR and SPECI.
+pub mod kinds;

@@ -1,0 +1,243 @@
+// METAR, SPECI and TAF: one struct for each place of the report.
+use crate::values::Direction;
+use crate::values::Number;
+use crate::values::Speed;
+use crate::values::Tenths;
+
+pub enum Unit {
+    Missing,
+    Knots,
+    MetresPerSecond,
+    KilometresPerHour,
+}
+
+// dddffGff and unit
+pub struct Wind {
+    pub direction: Direction,
+    pub speed: Speed,
+    pub gust: Speed,
+    pub unit: Unit,
+}
+
+// dddVddd, in degrees
+pub enum Extremes {
+    Missing,
+    Between { from: u32, to: u32 },
+}
+
+pub struct Variation {
+    pub is: Extremes,
+}
+
+// VVVV or CAVOK
+pub enum View {
+    Missing,
+    Cavok,
+    Metres(u32),
+}
+
+pub struct Visibility {
+    pub is: View,
+}
+
+pub enum Side {
+    None,
+    Left,
+    Centre,
+    Right,
+}
+
+// How a runway's visual range has changed.
+pub enum Course {
+    None,
+    Up,
+    Down,
+    NoChange,
+}
+
+// A runway by its number and side, its visual range in metres and the range's course.
+pub struct Runway {
+    pub number: Number,
+    pub side: Side,
+    pub range: Number,
+    pub course: Course,
+}
+
+// Up to four, the first `count`.
+pub struct Runways {
+    pub items: [Runway; 4],
+    pub count: usize,
+}
+
+pub enum Intensity {
+    None,
+    Light,
+    Heavy,
+    Vicinity,
+}
+
+// Two letters of table 4678, or none.
+pub enum Code {
+    None,
+    Letters { first: u8, second: u8 },
+}
+
+pub enum Phenomena {
+    Missing,
+    Is {
+        intensity: Intensity,
+        descriptor: Code,
+        first: Code,
+        second: Code,
+        third: Code,
+    },
+}
+
+pub struct Weather {
+    pub is: Phenomena,
+}
+
+// Up to three, the first `count`.
+pub struct Weathers {
+    pub items: [Weather; 3],
+    pub count: usize,
+}
+
+pub enum Amount {
+    None,
+    Few,
+    Scattered,
+    Broken,
+    Overcast,
+}
+
+pub enum Convective {
+    None,
+    Cumulonimbus,
+    ToweringCumulus,
+}
+
+// A sky layer, its height in metres.
+pub struct Layer {
+    pub amount: Amount,
+    pub height: Number,
+    pub convective: Convective,
+}
+
+// What the clouds are given as: layers, SKC, NSC, NCD, or the vertical visibility in metres.
+pub enum Cover {
+    Layers,
+    Clear,
+    NoneSignificant,
+    NoneDetected,
+    Vertical(Number),
+}
+
+// Four sky layers with a count.
+pub struct Sky {
+    pub cover: Cover,
+    pub layers: [Layer; 4],
+    pub count: usize,
+}
+
+// T/Td, in tenths of a degree
+pub struct Temperatures {
+    pub air: Tenths,
+    pub dew: Tenths,
+}
+
+// Q, in tenths of hPa
+pub struct Qnh {
+    pub is: Number,
+}
+
+// CCCC, four letters; all 0 where it is missing.
+pub struct Station {
+    pub letters: [u8; 4],
+}
+
+// YYGGggZ
+pub struct Instant {
+    pub day: Number,
+    pub hour: Number,
+    pub minute: Number,
+}
+
+// A METAR, or a SPECI.
+pub struct Metar {
+    pub special: bool,
+    pub corrected: bool,
+    pub station: Station,
+    pub time: Instant,
+    pub nil: bool,
+    pub automatic: bool,
+    pub wind: Wind,
+    pub variation: Variation,
+    pub visibility: Visibility,
+    pub runways: Runways,
+    pub weathers: Weathers,
+    pub sky: Sky,
+    pub temperatures: Temperatures,
+    pub qnh: Qnh,
+    pub recents: Weathers,
+}
+
+// AMD or COR.
+pub enum Correction {
+    None,
+    Amended,
+    Corrected,
+}
+
+// A period, YYGG/YYGG, without minutes; under FM the beginning alone, with its minute.
+pub struct Period {
+    pub from: Instant,
+    pub to: Instant,
+}
+
+// The main part of a TAF, or a change group's: the head is blank in a change group.
+pub struct Leg {
+    pub correction: Correction,
+    pub station: Station,
+    pub time: Instant,
+    pub nil: bool,
+    pub period: Period,
+    pub cancelled: bool,
+    pub wind: Wind,
+    pub visibility: Visibility,
+    pub weathers: Weathers,
+    // NSW, the sole weather
+    pub nsw: bool,
+    pub sky: Sky,
+}
+
+// What opens a change group: BECMG, TEMPO, PROB30 or PROB40, the same with TEMPO, FM.
+pub enum Opening {
+    None,
+    Becoming,
+    Temporary,
+    Probable(u32),
+    ProbablyTemporary(u32),
+    From,
+}
+
+pub struct Change {
+    pub opening: Opening,
+    pub period: Period,
+    pub wind: Wind,
+    pub visibility: Visibility,
+    pub weathers: Weathers,
+    pub nsw: bool,
+    pub sky: Sky,
+}
+
+// Up to sixteen, the first `count`.
+pub struct Changes {
+    pub items: [Change; 16],
+    pub count: usize,
+}
+
+pub struct Taf {
+    pub leg: Leg,
+    pub changes: Changes,
+}
