@@ -1,4 +1,4 @@
--- `canonical::say_report` meets its contract: the writer keeps the buffer's length, so that the part up to the count is there.
+-- `answers::say_report` meets its contract: the writer keeps the buffer's length, so that the part up to the count is there.
 -- Assumes nothing.
 use Prim.Native.Nat.{ℕ}
 use mathlib.Core.Path.{_≡_, refl, sym, ap, _∙_}
@@ -14,8 +14,8 @@ use Rattle.record.specs.declared.surface.Synop.{Synop}
 use Rattle.surface.specs.declared.kinds.Judged.{Judged}
 use Rattle.surface.specs.declared.kinds.Judged.the-variants as judged
 use Rattle.synop.specs.Write.{judgeOf, canonicalOf, fitsIn, bufferBy, bufferOf}
-use Rattle.canonical.proofs.say_report.Statement.{statement}
-use Rattle.canonical.proofs.say_report.Tie as tie
+use Rattle.answers.proofs.say_report.Statement.{statement}
+use Rattle.answers.proofs.say_report.Tie as tie
 
 length-buffer : (r : Synop) (b : List ℕ) → length (bufferOf r b) ≡ length b
 unfolding bufferOf
