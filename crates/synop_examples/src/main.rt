@@ -1,4 +1,4 @@
-// Worked and published-style examples of SYNOP and SHIP: each text and the program's answer, held to the stored output.
+// Examples of SYNOP and SHIP, those of the rulings first: each text and the program's answer, held to the stored output.
 
 // A text, and what is answered.
 fn show(text: &[u8]) {
