@@ -4,3 +4,4 @@ pub mod Wind
 pub mod Visibility
 pub mod Weather
 pub mod Sky
+pub mod Answers

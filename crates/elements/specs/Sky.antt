@@ -26,10 +26,11 @@ use Rattle.record.specs.declared.aerodrome.Layer.{Layer}
 use Rattle.record.specs.declared.aerodrome.Cover.{Cover}
 use Rattle.record.specs.declared.aerodrome.Cover.the-variants as cover
 use Rattle.record.specs.declared.aerodrome.Sky.{Sky}
-use Rattle.elements.specs.declared.kinds.Judged.{Judged}
-use Rattle.elements.specs.declared.kinds.Judged.the-variants as judged
+use Rattle.text.specs.declared.kinds.Judged.{Judged}
+use Rattle.text.specs.declared.kinds.Judged.the-variants as judged
 use Rattle.text.specs.declared.kinds.Refusal.the-variants as refusal
-use Rattle.elements.specs.Judge.{judge, andThen, metresFit}
+use Rattle.text.specs.Judge.{judge, andThen}
+use Rattle.elements.specs.Judge.{metresFit}
 use Rattle.elements.specs.Wind.{chosen, numbered}
 use Rattle.elements.specs.Parts.{wrong, disagrees, mayMiss, used, provided, agreeing, then, valueAt}
 
@@ -89,11 +90,13 @@ isLayers cover.NoneSignificant = false
 isLayers cover.NoneDetected = false
 isLayers (cover.Vertical h) = false
 
--- one more layer; `cavok` stands for the clouds
+-- one more layer where k stand; past the fourth there is no room
+abbrev pub addLayer : ℕ → Sky → Layer → Sky
+addLayer k s l = cond (ltb k 4) (record { cover = cover.Layers; layers = set (s .layers) k l; count = k + 1 }) s
+
+-- `cavok` stands for the clouds
 abbrev pub withLayer : Bool → ℕ → Sky → Layer → Read Sky
-withLayer cavok k s l =
-    agreeing (not cavok && isLayers (s .cover) && rises (take k (s .layers)) (l .height))
-    (Good (record { cover = cover.Layers; layers = set (s .layers) k l; count = k + 1 }))
+withLayer cavok k s l = agreeing (not cavok && isLayers (s .cover) && rises (take k (s .layers)) (l .height)) (Good (addLayer k s l))
 
 abbrev pub withAlone : Bool → ℕ → Sky → Cover → Read Sky
 withAlone cavok k s c = agreeing (not cavok && eqb k 0) (Good (record { cover = c; layers = s .layers; count = 0 }))

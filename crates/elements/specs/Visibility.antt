@@ -13,8 +13,8 @@ use lib.Dec.{leb}
 use Rattle.record.specs.declared.aerodrome.View.{View}
 use Rattle.record.specs.declared.aerodrome.View.the-variants as view
 use Rattle.record.specs.declared.aerodrome.Visibility.{Visibility}
-use Rattle.elements.specs.declared.kinds.Judged.{Judged}
-use Rattle.elements.specs.Judge.{judge}
+use Rattle.text.specs.declared.kinds.Judged.{Judged}
+use Rattle.text.specs.Judge.{judge}
 use Rattle.elements.specs.Parts.{mayMiss, used, provided}
 
 abbrev pub visibilityShapes : List Pattern
@@ -54,3 +54,9 @@ classView (view.Metres m) = view.Metres (footOf visibility m)
 
 abbrev pub classVisibility : Visibility → Visibility
 classVisibility v = record { is = classView (v .is) }
+
+-- nothing is said of it
+abbrev pub noView : View → Bool
+noView view.Missing = true
+noView view.Cavok = false
+noView (view.Metres m) = false

@@ -4,7 +4,7 @@ use Prim.Native.Nat.{ℕ, _+_}
 use Prim.Native.String.{String}
 use mathlib.Core.Bool.{Bool, true, false, cond, not, _&&_, _||_}
 use mathlib.Core.List.{List, [], _∷_, _++_, map}
-use lib.ListN.{length, getD}
+use lib.ListN.{length, getD, take, drop, set}
 use lib.Dec.{leb, ltb, eqb}
 use Rattle.figures.specs.Quote.{bytes}
 use Rattle.shapes.specs.Pattern.{Pattern, hasPattern}
@@ -16,8 +16,10 @@ use Rattle.record.specs.declared.aerodrome.Code.the-variants as code
 use Rattle.record.specs.declared.aerodrome.Phenomena.{Phenomena}
 use Rattle.record.specs.declared.aerodrome.Phenomena.the-variants as phenomena
 use Rattle.record.specs.declared.aerodrome.Weather.{Weather}
-use Rattle.elements.specs.declared.kinds.Judged.{Judged}
-use Rattle.elements.specs.Judge.{judge}
+use Rattle.record.specs.declared.aerodrome.Weathers.{Weathers}
+use Rattle.text.specs.declared.kinds.Judged.{Judged}
+use Rattle.text.specs.declared.kinds.Judged.the-variants as judged
+use Rattle.text.specs.Judge.{judge, andThen}
 use Rattle.elements.specs.Parts.{wrong, disagrees, provided, agreeing}
 
 -- ---- the codes of table 4678, two letters each
@@ -73,6 +75,25 @@ signedCodes (b ∷ g) = cond (isSign b) (someCodes g) (someCodes (b ∷ g))
 
 unfoldable pub hasWeather : Group → Bool
 hasWeather g = hasPattern g (bytes "//") || signedCodes g
+
+-- weather's cover: //, or a sign or none and a code of the table, and anything more
+abbrev pub covering : List ℕ → List (List ℕ) → List Pattern
+covering before [] = []
+covering before (c ∷ cs) = (before ++ c ++ bytes "*") ∷ covering before cs
+
+abbrev pub allCodes : List (List ℕ)
+allCodes = codesOf (bytes "MIBCPRDRBLSHTSFZDZRASNSGICPLGRGSUPBRFGFUVADUSAHZPOSQFCSSDSVC")
+
+abbrev pub weatherCover : List Pattern
+weatherCover = bytes "//" ∷ (covering [] allCodes ++ (covering (bytes "+") allCodes ++ covering (bytes "-") allCodes))
+
+-- what is written of weather fits one of these: PR stands before FG alone, so that PROB30 is no weather
+abbrev pub spokenCodes : List (List ℕ)
+spokenCodes = codesOf (bytes "MIBCDRBLSHTSFZDZRASNSGICPLGRGSUPBRFGFUVADUSAHZPOSQFCSSDSVC")
+
+abbrev pub weatherSpoken : List Pattern
+weatherSpoken =
+    bytes "//" ∷ bytes "PRFG" ∷ (covering [] spokenCodes ++ (covering (bytes "+") spokenCodes ++ covering (bytes "-") spokenCodes))
 
 -- "RE groups carry no sign and no VC (5)"
 unfoldable pub hasRecent : Group → Bool
@@ -200,6 +221,10 @@ readRecent automatic [] = wrong
 readRecent automatic (r ∷ []) = wrong
 readRecent automatic (r ∷ e ∷ g) = unlessUnknown automatic (onlyPlain (saidWeather g))
 
+-- one more where k stand; past the third there is no room
+abbrev pub withWeather : ℕ → Weathers → Weather → Weathers
+withWeather k ws x = cond (ltb k 3) (record { items = set (ws .items) k x; count = k + 1 }) ws
+
 -- ---- writing
 
 abbrev pub codeText : Code → List ℕ
@@ -221,6 +246,12 @@ showWeather w = phenomenaText (w .is)
 
 unfoldable pub showRecent : Weather → Group
 showRecent w = bytes "RE" ++ phenomenaText (w .is)
+
+unfoldable pub showWeathers : Weathers → List Group
+showWeathers ws = map showWeather (take (ws .count) (ws .items))
+
+unfoldable pub showRecents : Weathers → List Group
+showRecents ws = map showRecent (take (ws .count) (ws .items))
 
 -- ---- judging: "A sign and table codes wrongly joined are 5", in a record a value outside its range. The codes stand one after the other, the first
 -- a descriptor or none, and what they are joined to is read back as they are.
@@ -267,3 +298,17 @@ judgeWeather forecast automatic beside w =
 
 unfoldable pub judgeRecent : Bool → Weather → Judged
 judgeRecent automatic w = judge (phenomenaFit (w .is) && isPlain (w .is)) (automatic || not (hasUnknown (w .is)))
+
+-- ---- up to three: "a count over its limit, a slot past its count .. that is not blank", then each in turn
+
+abbrev pub allMissing : List Weather → Bool
+allMissing [] = true
+allMissing (w ∷ ws) = isMissingWeather (w .is) && allMissing ws
+
+abbrev pub judgeEach : (Weather → Judged) → List Weather → Judged
+judgeEach test [] = judged.Fine
+judgeEach test (w ∷ ws) = andThen (test w) (judgeEach test ws)
+
+unfoldable pub judgeWeathers : (Weather → Judged) → Weathers → Judged
+judgeWeathers test w =
+    andThen (judge (leb (w .count) 3 && allMissing (drop (w .count) (w .items))) true) (judgeEach test (take (w .count) (w .items)))

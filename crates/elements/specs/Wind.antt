@@ -28,8 +28,8 @@ use Rattle.record.specs.declared.aerodrome.Wind.{Wind}
 use Rattle.record.specs.declared.aerodrome.Extremes.{Extremes}
 use Rattle.record.specs.declared.aerodrome.Extremes.the-variants as extremes
 use Rattle.record.specs.declared.aerodrome.Variation.{Variation}
-use Rattle.elements.specs.declared.kinds.Judged.{Judged}
-use Rattle.elements.specs.Judge.{judge}
+use Rattle.text.specs.declared.kinds.Judged.{Judged}
+use Rattle.text.specs.Judge.{judge}
 use Rattle.elements.specs.Parts.{wrong, disagrees, figured, mayMiss, provided, agreeing, then, valueAt, isMissing}
 
 -- direction, speed, gust, unit
@@ -166,6 +166,16 @@ gustFits (speed.Is g) = leb g 199
 abbrev pub noGust : Speed → Bool
 noGust speed.Missing = true
 noGust (speed.Is g) = false
+
+-- no wind at all: nothing of it is there, its unit neither
+abbrev pub noDirection : Direction → Bool
+noDirection direction.Missing = true
+noDirection direction.Calm = false
+noDirection direction.Variable = false
+noDirection (direction.Degrees d) = false
+
+abbrev pub isBlankWind : Wind → Bool
+isBlankWind w = noDirection (w .direction) && noGust (w .speed) && noGust (w .gust) && not (hasUnit (w .unit))
 
 abbrev pub speedFits : Speed → Bool
 speedFits speed.Missing = false

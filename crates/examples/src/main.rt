@@ -6,7 +6,7 @@ mod rows;
 use rows::Scale;
 use scales::kinds::Range;
 
-fn land_and_sea() {
+fn land() {
     print::heading(b"4377 land, m");
     rows::values(
         Scale::Land,
@@ -28,6 +28,9 @@ fn land_and_sea() {
         ],
     );
     rows::figures(Scale::Land, &[0, 1, 49, 50, 51, 55, 56, 80, 81, 88, 89, 90]);
+}
+
+fn sea() {
     print::heading(b"4377 sea, m");
     rows::values(
         Scale::Sea,
@@ -51,7 +54,7 @@ fn land_and_sea() {
     rows::figures(Scale::Sea, &[89, 90, 91, 92, 93, 94, 95, 96, 97, 98, 99, 0]);
 }
 
-fn heights() {
+fn bases() {
     print::heading(b"1600 h, m");
     rows::values(
         Scale::Base,
@@ -72,6 +75,9 @@ fn heights() {
         ],
     );
     rows::figures(Scale::Base, &[0, 1, 2, 3, 4, 5, 6, 7, 8, 9]);
+}
+
+fn clouds() {
     print::heading(b"1690, m");
     rows::values(
         Scale::Cloud,
@@ -98,7 +104,7 @@ fn heights() {
     );
 }
 
-fn ranges() {
+fn visibilities() {
     print::heading(b"VVVV, m");
     rows::values(
         Scale::Visibility,
@@ -123,6 +129,9 @@ fn ranges() {
         Scale::Visibility,
         &[0, 25, 50, 750, 800, 850, 4900, 5000, 5500, 9000, 9998, 9999],
     );
+}
+
+fn runways() {
     print::heading(b"RVR, m");
     rows::values(
         Scale::Runway,
@@ -189,7 +198,7 @@ fn temperatures() {
     rows::signed(2, 53);
 }
 
-fn pressure_and_rain() {
+fn pressures() {
     print::heading(b"Q, hPa");
     rows::values(
         Scale::Pressure,
@@ -208,6 +217,9 @@ fn pressure_and_rain() {
         ],
     );
     rows::figures(Scale::Pressure, &[0, 1, 999, 1012, 1013, 1014, 9998, 9999]);
+}
+
+fn rains() {
     print::heading(b"RRR, mm");
     rows::trace();
     rows::values(
@@ -258,11 +270,15 @@ fn marked() {
 }
 
 fn main() {
-    land_and_sea();
-    heights();
-    ranges();
+    land();
+    sea();
+    bases();
+    clouds();
+    visibilities();
+    runways();
     temperatures();
-    pressure_and_rain();
+    pressures();
+    rains();
     directions();
     marked();
 }

@@ -2,7 +2,6 @@
 -- place.
 -- Assumes nothing.
 use Prim.Native.Nat.{ℕ}
-use Prim.Native.String.{String}
 use mathlib.Core.Path.{_≡_, refl}
 use mathlib.Core.List.{List, [], _∷_, map}
 use Rattle.figures.specs.Figures.{figures, scan, fieldAt, numberText, slashes, fieldText}
@@ -21,15 +20,19 @@ use Rattle.scales.specs.Rounded.{pressureFigure, pressureReading, roundedPressu
 use Rattle.scales.specs.Scale.{run as classes, classIn, lengthIn, lastIn, readIn, rising, unlike, distinct}
 use Rattle.elements.specs.Sky.{readLayer, readAlone, readSky, showLayer, showSky, judgeSky}
 use Rattle.elements.specs.Visibility.{readVisibility, showVisibility, judgeVisibility}
-use Rattle.elements.specs.Weather.{codesOf, areCodes, signedCodes, hasWeather, hasRecent, saidWeather, readWeather, readRecent, showWeather, showRecent, judgeWeather, judgeRecent}
+use Rattle.elements.specs.Weather.{codesOf, areCodes, signedCodes, hasWeather, hasRecent, saidWeather, readWeather, readRecent, showWeather, showRecent, showWeathers, showRecents, judgeWeather, judgeRecent, judgeWeathers}
 use Rattle.elements.specs.Wind.{windBy, readWind, readVariation, showWind, showVariation, judgeWind, judgeVariation}
 use Rattle.metar.specs.Read.{fromFirst, readOf}
-use Rattle.metar.specs.Row.{readTime, readRunway, readTemperatures, readQnh, showTime, showRunway, showTemperatures, showQnh, row, stopWords}
-use Rattle.metar.specs.Write.{judgeRunways, judgeWeathers, judgeHead, noBody, judgeBody, judgeOf, canonicalOf, classedOf}
+use Rattle.aerodrome.specs.Head.{stationOf, readTime, showTime, judgeStation, judgeTime}
+use Rattle.aerodrome.specs.Runway.{readRunway, showRunway, showRunways, judgeRunways}
+use Rattle.aerodrome.specs.Temperatures.{readTemperatures, readQnh, showTemperatures, showQnh, judgeTemperatures, judgeQnh}
+use Rattle.metar.specs.Row.{row, stopWords}
+use Rattle.metar.specs.Write.{judgeHead, noBody, judgeBody, judgeOf, canonicalOf, classedOf}
 use Rattle.figures.specs.Quote.{bytes}
 use Rattle.text.specs.Refusals.{numberOf}
-use Rattle.elements.specs.declared.kinds.Judged.the-variants as judged
-use Rattle.metar.specs.declared.kinds.Verdict.the-variants as verdict
+use Rattle.text.specs.Example.{Example, reads, refuses}
+use Rattle.text.specs.declared.kinds.Judged.the-variants as judged
+use Rattle.text.specs.declared.kinds.Verdict.the-variants as verdict
 use Rattle.metar.specs.declared.kinds.Reading.{Reading}
 
 -- what the program says of a reading
@@ -39,16 +42,6 @@ said r =
       | verdict.Accepted rest ↦ elim (judgeOf (r .report)) [ judged.Fine ↦ canonicalOf (r .report) | judged.Refused f ↦ numberOf f ∷ [] ]
       | verdict.Refused f at ↦ numberOf f ∷ at ∷ []
     ]
-
-pub record Example : Type 0 where
-  pub text : List ℕ
-  pub answer : List ℕ
-
-abbrev reads : String → String → Example
-reads text answer = record { text = bytes text; answer = bytes answer }
-
-abbrev refuses : String → ℕ → ℕ → Example
-refuses text number place = record { text = bytes text; answer = number ∷ place ∷ [] }
 
 abbrev pub examples : List Example
 examples =
@@ -67,5 +60,5 @@ examples =
     ∷ []
 
 pub worked : map (λ (e : Example). said (readOf (e .text))) examples ≡ map (λ (e : Example). e .answer) examples
-unfolding figures scan fieldAt numberText slashes fieldText splice after signedOf lead lastEnd groupsIn groupsFrom cutAt pastParting nextOf partOf spaced parted join placed written equalsAt bytesOf junkFrom tailOf trimmedEnd trimmedOf low high fits hasPattern hasAny clash clashEach allApart leading split partsOf begins valueOf pickOf scanParts answered scanOf hasShape filled printParts printOf spellings unled unledEach clear printable sound shapesApart step run stands seek anywhere findOf owed wholeDegrees roundedDegrees degreesOf degreesReading signedReading land sea base visibility runway cloud sameRange metresFigure metresReading rangeFigure rangeReading pressureFigure pressureReading roundedPressure rainFigure rainReading roundedRain rainRank directionFigure directionReading roundedDirection classes classIn lengthIn lastIn readIn rising unlike distinct readLayer readAlone readSky showLayer showSky judgeSky readVisibility showVisibility judgeVisibility codesOf areCodes signedCodes hasWeather hasRecent saidWeather readWeather readRecent showWeather showRecent judgeWeather judgeRecent windBy readWind readVariation showWind showVariation judgeWind judgeVariation fromFirst readOf readTime readRunway readTemperatures readQnh showTime showRunway showTemperatures showQnh row stopWords judgeRunways judgeWeathers judgeHead noBody judgeBody judgeOf canonicalOf classedOf
+unfolding stationOf figures scan fieldAt numberText slashes fieldText splice after signedOf lead lastEnd groupsIn groupsFrom cutAt pastParting nextOf partOf spaced parted join placed written equalsAt bytesOf junkFrom tailOf trimmedEnd trimmedOf low high fits hasPattern hasAny clash clashEach allApart leading split partsOf begins valueOf pickOf scanParts answered scanOf hasShape filled printParts printOf spellings unled unledEach clear printable sound shapesApart step run stands seek anywhere findOf owed wholeDegrees roundedDegrees degreesOf degreesReading signedReading land sea base visibility runway cloud sameRange metresFigure metresReading rangeFigure rangeReading pressureFigure pressureReading roundedPressure rainFigure rainReading roundedRain rainRank directionFigure directionReading roundedDirection classes classIn lengthIn lastIn readIn rising unlike distinct readLayer readAlone readSky showLayer showSky judgeSky readVisibility showVisibility judgeVisibility codesOf areCodes signedCodes hasWeather hasRecent saidWeather readWeather readRecent showWeather showRecent showWeathers showRecents judgeWeather judgeRecent judgeWeathers windBy readWind readVariation showWind showVariation judgeWind judgeVariation fromFirst readOf readTime readRunway readTemperatures readQnh showTime showRunway showTemperatures showQnh row stopWords showRunways judgeRunways judgeStation judgeTime judgeTemperatures judgeQnh judgeHead noBody judgeBody judgeOf canonicalOf classedOf
 worked = refl

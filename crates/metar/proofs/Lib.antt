@@ -1,3 +1,4 @@
 -- The test that tells the groups apart, and worked examples.
 pub mod Sound
 pub mod Examples
+pub mod Steps

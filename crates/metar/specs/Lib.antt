@@ -1,3 +1,4 @@
 pub mod Row
 pub mod Read
 pub mod Write
+pub mod Step

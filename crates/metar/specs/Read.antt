@@ -1,20 +1,19 @@
 -- Reading a METAR or SPECI.
 -- Assumes nothing: these are definitions.
 use Prim.Native.Nat.{ℕ}
-use mathlib.Core.Bool.{Bool, true, false, cond, _||_}
+use mathlib.Core.Bool.{cond}
 use mathlib.Core.List.{List, [], _∷_}
 use lib.ListN.{length}
 use Rattle.text.specs.declared.kinds.Refusal.{Refusal}
 use Rattle.text.specs.declared.kinds.Refusal.the-variants as refusal
 use Rattle.text.specs.declared.kinds.Tail.{Tail}
-use Rattle.text.specs.declared.kinds.Bytes.{Bytes}
-use Rattle.text.specs.declared.kinds.Bytes.the-variants as judgement
+use Rattle.text.specs.declared.kinds.Verdict.{Verdict}
 use Rattle.text.specs.Groups.{Piece, groupsFrom}
 use Rattle.text.specs.Text.{bytesOf, tailOf}
-use Rattle.places.specs.Engine.{Outcome, Done, Fault, run}
+use Rattle.places.specs.Engine.{Outcome, Fault, run}
+use Rattle.places.specs.Answer.{acceptedAs, refusedAs, answerOf, afterBytes}
 use Rattle.record.specs.declared.aerodrome.Metar.{Metar}
 use Rattle.record.specs.Metar.{blankMetar}
-use Rattle.metar.specs.declared.kinds.Verdict.the-variants as verdict
 use Rattle.metar.specs.declared.kinds.Reading.{Reading}
 use Rattle.metar.specs.Row.{isName, row, stopWords}
 
@@ -23,20 +22,19 @@ unfoldable pub fromFirst : Tail → ℕ → List Piece → Outcome Metar
 fromFirst tail end [] = Fault refusal.Kind 0
 fromFirst tail end (g ∷ gs) = cond (isName (g .bytes)) (run row stopWords tail end 0 0 blankMetar (g ∷ gs)) (Fault refusal.Kind (g .start))
 
+-- a reading with its verdict; the record is blank where the text is refused
+abbrev pub reading : Verdict → Metar → Reading
+reading v r = record { verdict = v; report = r }
+
 abbrev pub accepted : ℕ → Metar → Reading
-accepted rest r = record { verdict = verdict.Accepted rest; report = r }
+accepted rest r = acceptedAs reading blankMetar rest r
 
 abbrev pub refused : Refusal → ℕ → Reading
-refused f at = record { verdict = verdict.Refused f at; report = blankMetar }
+refused f at = refusedAs reading blankMetar f at
 
 abbrev pub answer : Outcome Metar → Reading
-answer (Done rest r) = accepted rest r
-answer (Fault f at) = refused f at
+answer o = answerOf reading blankMetar o
 
-abbrev pub afterBytes : Bytes → Reading → Reading
-afterBytes judgement.Sound r = r
-afterBytes judgement.Length r = refused refusal.Length 0
-afterBytes (judgement.Byte at) r = refused refusal.Byte at
-
+-- WHAT A TEXT IS READ AS. "1, 2 and 3 are judged over the whole text in that order. Then groups go left to right and the first at fault answers".
 unfoldable pub readOf : List ℕ → Reading
-readOf text = afterBytes (bytesOf text) (answer (fromFirst (tailOf text) (length text) (groupsFrom text 0)))
+readOf text = afterBytes reading blankMetar (bytesOf text) (answer (fromFirst (tailOf text) (length text) (groupsFrom text 0)))

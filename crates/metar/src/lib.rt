@@ -1,2 +1,6 @@
-// METAR and SPECI.
+// METAR and SPECI: a text read.
+pub mod answer;
 pub mod kinds;
+pub mod read;
+pub mod row;
+pub mod take;

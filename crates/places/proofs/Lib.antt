@@ -6,3 +6,5 @@ pub mod ReadBack
 pub mod Shelf
 pub mod Joined
 pub mod Examples
+pub mod Sizes
+pub mod Kept

@@ -64,9 +64,9 @@ module _ {R : Type 0} where
   ahead hs [] = true
   ahead hs (q ∷ qs) = allApart (q .spoken) hs && ahead hs qs
 
-  -- once a place that takes one group and must have one has it, it is shut
+  -- a place that takes none is shut, and so is one that takes one group and must have one, once it has it
   abbrev pub sure : Place R → Bool
-  sure p = p .must && eqb (p .most) 1
+  sure p = eqb (p .most) 0 || (p .must && eqb (p .most) 1)
 
   -- What a row writes is told apart from the stop words, and from every group with an earlier place's shape unless that place is shut by then.
   abbrev pub sound : List Pattern → List (Place R) → Bool
@@ -172,21 +172,24 @@ module _ {R : Type 0} where
     closed : (p .has g && ltb n (p .most)) ≡ false
     single : (p .has g && ltb 1 (p .most)) ≡ false
 
+  -- a place that has no room, of one group at most, is shut to any group
+  shut-all : (p : Place R) (n : ℕ) (gs : List Group) → p .most ≤ n → p .most ≤ 1 → All (Shut p n) gs
+  shut-all p n gs full few =
+      All-any (λ g. record { closed = rw (le-ltb n (p .most) full) (and-false (p .has g)); single = rw (le-ltb 1 (p .most) few) (and-false (p .has g)) }) gs
+
   -- a place is shut to what later places write
   shut : (words : List Pattern) (p : Place R) (ps : List (Place R)) (r : R) → sound words (p ∷ ps) ≡ true → Covers p → Spoken ps r
       → (p .must ≡ true → 0 < length (p .show r)) → All (Shut p (length (p .show r))) (written ps r)
   shut words p ps r s v o there =
       or-cases (sure p) (ahead (p .cover) ps) (both (sure p || ahead (p .cover) ps) (sound words ps) (both (allApart (p .spoken) words) _ s .1) .0)
       (λ e.
-      let t = both (p .must) (eqb (p .most) 1) e in
-      let one = eqb-true (p .most) 1 (t .1) in
+      or-cases (eqb (p .most) 0) (p .must && eqb (p .most) 1) e
+      (λ none. let zero = eqb-true (p .most) 0 none in shut-all p (length (p .show r)) (written ps r) (omega arith) (omega arith))
+      (λ one.
+      let t = both (p .must) (eqb (p .most) 1) one in
+      let single = eqb-true (p .most) 1 (t .1) in
       let some = there (t .0) in
-      All-any
-      (λ g.
-      record {
-        closed = rw (le-ltb (length (p .show r)) (p .most) (omega arith)) (and-false (p .has g));
-        single = rw (le-ltb 1 (p .most) (omega arith)) (and-false (p .has g));
-      }) (written ps r))
+      shut-all p (length (p .show r)) (written ps r) (omega arith) (omega arith)))
       (λ e.
       All-map
       (λ g h.

@@ -3,12 +3,12 @@
 use Prim.Native.Nat.{ℕ, zero, suc, _+_, _<_}
 use native.Mathlib.Omega.{arith}
 use native.Mathlib.Numerals.{add-one}
-use mathlib.Core.Path.{_≡_, refl, ap}
-use mathlib.Core.Bool.{Bool, true, false, _&&_, _||_, and-eq-true-iff}
+use mathlib.Core.Path.{_≡_, refl, sym, ap, _∙_}
+use mathlib.Core.Bool.{Bool, true, false, _&&_, _||_, not, and-eq-true-iff, false≢true}
 use mathlib.Core.List.{List, [], _∷_, map}
 use lib.ListN.{length, getD, drop, length-map, List·getD-map}
-use lib.Dec.{ltb, eqb}
-use borrow.Author.Tests.{ltb-true}
+use lib.Dec.{ltb, eqb, eqb·zero-suc, eqb·suc-zero, eqb·suc-suc}
+use borrow.Author.Tests.{ltb-true, not-true}
 use Rattle.places.specs.Seek.{Stand, stands, seek, anywhere, orEarlier, findOf}
 use Rattle.places.specs.Engine.{Group, Place, nowhere, placeAt, standing, standsOf, mustsOf}
 use Rattle.places.specs.declared.kinds.Found.{Found}
@@ -120,3 +120,31 @@ module _ {R : Type 0} where
         room = rw is at (f .room);
         shaped = rw is at (f .shaped);
       }
+
+-- ---- tests that hold at one place alone
+
+abbrev noneIn : List Bool → Bool
+noneIn [] = true
+noneIn (b ∷ bs) = not b && noneIn bs
+
+abbrev pub onlyAt : ℕ → List Bool → Bool
+onlyAt k [] = false
+onlyAt zero (b ∷ bs) = b && noneIn bs
+onlyAt (suc k) (b ∷ bs) = not b && onlyAt k bs
+
+none-at : (bs : List Bool) (i : ℕ) → noneIn bs ≡ true → getD bs i false ≡ false
+none-at [] i e = refl
+none-at (b ∷ bs) zero e = not-true b (and-eq-true-iff (not b) (noneIn bs) .0 e .0)
+none-at (b ∷ bs) (suc i) e = none-at bs i (and-eq-true-iff (not b) (noneIn bs) .0 e .1)
+
+pub only-at : (k : ℕ) (bs : List Bool) (i : ℕ) → onlyAt k bs ≡ true → eqb i k ≡ getD bs i false
+only-at k [] i e = absurd (false≢true e)
+only-at zero (b ∷ bs) zero e = sym (and-eq-true-iff b (noneIn bs) .0 e .0)
+only-at zero (b ∷ bs) (suc i) e = eqb·suc-zero i ∙ sym (none-at bs i (and-eq-true-iff b (noneIn bs) .0 e .1))
+only-at (suc k) (b ∷ bs) zero e = eqb·zero-suc k ∙ sym (not-true b (and-eq-true-iff (not b) (onlyAt k bs) .0 e .0))
+only-at (suc k) (b ∷ bs) (suc i) e = eqb·suc-suc i k ∙ only-at k bs i (and-eq-true-iff (not b) (onlyAt k bs) .0 e .1)
+
+module _ {R : Type 0} where
+  -- the place that ends the report, where there is one
+  pub ends-at : (row : List (Place R)) (k i : ℕ) → onlyAt k (map (λ (p : Place R). p .ends) row) ≡ true → eqb i k ≡ placeAt row i .ends
+  ends-at row k i e = only-at k (map (λ (p : Place R). p .ends) row) i e ∙ List·getD-map (λ (p : Place R). p .ends) row i nowhere

@@ -78,6 +78,9 @@ setRecents x r = record { special = r .special; corrected = r .corrected; statio
 abbrev pub blankRunway : Runway
 blankRunway = record { number = number.Missing; side = side.None; range = number.Missing; course = course.None }
 
+abbrev pub blankRunways : Runways
+blankRunways = record { items = replicate 4 blankRunway; count = 0 }
+
 abbrev pub blankWeather : Weather
 blankWeather = record { is = phenomena.Missing }
 
@@ -105,7 +108,7 @@ blankMetar =
       wind = blankWind;
       variation = record { is = extremes.Missing };
       visibility = record { is = view.Missing };
-      runways = record { items = replicate 4 blankRunway; count = 0 };
+      runways = blankRunways;
       weathers = blankWeathers;
       sky = blankSky;
       temperatures = record { air = tenths.Missing; dew = tenths.Missing };

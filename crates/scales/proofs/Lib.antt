@@ -10,3 +10,4 @@ pub mod PressureLaws
 pub mod RainLaws
 pub mod Rounds
 pub mod Runs
+pub mod Down

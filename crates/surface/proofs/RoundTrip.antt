@@ -4,7 +4,7 @@ use mathlib.Core.Path.{_≡_, refl, sym, ap, _∙_}
 use mathlib.Core.Bool.{Bool, true, false, cond, not, _&&_, _||_, or-true, false≢true}
 use mathlib.Core.List.{List, [], _∷_, _++_}
 use mathlib.Core.Logic.{_⊎_, inl, inr, ⊎-elim}
-use Prim.Native.Nat.{ℕ, zero, suc, _+_, _*_, _/_, _%_, _≤_, _<_}
+use Prim.Native.Nat.{ℕ, suc, _+_, _*_, _/_, _%_, _≤_, _<_}
 use native.Mathlib.Omega.{arith}
 use lib.ListN.{length}
 use lib.Dec.{leb, ltb, eqb}
@@ -53,13 +53,15 @@ use Rattle.record.specs.declared.surface.Clock.{Clock}
 use Rattle.record.specs.Blank.{blankSurface}
 use Rattle.surface.specs.declared.kinds.Said.{Said}
 use Rattle.surface.specs.declared.kinds.Said.the-variants as said
-use Rattle.surface.specs.declared.kinds.Judged.the-variants as judged
+use Rattle.text.specs.declared.kinds.Judged.the-variants as judged
+use Rattle.text.specs.Judge.{judge}
+use Rattle.text.proofs.Judging.{fine}
 use Rattle.surface.specs.Reads.{Group, wrong, mayMiss, usedRain, speedIs, saidSpeed, pressureOf, isLevel, airIs, saidAir, moistureIs, saidMoisture, saidPressure, levelIs, saidLevel, tendencyIs, saidTendency, saidRainfall, saidWeather, saidClouds, clockIs, saidClock}
 use Rattle.surface.specs.Shows.{moistureSpoken, fieldOf, fieldBy, isMissing, isGale, speedGroup, showSpeed, signText, airGroup, showAir, moistGroup, showMoisture, pressureGroup, showPressure, levelGroup, showLevel, tendencyGroup, showTendency, rainfallGroup, showRainfall, weatherText, noWeather, showWeather, noClouds, cloudsText, showClouds, clockGroup, showClock}
-use Rattle.surface.specs.Judge.{judge, between, optional, windFits, judgeWind, tenthsFit, judgeAir, moistFits, judgeMoisture, judgePressure, heightFits, judgeLevel, changeFits, changeAgrees, judgeTendency, amountFits, fallFits, noFall, judgeRainfall, judgeWeather, judgeClouds, clockFits, judgeClock}
-use Rattle.surface.specs.Classes.{classFall, classRainfall, inTwo, speedInTwo}
+use Rattle.surface.specs.Judge.{between, optional, windFits, judgeWind, tenthsFit, judgeAir, moistFits, judgeMoisture, judgePressure, heightFits, judgeLevel, changeFits, changeAgrees, judgeTendency, amountFits, fallFits, noFall, judgeRainfall, judgeWeather, judgeClouds, clockFits, judgeClock}
+use Rattle.surface.specs.Classes.{classFall, classRainfall, speedInTwo}
 use Rattle.surface.proofs.RoundTripParts.{figures-join, at, Laid, parts}
-use Rattle.surface.proofs.RoundTripFields.{fine, in-range, chosen, optional-fits, oneFigure, one-fits, is-missing, Slot, slot, partsOf, nth, part-is, asked-back}
+use Rattle.surface.proofs.RoundTripFields.{in-range, chosen, optional-fits, oneFigure, one-fits, is-missing, Slot, slot, partsOf, nth, part-is, asked-back}
 use Rattle.surface.proofs.RoundTripScales.{rain-written, rain-is, rain-again, amount-classed}
 use Rattle.surface.proofs.RoundTripHead.{wind-fine}
 
@@ -96,10 +98,6 @@ module _ {X : Type 0} {shape : Pattern} {must : Bool} {says : Group → Said} {m
 abbrev pub meantSpeed : Speed → Said
 meantSpeed speed.Missing = wrong
 meantSpeed (speed.Is s) = said.Speed s
-
--- ff is 99 just where 00fff has to stand
-pub gale-read : (s : ℕ) → eqb (inTwo s) 99 ≡ leb 99 s
-gale-read s = ⊎-elim (λ h. rw (le-leb 99 s h)) (λ h. rw (lt-leb 99 s h) (ne-eqb s 99 (λ q. omega arith))) (reached 99 s)
 
 speed-small : (d : Direction) (s : ℕ) → windFits d (speed.Is s) ≡ true → s ≤ 999
 speed-small direction.Missing s f = absurd (false≢true f)

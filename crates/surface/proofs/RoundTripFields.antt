@@ -14,19 +14,12 @@ use Rattle.shapes.proofs.Patterns.{both, or-cases}
 use Rattle.record.specs.declared.values.Number.{Number}
 use Rattle.record.specs.declared.values.Number.the-variants as number
 use Rattle.surface.specs.declared.kinds.Said.{Said}
-use Rattle.surface.specs.declared.kinds.Judged.the-variants as judged
 use Rattle.surface.specs.Reads.{Group, part}
 use Rattle.surface.specs.Shows.{fieldOf, isMissing}
-use Rattle.surface.specs.Judge.{judge, between, optional}
+use Rattle.surface.specs.Judge.{between, optional}
 use Rattle.surface.proofs.RoundTripParts.{Part, at, Holds}
 
 -- ---- the judgement
-
--- what is judged fine is in range and agrees
-pub fine : (within agrees : Bool) → judge within agrees ≡ judged.Fine → (within ≡ true) × (agrees ≡ true)
-fine true true e = (refl, refl)
-fine true false e = let z : _≡_ {A = ℕ} 0 1 = cc in absurd (omega arith)
-fine false agrees e = let z : _≡_ {A = ℕ} 0 1 = cc in absurd (omega arith)
 
 pub in-range : (low high n : ℕ) → between low high n ≡ true → (low ≤ n) × (n ≤ high)
 in-range low high n e = let t = both (leb low n) (leb n high) e in (leb-true low n (t .0), leb-true n high (t .1))

@@ -15,7 +15,7 @@ use borrow.Author.Tests.{leb-true, le-leb, lt-leb, eqb-true, ne-eqb}
 use Rattle.figures.specs.declared.kinds.Field.{Field}
 use Rattle.figures.specs.declared.kinds.Field.the-variants as field
 use Rattle.figures.specs.Quote.{bytes}
-use Rattle.figures.specs.Figures.{isFigure, isLetter, every, figures, numberText, fieldText, fieldAt, Fits}
+use Rattle.figures.specs.Figures.{isFigure, isLetter, every, numberText, fieldText, fieldAt, Fits}
 use Rattle.figures.specs.Signed.{negative, withSign}
 use Rattle.figures.proofs.Signs.{with-sign}
 use Rattle.shapes.specs.Pattern.{Pattern, hasPattern}
@@ -38,14 +38,15 @@ use Rattle.record.specs.declared.surface.Wind.{Wind}
 use Rattle.record.specs.declared.surface.Time.{Time}
 use Rattle.surface.specs.declared.kinds.Said.{Said}
 use Rattle.surface.specs.declared.kinds.Said.the-variants as said
-use Rattle.surface.specs.declared.kinds.Judged.the-variants as judged
+use Rattle.text.specs.declared.kinds.Judged.the-variants as judged
+use Rattle.text.proofs.Judging.{fine}
 use Rattle.surface.specs.Position.{isQuadrant, isSouth, isWest, quadrantOf}
 use Rattle.surface.specs.Reads.{Group, isUnit, timeOf, saidTime, saidStation, latitudeIs, saidLatitude, positionOf, saidLongitude, sightOf, indicatorsOf, saidIndicators, figured, mayMiss, missing, windBy, noWind, saidWind}
 use Rattle.surface.specs.Shows.{fieldOf, magnitudeOf, showTime, showStation, showSign, showLatitude, showLongitude, baseField, sightField, showIndicators, directionField, showWind}
 use Rattle.surface.specs.Judge.{between, present, optional, presentTenths, metres, judgeTime, judgeStation, judgeSign, judgePosition, sightFits, judgeIndicators, windFits, windAgrees, judgeWind}
-use Rattle.surface.specs.Classes.{classBase, classSight, classIndicators, classDirection, classWind, unsignedPosition, inTwo, speedInTwo, windInTwo}
+use Rattle.surface.specs.Classes.{classBase, classSight, classIndicators, classDirection, classWind, unsignedPosition, inTwo, windInTwo}
 use Rattle.surface.proofs.RoundTripParts.{Part, at, parts}
-use Rattle.surface.proofs.RoundTripFields.{fine, in-range, chosen, oneFigure, one-fits, part-is}
+use Rattle.surface.proofs.RoundTripFields.{in-range, chosen, oneFigure, one-fits, part-is}
 use Rattle.surface.proofs.RoundTripScales.{base-fits, base-is, base-again, base-classed, sight-fits, sight-is, sight-again, sight-classed, direction-written, direction-classed}
 
 -- A group that has the shape, and says what is meant.

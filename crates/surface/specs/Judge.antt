@@ -9,7 +9,8 @@ use lib.IntN.{ℤ, pos, negsuc, natAbs}
 use lib.Signed.{leZ}
 use Rattle.figures.specs.Figures.{isFigure, isLetter, every}
 use Rattle.figures.specs.Signed.{negative}
-use Rattle.text.specs.declared.kinds.Refusal.the-variants as refusal
+use Rattle.text.specs.declared.kinds.Judged.{Judged}
+use Rattle.text.specs.Judge.{judge}
 use Rattle.scales.specs.declared.kinds.Rain.{Rain}
 use Rattle.scales.specs.declared.kinds.Rain.the-variants as rain
 use Rattle.record.specs.declared.values.Number.{Number}
@@ -46,14 +47,8 @@ use Rattle.record.specs.declared.surface.Clouds.{Clouds}
 use Rattle.record.specs.declared.surface.Observed.{Observed}
 use Rattle.record.specs.declared.surface.Observed.the-variants as observed
 use Rattle.record.specs.declared.surface.Clock.{Clock}
-use Rattle.surface.specs.declared.kinds.Judged.{Judged}
-use Rattle.surface.specs.declared.kinds.Judged.the-variants as judged
 use Rattle.surface.specs.Reads.{isUnit, isLevel, agree}
 use Rattle.surface.specs.Shows.{noWeather}
-
--- in range and agreeing, or 11, or 7
-abbrev pub judge : Bool → Bool → Judged
-judge within agrees = cond within (cond agrees judged.Fine (judged.Refused refusal.Disagreement)) (judged.Refused refusal.Value)
 
 -- ---- ranges
 

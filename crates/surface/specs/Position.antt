@@ -2,7 +2,7 @@
 -- read as 180.0 E; a record's longitude runs from -179.9 to 180.0."
 -- Assumes nothing: these are definitions.
 use Prim.Native.Nat.{ℕ}
-use mathlib.Core.Bool.{Bool, true, false, cond, not, _&&_, _||_}
+use mathlib.Core.Bool.{Bool, cond, not, _&&_, _||_}
 use lib.Dec.{eqb}
 use lib.IntN.{ℤ}
 use Rattle.figures.specs.Signed.{negative, withSign}

@@ -1,9 +1,9 @@
 -- What each group of a SYNOP or SHIP says: document 01's list, in its order. A number field is a number, missing ("Missing is slashes, as many as
 -- letters"), or neither: "any mixture of slashes and figures not named here is 5".
 -- Assumes nothing: these are definitions.
-use Prim.Native.Nat.{ℕ, zero, suc, _+_, _-_, _*_, _/_, _%_}
+use Prim.Native.Nat.{ℕ, _+_, _/_, _%_}
 use mathlib.Core.Bool.{Bool, true, false, cond, not, _&&_, _||_}
-use mathlib.Core.List.{List, [], _∷_}
+use mathlib.Core.List.{List}
 use lib.Dec.{leb, ltb, eqb}
 use lib.IntN.{ℤ, pos, natAbs}
 use Rattle.figures.specs.declared.kinds.Field.{Field}

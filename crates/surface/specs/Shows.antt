@@ -14,7 +14,6 @@ use Rattle.figures.specs.Figures.{figures, fieldText}
 use Rattle.figures.specs.Signed.{negative}
 use Rattle.scales.specs.declared.kinds.Figure.{Figure}
 use Rattle.scales.specs.declared.kinds.Figure.the-variants as figure
-use Rattle.scales.specs.declared.kinds.Rain.{Rain}
 use Rattle.scales.specs.Metres.{land, sea, base, metresFigure}
 use Rattle.scales.specs.Rounded.{rainFigure, directionFigure}
 use Rattle.record.specs.declared.values.Number.{Number}
@@ -187,8 +186,7 @@ showTendency t = tendencyGroup (t .is)
 
 -- a group that is all slashes is written only where it is required
 abbrev pub ifRequired : Bool → Group → List Group
-ifRequired true g = g ∷ []
-ifRequired false g = []
+ifRequired required g = cond required (g ∷ []) []
 
 abbrev pub rainfallGroup : Bool → Fall → List Group
 rainfallGroup required fall.Missing = ifRequired required (bytes "6////")

@@ -34,9 +34,3 @@ pub enum Said {
     Clouds(Clouds),
     Clock(Clock),
 }
-
-// The writer's judgement of a group: it can be written, or its refusal, 11 or 7.
-pub enum Judged {
-    Fine,
-    Refused(Refusal),
-}

@@ -1,15 +1,13 @@
--- What the judging functions say in the definitions' words: a range from zero; a wind's speed by its direction; a test of every byte, taken from a position on.
+-- What the judging functions say in the definitions' words: a range from zero; a wind's speed by its direction.
 -- Assumes nothing.
 use mathlib.Core.Path.{_≡_, refl}
-use mathlib.Core.Bool.{Bool, true, false, _&&_, and-false}
+use mathlib.Core.Bool.{_&&_, and-false}
 use mathlib.Core.List.{List, [], _∷_}
-use Prim.Native.Nat.{ℕ, zero, suc, _+_, _≤_, _<_}
+use Prim.Native.Nat.{ℕ, zero, suc, _≤_}
 use native.Mathlib.Omega.{arith}
-use native.Mathlib.Numerals.{add-one}
-use lib.ListN.{length, drop, getD}
+use lib.ListN.{length, drop}
 use lib.Dec.{leb, leb·zero}
-use lib.Seq.{drop-cons, drop-length, drop-nil}
-use Rattle.figures.specs.Figures.{every}
+use lib.Seq.{drop-nil}
 use Rattle.record.specs.declared.values.Number.{Number}
 use Rattle.record.specs.declared.values.Number.the-variants as number
 use Rattle.record.specs.declared.values.Direction.the-variants as direction
@@ -42,18 +40,6 @@ fits-variable (speed.Is s) = refl
 pub fits-degrees : (d : ℕ) (s : Speed) → (leb d 359 && speedFits s) ≡ windFits (direction.Degrees d) s
 fits-degrees d speed.Missing = and-false (leb d 359)
 fits-degrees d (speed.Is s) = refl
-
--- what one more byte, a byte at fault and the end say of a test of every byte
-
-module _ (P : ℕ → Bool) (s : List ℕ) (i : ℕ) where
-  pub every-next : i < length s → P (getD s i 0) ≡ true → every P (drop i s) ≡ every P (drop (i + 1) s)
-  every-next h e = rw (add-one, drop-cons s i 0, e)
-
-  pub every-stop : i < length s → P (getD s i 0) ≡ false → every P (drop i s) ≡ false
-  every-stop h e = rw (drop-cons s i 0, e)
-
-  pub every-end : i ≡ length s → every P (drop i s) ≡ true
-  every-end h = rw (h, drop-length s)
 
 -- past a list's end nothing stands
 pub drop-past : (s : List ℕ) (k : ℕ) → length s ≤ k → drop k s ≡ []

@@ -1,21 +1,12 @@
--- What the printers' texts are in the definitions' words: a group that is left out, the figure of a sign, a group that is written where it is
--- required or says something.
+-- What the printers' texts are in the definitions' words: the figure of a sign, a group that is written where it is required or says something.
 -- Assumes nothing.
 use mathlib.Core.Path.{_≡_, refl}
 use mathlib.Core.Bool.{Bool, true, false, cond, not, _||_}
-use mathlib.Core.List.{List, [], _∷_}
-use Prim.Native.Nat.{ℕ}
+use mathlib.Core.List.{[], _∷_}
 use Rattle.figures.specs.Quote.{bytes}
 use Rattle.figures.specs.Figures.{figures}
-use Rattle.figures.specs.Put.{Put}
-use Rattle.figures.proofs.Puts.{put-none}
-use Rattle.text.specs.Groups.{written}
 use Rattle.surface.specs.Reads.{Group}
 use Rattle.surface.specs.Shows.{ifRequired}
-
-pub write-none : (b : List ℕ) (at : ℕ) → Put b at (written at []) at b
-unfolding written
-write-none b at = put-none b at
 
 pub sign-figure : (minus : Bool) → figures 1 (cond minus 1 0) ≡ cond minus (bytes "1") (bytes "0")
 unfolding figures

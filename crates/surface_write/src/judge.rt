@@ -1,8 +1,6 @@
 // What the writer judges of each group before it writes anything: first its ranges (refusal 11), then its agreement (refusal 7).
 use crate::write::name_part;
 use crate::write::no_weather;
-use figures::is_figure;
-use figures::is_letter;
 use figures::signed;
 use record::surface::Air;
 use record::surface::CallSign;
@@ -29,31 +27,16 @@ use record::values::Number;
 use record::values::Speed;
 use record::values::Tenths;
 use scales::kinds::Rain;
-use surface::kinds::Judged;
-use text::kinds::Refusal;
+use surface::sign::slots_fit;
+use text::judge::judge;
+use text::kinds::Judged;
 ghost use mathlib.Core.Path.{_≡_};
 ghost use lib.ListN.{drop};
-ghost use Rattle.figures.specs.Figures.{every};
-ghost use Rattle.surface.specs.Judge.{judge, between, present, optional};
-ghost use Rattle.surface.specs.Judge.{unitFits, slotFits, latitudeFits, longitudeFits, sightFits, noSpeed, speedFits, windFits, isStill, windAgrees};
+ghost use Rattle.surface.specs.Judge.{between, present, optional};
+ghost use Rattle.surface.specs.Judge.{unitFits, latitudeFits, longitudeFits, sightFits, noSpeed, speedFits, windFits, isStill, windAgrees};
 ghost use Rattle.surface.specs.Judge.{tenthsFit, moistFits, heightFits, changeFits, changeSuits, changeAgrees, amountFits, fallFits, noFall, clockFits};
 ghost use Rattle.surface.specs.Judge.{judgeTime, judgeStation, judgeSign, judgePosition, judgeIndicators, judgeWind};
 ghost use Rattle.surface.specs.Judge.{judgeAir, judgeMoisture, judgePressure, judgeLevel, judgeTendency, judgeRainfall, judgeWeather, judgeClouds, judgeClock};
-
-// In range and agreeing, or refusal 11, or refusal 7.
-fn verdict(within: bool, agrees: bool) -> Judged
-    ensures { λ r. ⌜ r ≡ judge within agrees ⌝ }
-{
-    if within {
-        if agrees {
-            Judged::Fine
-        } else {
-            Judged::Refused(Refusal::Disagreement)
-        }
-    } else {
-        Judged::Refused(Refusal::Value)
-    }
-}
 
 // A number that has to be there.
 fn present_between(n: Number, low: u32, high: u32) -> bool
@@ -90,7 +73,7 @@ pub fn judge_time(t: Time) -> Judged
     let day = t.day;
     let hour = t.hour;
     let unit = t.unit;
-    verdict(
+    judge(
         present_between(day, 1, 31) & present_between(hour, 0, 23) & unit_fits(unit),
         true,
     )
@@ -99,32 +82,7 @@ pub fn judge_time(t: Time) -> Judged
 pub fn judge_station(n: Number) -> Judged
     ensures { λ r. ⌜ r ≡ judgeStation n ⌝ }
 {
-    verdict(present_between(n, 0, 99999), true)
-}
-
-// A slot of a name: a letter or figure up to the count, blank past it.
-fn slot_fits(filled: bool, b: u8) -> bool
-    ensures { λ r. ⌜ r ≡ slotFits filled b ⌝ }
-{
-    if filled {
-        is_letter(b) | is_figure(b)
-    } else {
-        b == 0
-    }
-}
-
-pub fn slots_fit(filled: bool, s: &[u8]) -> bool
-    ensures { λ r. ⌜ r ≡ every (slotFits filled) (now (s .entry)) ⌝ }
-{
-    let mut i = 0;
-    while i < s.len() {
-        if slot_fits(filled, s[i]) {
-            i += 1;
-        } else {
-            return false;
-        }
-    }
-    true
+    judge(present_between(n, 0, 99999), true)
 }
 
 // The slots past the count; none where the count is too large.
@@ -145,7 +103,7 @@ pub fn judge_sign(s: CallSign) -> Judged
     let length = s.length;
     let name = slots_fit(true, name_part(&letters, length));
     let blank = slots_fit(false, blank_part(&letters, length));
-    verdict((3 <= length) & (length <= 9) & name & blank, true)
+    judge((3 <= length) & (length <= 9) & name & blank, true)
 }
 
 fn latitude_fits(t: Tenths) -> bool
@@ -172,7 +130,7 @@ pub fn judge_position(p: Position) -> Judged
 {
     let latitude = p.latitude;
     let longitude = p.longitude;
-    verdict(latitude_fits(latitude) & longitude_fits(longitude), true)
+    judge(latitude_fits(latitude) & longitude_fits(longitude), true)
 }
 
 fn sight_fits(s: Sight) -> bool
@@ -192,7 +150,7 @@ pub fn judge_indicators(i: Indicators) -> Judged
     let weather = i.weather;
     let base = i.base;
     let sight = i.sight;
-    verdict(
+    judge(
         present_between(rain, 0, 4)
             & present_between(weather, 1, 7)
             & optional_between(base, 0, 99999)
@@ -201,7 +159,7 @@ pub fn judge_indicators(i: Indicators) -> Judged
     )
 }
 
-fn no_speed(s: Speed) -> bool
+pub fn no_speed(s: Speed) -> bool
     ensures { λ r. ⌜ r ≡ noSpeed s ⌝ }
 {
     match s {
@@ -258,7 +216,7 @@ pub fn judge_wind(w: Wind) -> Judged
     let cover = w.cover;
     let d = w.direction;
     let s = w.speed;
-    verdict(
+    judge(
         optional_between(cover, 0, 9) & wind_fits(d, s),
         wind_agrees(d, s),
     )
@@ -277,7 +235,7 @@ pub fn judge_air(a: Air) -> Judged
     ensures { λ r. ⌜ r ≡ judgeAir a ⌝ }
 {
     let t = a.temperature;
-    verdict(tenths_fit(t), true)
+    judge(tenths_fit(t), true)
 }
 
 fn moist_fits(m: Moist) -> bool
@@ -294,14 +252,14 @@ pub fn judge_moisture(m: Moisture) -> Judged
     ensures { λ r. ⌜ r ≡ judgeMoisture m ⌝ }
 {
     let is = m.is;
-    verdict(moist_fits(is), true)
+    judge(moist_fits(is), true)
 }
 
 pub fn judge_pressure(p: Pressure) -> Judged
     ensures { λ r. ⌜ r ≡ judgePressure p ⌝ }
 {
     let station = p.station;
-    verdict(optional_between(station, 1000, 10999), true)
+    judge(optional_between(station, 1000, 10999), true)
 }
 
 fn height_fits(h: Height) -> bool
@@ -321,7 +279,7 @@ pub fn judge_level(l: Level) -> Judged
     ensures { λ r. ⌜ r ≡ judgeLevel l ⌝ }
 {
     let is = l.is;
-    verdict(height_fits(is), true)
+    judge(height_fits(is), true)
 }
 
 fn change_fits(c: Change) -> bool
@@ -358,7 +316,7 @@ pub fn judge_tendency(t: Tendency) -> Judged
     ensures { λ r. ⌜ r ≡ judgeTendency t ⌝ }
 {
     let is = t.is;
-    verdict(change_fits(is), change_agrees(is))
+    judge(change_fits(is), change_agrees(is))
 }
 
 fn amount_fits(r: Rain) -> bool
@@ -395,7 +353,7 @@ pub fn judge_rainfall(forbidden: bool, r: Rainfall) -> Judged
     ensures { λ j. ⌜ j ≡ judgeRainfall forbidden r ⌝ }
 {
     let is = r.is;
-    verdict(fall_fits(is), !forbidden | no_fall(is))
+    judge(fall_fits(is), !forbidden | no_fall(is))
 }
 
 pub fn judge_weather(forbidden: bool, w: Weather) -> Judged
@@ -404,7 +362,7 @@ pub fn judge_weather(forbidden: bool, w: Weather) -> Judged
     let present = w.present;
     let past = w.past;
     let past2 = w.past2;
-    verdict(
+    judge(
         optional_between(present, 0, 99)
             & optional_between(past, 0, 9)
             & optional_between(past2, 0, 9),
@@ -419,7 +377,7 @@ pub fn judge_clouds(c: Clouds) -> Judged
     let low = c.low;
     let middle = c.middle;
     let high = c.high;
-    verdict(
+    judge(
         optional_between(amount, 0, 9)
             & optional_between(low, 0, 9)
             & optional_between(middle, 0, 9)
@@ -441,5 +399,5 @@ pub fn judge_clock(c: Clock) -> Judged
     ensures { λ r. ⌜ r ≡ judgeClock c ⌝ }
 {
     let is = c.is;
-    verdict(clock_fits(is), true)
+    judge(clock_fits(is), true)
 }

@@ -37,7 +37,8 @@ use scales::metres::base_figure;
 use scales::metres::land_figure;
 use scales::metres::sea_figure;
 use scales::rain::rain_figure;
-use text::open_group;
+use text::write::open_group;
+use text::write::put_if;
 ghost use mathlib.Core.Path.{_≡_};
 ghost use mathlib.Core.Bool.{cond};
 ghost use mathlib.Core.List.{_∷_, [], _++_};
@@ -49,7 +50,7 @@ ghost use Rattle.figures.specs.Put.{Put};
 ghost use Rattle.figures.specs.Quote.{bytes};
 ghost use Rattle.text.specs.Groups.{written};
 ghost use Rattle.scales.specs.Rounded.{rainFigure};
-ghost use Rattle.surface.specs.Shows.{fieldOf, fieldBy, magnitudeOf, signedValue, signText, isMissing, noWeather, noClouds, ifRequired};
+ghost use Rattle.surface.specs.Shows.{fieldOf, fieldBy, magnitudeOf, signedValue, signText, isMissing, noWeather, noClouds};
 ghost use Rattle.surface.specs.Shows.{baseField, sightField, directionField, speedField, weatherText, cloudsText};
 ghost use Rattle.surface.specs.Shows.{showTime, showStation, showSign, showLatitude, showLongitude, showIndicators, showWind, showSpeed, showAir, showMoisture, showPressure};
 ghost use Rattle.surface.specs.Shows.{showLevel, showTendency, showRainfall, showWeather, showClouds, showClock};
@@ -368,25 +369,13 @@ fn put_fall(out: &mut [u8], at: usize, amount: Rain, period: Number) -> usize
     put_part(out, measured, 1, period)
 }
 
-// A fall that nothing is known of: slashes, where the group is required.
-fn put_no_fall(out: &mut [u8], at: usize, required: bool) -> usize
-    ensures { λ r. ⌜ Put (now (out .entry)) at (written at (ifRequired required (bytes "6////"))) r (now (out .exit)) ⌝ }
-{
-    if required {
-        let opened = open_group(out, at);
-        put_text(out, opened, b"6////")
-    } else {
-        at
-    }
-}
-
-// 6RRRt
+// 6RRRt: slashes where it is required and nothing is known of it.
 pub fn put_rainfall(out: &mut [u8], at: usize, required: bool, r: Rainfall) -> usize
     ensures { λ n. ⌜ Put (now (out .entry)) at (written at (showRainfall required r)) n (now (out .exit)) ⌝ }
 {
     let is = r.is;
     match is {
-        Fall::Missing => put_no_fall(out, at, required),
+        Fall::Missing => put_if(out, at, required, b"6////"),
         Fall::Is { amount, period } => put_fall(out, at, amount, period),
     }
 }

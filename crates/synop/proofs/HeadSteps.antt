@@ -1,19 +1,16 @@
 -- The laws of the groups known by position: call signs, and how reading goes on from post to post of the text.
 -- Assumes nothing.
-use Prim.Native.Nat.{ℕ, zero, suc, _+_, _≤_, _<_}
-use native.Mathlib.Numerals.{add-one}
+use Prim.Native.Nat.{ℕ, _+_}
 use mathlib.Core.Path.{_≡_, refl, sym, ap, _∙_}
 use mathlib.Core.Bool.{Bool, true, false, cond, _&&_}
 use mathlib.Core.List.{List, [], _∷_, _++_}
-use lib.ListN.{length, take, drop, getD, replicate, drop-of-length-le}
-use lib.Seq.{drop-cons}
-use Rattle.figures.specs.Figures.{every}
+use lib.ListN.{length, take, getD, replicate}
 use Rattle.text.specs.declared.kinds.Refusal.the-variants as refusal
 use Rattle.text.specs.declared.kinds.Tail.{Tail}
 use Rattle.text.specs.declared.kinds.Tail.the-variants.{Clear, Junk}
 use Rattle.text.specs.declared.kinds.Cut.{Cut}
 use Rattle.text.specs.declared.kinds.Cut.the-variants.{Group as Stands, End}
-use Rattle.text.specs.Groups.{Piece, groupsFrom, nextOf, partOf}
+use Rattle.text.specs.Groups.{groupsFrom, nextOf, partOf}
 use Rattle.text.specs.Text.{tailOf}
 use Rattle.text.proofs.Groups.{when-group, when-end}
 use Rattle.places.specs.Engine.{Group, Read, Good, Bad, Outcome, Fault}
@@ -22,23 +19,9 @@ use Rattle.synop.specs.declared.kinds.Stage.{Stage}
 use Rattle.synop.specs.declared.kinds.Stage.the-variants as stage
 use Rattle.synop.specs.declared.kinds.Head.{Head}
 use Rattle.synop.specs.Read.{Post, isNil, afterNil, cutShort, onward, walk}
-use Rattle.synop.specs.Head.{headOf, refusedAt, ofRead, entered, endedShort, atCut, onGoing, advance, advances, byStage, outcome}
+use Rattle.synop.specs.Head.{refusedAt, ofRead, entered, endedShort, atCut, onGoing, advance, advances, outcome}
 
 -- ---- call signs
-
--- every byte of a list, from position i on
-module _ (test : ℕ → Bool) (g : List ℕ) (i : ℕ) where
-  at : i < length g → every test (drop i g) ≡ (test (getD g i 0) && every test (drop (i + 1) g))
-  at h = rw (add-one i) (ap (every test) (drop-cons g i 0 h))
-
-  pub every-next : i < length g → test (getD g i 0) ≡ true → every test (drop i g) ≡ every test (drop (i + 1) g)
-  every-next h e = at h ∙ rw e
-
-  pub every-stop : i < length g → test (getD g i 0) ≡ false → every test (drop i g) ≡ false
-  every-stop h e = at h ∙ rw e
-
-  pub every-end : length g ≤ i → every test (drop i g) ≡ true
-  every-end h = ap (every test) (drop-of-length-le g h)
 
 -- the nine bytes of a call sign, 0 past its end
 pub nine-bytes : (g : List ℕ)

@@ -14,11 +14,14 @@ use Rattle.text.specs.Groups.{Piece, groupsFrom, partOf}
 use Rattle.text.specs.Text.{bytesOf, tailOf}
 use Rattle.text.proofs.Groups.{Follows}
 use Rattle.shapes.specs.Pattern.{hasPattern}
-use Rattle.places.specs.Engine.{Group, Outcome, Fault}
+use Rattle.places.specs.Engine.{Group, Fault}
+use Rattle.places.specs.Answer.{afterBytes}
 use Rattle.record.specs.declared.surface.Synop.{Synop}
+use Rattle.record.specs.Blank.{blankSynop}
 use Rattle.synop.specs.declared.kinds.Head.{Head}
-use Rattle.synop.specs.declared.kinds.Reading.{Reading}
-use Rattle.synop.specs.Read.{posts, afterNil, walk, begun, fromFirst, refused, answer, afterBytes, readOf}
+use Rattle.synop_section.specs.declared.kinds.Reading.{Reading}
+use Rattle.synop_section.specs.Answer.{begun, reading, refused, answer}
+use Rattle.synop.specs.Read.{posts, afterNil, walk, fromFirst, readOf}
 use Rattle.synop.specs.Head.{headOf, advances, outcome}
 use Rattle.synop.proofs.HeadSteps.{outcome-all}
 
@@ -71,6 +74,6 @@ module _ (t : List ℕ) (s e : ℕ) {g : Group} (follows : Follows t 0 s e) (cut
 
 -- ---- the text as a whole
 
-pub read-by : (t : List ℕ) {x y : Bytes} → x ≡ y → x ≡ bytesOf t → afterBytes y (whole t) ≡ readOf t
+pub read-by : (t : List ℕ) {x y : Bytes} → x ≡ y → x ≡ bytesOf t → afterBytes reading blankSynop y (whole t) ≡ readOf t
 unfolding readOf
-read-by t is asked = ap (λ (z : Bytes). afterBytes z (whole t)) (sym is ∙ asked)
+read-by t is asked = ap (λ (z : Bytes). afterBytes reading blankSynop z (whole t)) (sym is ∙ asked)

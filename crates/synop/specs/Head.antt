@@ -1,10 +1,9 @@
 -- The groups known by position, as they are taken one after the other from the text.
 -- Assumes nothing: these are definitions.
 use Prim.Native.Nat.{ℕ}
-use mathlib.Core.Bool.{Bool, cond, _&&_, _||_}
+use mathlib.Core.Bool.{cond, _&&_}
 use mathlib.Core.List.{List, [], _∷_}
 use lib.ListN.{length}
-use Rattle.figures.specs.Figures.{isFigure, isLetter}
 use Rattle.text.specs.declared.kinds.Refusal.{Refusal}
 use Rattle.text.specs.declared.kinds.Refusal.the-variants as refusal
 use Rattle.text.specs.declared.kinds.Tail.{Tail}
@@ -14,17 +13,18 @@ use Rattle.text.specs.declared.kinds.Cut.the-variants.{Group as Stands, End}
 use Rattle.text.specs.Groups.{groupsFrom, nextOf, partOf}
 use Rattle.text.specs.Text.{tailOf}
 use Rattle.places.specs.Engine.{Group, Read, Good, Bad, Outcome, Fault}
+use Rattle.record.specs.declared.surface.Position.{Position}
 use Rattle.record.specs.declared.surface.Synop.{Synop}
+use Rattle.surface.specs.declared.kinds.Said.{Said}
+use Rattle.surface.specs.declared.kinds.Said.the-variants as said
+use Rattle.surface.specs.Reads.{saidTime, saidStation, saidLatitude, saidLongitude, saidIndicators, saidWind}
 use Rattle.synop.specs.declared.kinds.Post.{Post as Name}
 use Rattle.synop.specs.declared.kinds.Post.the-variants as name
 use Rattle.synop.specs.declared.kinds.Stage.{Stage}
 use Rattle.synop.specs.declared.kinds.Stage.the-variants as stage
 use Rattle.synop.specs.declared.kinds.Head.{Head}
-use Rattle.synop.specs.Read.{Post, timePost, stationPost, signPost, latitudePost, longitudePost, indicatorsPost, windPost, isNil, afterNil, walk}
-
--- "letters and figures"
-abbrev pub inSign : ℕ → Bool
-inSign b = isLetter b || isFigure b
+use Rattle.synop_section.specs.Section.{orElse}
+use Rattle.synop.specs.Read.{Post, withHead, timePost, stationPost, signPost, latitudePost, longitudePost, indicatorsPost, windPost, isNil, afterNil, walk}
 
 -- the post by its name
 abbrev pub postOf : Name → Post
@@ -35,6 +35,20 @@ postOf name.Latitude = latitudePost
 postOf name.Longitude = longitudePost
 postOf (name.Indicators land) = indicatorsPost land
 postOf name.Wind = windPost
+
+-- the report with what a group says
+abbrev pub headOnto : Said → Synop → Synop
+headOnto x r = orElse r (withHead x r)
+
+-- what the group at a post says, after a position whose sign is still to come; a call sign is taken as it stands
+abbrev pub saidBy : Name → Position → Group → Said
+saidBy name.Time p g = saidTime g
+saidBy name.Station p g = saidStation g
+saidBy name.Sign p g = said.Refused refusal.Shape
+saidBy name.Latitude p g = saidLatitude g
+saidBy name.Longitude p g = saidLongitude p g
+saidBy (name.Indicators land) p g = saidIndicators g
+saidBy name.Wind p g = saidWind g
 
 -- all right up to a position of the text
 abbrev pub headOf : ℕ → Synop → Head

@@ -2,34 +2,26 @@
 -- the row of section 1.
 -- Assumes nothing: these are definitions.
 use Prim.Native.Nat.{ℕ, _+_}
-use mathlib.Core.Bool.{Bool, true, false, cond, not, _&&_, _||_}
+use mathlib.Core.Bool.{Bool, true, false, cond, _&&_, _||_}
 use mathlib.Core.List.{List, [], _∷_, _++_}
 use lib.ListN.{length, take, replicate}
-use lib.Dec.{leb, ltb, eqb}
-use lib.IntN.{ℤ, pos, natAbs}
+use lib.Dec.{leb}
 use Rattle.figures.specs.Quote.{bytes}
 use Rattle.figures.specs.Figures.{isFigure, isLetter, every}
-use Rattle.text.specs.declared.kinds.Refusal.{Refusal}
 use Rattle.text.specs.declared.kinds.Refusal.the-variants as refusal
 use Rattle.text.specs.declared.kinds.Tail.{Tail}
 use Rattle.text.specs.declared.kinds.Tail.the-variants.{Clear, Junk}
-use Rattle.text.specs.declared.kinds.Bytes.{Bytes}
-use Rattle.text.specs.declared.kinds.Bytes.the-variants as judgement
 use Rattle.text.specs.Groups.{Piece, groupsFrom}
 use Rattle.text.specs.Text.{bytesOf, tailOf}
 use Rattle.shapes.specs.Pattern.{hasPattern}
-use Rattle.places.specs.Engine.{Group, Read, Good, Bad, Outcome, Done, Fault, run}
-use Rattle.record.specs.declared.values.Number.{Number}
+use Rattle.places.specs.Engine.{Group, Read, Good, Bad, Outcome, Done, Fault}
+use Rattle.places.specs.Answer.{afterBytes}
 use Rattle.record.specs.declared.values.Number.the-variants as number
-use Rattle.record.specs.declared.values.Tenths.{Tenths as Signed}
-use Rattle.record.specs.declared.values.Tenths.the-variants as signed
 use Rattle.record.specs.declared.values.Speed.{Speed}
-use Rattle.record.specs.declared.values.Speed.the-variants as speed
 use Rattle.record.specs.declared.surface.CallSign.{CallSign}
 use Rattle.record.specs.declared.surface.Position.{Position}
 use Rattle.record.specs.declared.surface.Wind.{Wind}
 use Rattle.record.specs.declared.surface.Surface.{Surface}
-use Rattle.record.specs.declared.surface.Site.{Site}
 use Rattle.record.specs.declared.surface.Synop.{Synop}
 use Rattle.record.specs.Blank.{blankSynop}
 use Rattle.record.specs.Set.{setStation, setSign, setPosition, setTime, setNil, setSite, setSurface, setIndicators, setWind}
@@ -38,9 +30,9 @@ use Rattle.surface.specs.declared.kinds.Said.the-variants as said
 use Rattle.surface.specs.Reads.{saidTime, saidStation, saidLatitude, saidLongitude, saidIndicators, saidWind}
 use Rattle.surface.specs.Shows.{showTime, showStation, showSign, showLatitude, showLongitude, showIndicators, showWind}
 use Rattle.surface.specs.Classes.{classIndicators, unsignedPosition, windInTwo}
-use Rattle.synop.specs.declared.kinds.Verdict.the-variants as verdict
-use Rattle.synop.specs.declared.kinds.Reading.{Reading}
-use Rattle.synop.specs.Row.{needsOf, withSaid, row, stopWords}
+use Rattle.synop_section.specs.declared.kinds.Reading.{Reading}
+use Rattle.synop_section.specs.Row.{withSaid}
+use Rattle.synop_section.specs.Answer.{begun, section, reading, answer}
 
 -- ---- the groups through Nddff
 
@@ -135,14 +127,6 @@ afterNil (Junk at) end r [] = Fault refusal.Shape at
 afterNil Clear end r [] = Done end (setSite (setNil true (r .site)) r)
 afterNil tail end r (g ∷ gs) = Fault refusal.Shape (g .start)
 
-abbrev pub ontoReport : Synop → Outcome Surface → Outcome Synop
-ontoReport r (Done at s) = Done at (setSurface s r)
-ontoReport r (Fault f at) = Fault f at
-
--- section 1 after Nddff
-unfoldable pub section : Synop → Tail → ℕ → List Piece → Outcome Synop
-section r tail end gs = ontoReport r (run (row (needsOf (r .surface))) stopWords tail end 0 0 (r .surface) gs)
-
 abbrev pub onward : Read Synop → ℕ → (Synop → Outcome Synop) → Outcome Synop
 onward (Good r) at k = k r
 onward (Bad f) at k = Fault f at
@@ -155,10 +139,6 @@ walk (p ∷ ps) r tail end (g ∷ gs) =
     cond (p .nil && isNil (g .bytes)) (afterNil tail end r gs)
     (cond (p .has (g .bytes)) (onward (p .read (g .bytes) r) (g .start) (λ r′. walk ps r′ tail end gs)) (Fault refusal.Shape (g .start)))
 
--- a blank record of the kind
-abbrev pub begun : Bool → Synop
-begun ship = record { ship = ship; site = blankSynop .site; surface = blankSynop .surface }
-
 -- refusal 3: "the first group is not AAXX, BBXX, METAR, SPECI or TAF; its place, 0 if no group stands before an "=" or the end". Here AAXX and BBXX.
 unfoldable pub fromFirst : Tail → ℕ → List Piece → Outcome Synop
 fromFirst tail end [] = Fault refusal.Kind 0
@@ -166,21 +146,6 @@ fromFirst tail end (g ∷ gs) =
     cond (hasPattern (g .bytes) (bytes "AAXX")) (walk (posts false) (begun false) tail end gs)
     (cond (hasPattern (g .bytes) (bytes "BBXX")) (walk (posts true) (begun true) tail end gs) (Fault refusal.Kind (g .start)))
 
-abbrev pub accepted : ℕ → Synop → Reading
-accepted rest r = record { verdict = verdict.Accepted rest; report = r }
-
-abbrev pub refused : Refusal → ℕ → Reading
-refused f at = record { verdict = verdict.Refused f at; report = blankSynop }
-
-abbrev pub answer : Outcome Synop → Reading
-answer (Done rest r) = accepted rest r
-answer (Fault f at) = refused f at
-
-abbrev pub afterBytes : Bytes → Reading → Reading
-afterBytes judgement.Sound r = r
-afterBytes judgement.Length r = refused refusal.Length 0
-afterBytes (judgement.Byte at) r = refused refusal.Byte at
-
 -- WHAT A TEXT IS READ AS. "1, 2 and 3 are judged over the whole text in that order. Then groups go left to right and the first at fault answers".
 unfoldable pub readOf : List ℕ → Reading
-readOf text = afterBytes (bytesOf text) (answer (fromFirst (tailOf text) (length text) (groupsFrom text 0)))
+readOf text = afterBytes reading blankSynop (bytesOf text) (answer (fromFirst (tailOf text) (length text) (groupsFrom text 0)))

@@ -4,19 +4,21 @@ use Prim.Native.Nat.{ℕ, _+_}
 use mathlib.Core.Bool.{Bool, true, false, cond, not, _&&_, _||_}
 use mathlib.Core.List.{List, [], _∷_, _++_}
 use lib.ListN.{length}
-use lib.Dec.{leb, ltb, eqb}
+use lib.Dec.{eqb}
 use Rattle.figures.specs.Quote.{bytes}
 use Rattle.figures.specs.Figures.{every}
 use Rattle.text.specs.declared.kinds.Refusal.the-variants as refusal
+use Rattle.text.specs.declared.kinds.Judged.{Judged}
+use Rattle.text.specs.declared.kinds.Judged.the-variants as judged
+use Rattle.text.specs.declared.kinds.Written.{Written}
+use Rattle.text.specs.Judge.{andThen}
+use Rattle.text.specs.Write.{answerBy, bufferBy}
 use Rattle.text.specs.Groups.{join}
 use Rattle.places.specs.Engine.{Group, written}
-use Rattle.record.specs.declared.values.Number.{Number}
-use Rattle.record.specs.declared.values.Number.the-variants as number
 use Rattle.record.specs.declared.values.Tenths.{Tenths as Signed}
 use Rattle.record.specs.declared.values.Tenths.the-variants as signed
 use Rattle.record.specs.declared.values.Direction.{Direction}
 use Rattle.record.specs.declared.values.Direction.the-variants as direction
-use Rattle.record.specs.declared.values.Speed.{Speed}
 use Rattle.record.specs.declared.values.Speed.the-variants as speed
 use Rattle.record.specs.declared.surface.CallSign.{CallSign}
 use Rattle.record.specs.declared.surface.Position.{Position}
@@ -31,18 +33,12 @@ use Rattle.record.specs.declared.surface.Change.the-variants as change
 use Rattle.record.specs.declared.surface.Observed.{Observed}
 use Rattle.record.specs.declared.surface.Observed.the-variants as observed
 use Rattle.record.specs.declared.surface.Surface.{Surface}
-use Rattle.record.specs.declared.surface.Site.{Site}
 use Rattle.record.specs.declared.surface.Synop.{Synop}
-use Rattle.surface.specs.declared.kinds.Judged.{Judged}
-use Rattle.surface.specs.declared.kinds.Judged.the-variants as judged
 use Rattle.surface.specs.Shows.{isMissing, noWeather, noClouds, showTime, showStation, showSign, showLatitude, showLongitude, showIndicators, showWind}
-use Rattle.surface.specs.Judge.{judgeTime, judgeStation, judgeSign, judgePosition, judgeIndicators, judgeWind, judgeAir, judgeMoisture, judgePressure, judgeLevel, judgeTendency, judgeRainfall, judgeWeather, judgeClouds, judgeClock, noFall}
+use Rattle.surface.specs.Judge.{judgeTime, judgeStation, judgeSign, judgePosition, judgeIndicators, judgeWind, judgeAir, judgeMoisture, judgePressure, judgeLevel, judgeTendency, judgeRainfall, judgeWeather, judgeClouds, judgeClock, noSpeed, noFall}
 use Rattle.surface.specs.Classes.{classIndicators, classWind, classRainfall}
-use Rattle.figures.specs.Put.{splice}
-use Rattle.synop.specs.declared.kinds.Needs.{Needs}
-use Rattle.synop.specs.declared.kinds.Written.{Written}
-use Rattle.synop.specs.declared.kinds.Written.the-variants as answer
-use Rattle.synop.specs.Row.{needsOf, row}
+use Rattle.synop_section.specs.declared.kinds.Needs.{Needs}
+use Rattle.synop_section.specs.Row.{needsOf, row}
 
 -- ---- foreign fields: "a field foreign to the kind (or to NIL, CNL) that is not blank"
 
@@ -66,10 +62,6 @@ noDirection direction.Missing = true
 noDirection direction.Calm = false
 noDirection direction.Variable = false
 noDirection (direction.Degrees d) = false
-
-abbrev pub noSpeed : Speed → Bool
-noSpeed speed.Missing = true
-noSpeed (speed.Is s) = false
 
 abbrev pub noMoist : Moist → Bool
 noMoist moist.Missing = true
@@ -103,10 +95,6 @@ foreignBlank r =
     && (not (r .site .nil) || noSurface (r .surface))
 
 -- ---- "The writer judges foreign fields first, then the others in written order, 11 before 7 at each"
-
-abbrev pub andThen : Judged → Judged → Judged
-andThen judged.Fine b = b
-andThen (judged.Refused f) b = judged.Refused f
 
 abbrev pub foreign : Synop → Judged
 foreign r = cond (foreignBlank r) judged.Fine (judged.Refused refusal.Value)
@@ -172,22 +160,10 @@ classedOf r =
           };
     }
 
--- ---- the writer's answer, and the lent buffer afterwards: "the buffer is shorter than the canonical text, and not otherwise" (10); "A refusal writes
--- nothing, success leaves the bytes past the text as they were."
-
-abbrev pub fitsIn : ℕ → Synop → Bool
-fitsIn room r = leb (length (canonicalOf r)) room
-
-abbrev pub answerBy : Judged → Synop → ℕ → Written
-answerBy judged.Fine r room = cond (fitsIn room r) (answer.Count (length (canonicalOf r))) (answer.Refused refusal.Room)
-answerBy (judged.Refused f) r room = answer.Refused f
+-- ---- the writer's answer, and the lent buffer afterwards
 
 unfoldable pub writtenOf : Synop → ℕ → Written
-writtenOf r room = answerBy (judgeOf r) r room
-
-abbrev pub bufferBy : Judged → Synop → List ℕ → List ℕ
-bufferBy judged.Fine r b = cond (fitsIn (length b) r) (splice b 0 (canonicalOf r)) b
-bufferBy (judged.Refused f) r b = b
+writtenOf r room = answerBy (judgeOf r) (canonicalOf r) room
 
 unfoldable pub bufferOf : Synop → List ℕ → List ℕ
-bufferOf r b = bufferBy (judgeOf r) r b
+bufferOf r b = bufferBy (judgeOf r) (canonicalOf r) b

@@ -2,45 +2,32 @@
 use crate::kinds::Head;
 use crate::kinds::Post;
 use crate::kinds::Stage;
-use crate::parts;
 use figures::byte_at;
 use record::surface::CallSign;
+use record::surface::Position;
+use record::surface::Site;
 use record::surface::Synop;
+use record::values::Number;
 use shapes::has_pattern;
 use surface::kinds::Said;
 use surface::read;
+use surface::sign::slots_fit;
 use text::kinds::Cut;
 use text::kinds::Refusal;
 use text::kinds::Tail;
 ghost use mathlib.Core.Path.{_≡_};
 ghost use mathlib.Core.Bool.{true, false};
 ghost use lib.ListN.{length};
-ghost use Rattle.figures.specs.Figures.{isFigure, isLetter, every};
 ghost use Rattle.text.specs.Text.{tailOf};
-ghost use Rattle.synop.specs.Read.{isCallSign, signOf, withHead, posts, begun};
-ghost use Rattle.synop.specs.Head.{inSign, postOf, headOf, refusedAt, ofRead, entered, endedShort, advance, advances};
-
-// Are all bytes letters and figures?
-fn is_of_letters_and_figures(g: &[u8]) -> bool
-    ensures { λ r. ⌜ r ≡ every inSign (now (g .entry)) ⌝ }
-{
-    let mut i = 0;
-    while i < g.len() {
-        let b = g[i];
-        if ((b'A' <= b) & (b <= b'Z')) | ((b'0' <= b) & (b <= b'9')) {
-            i += 1;
-        } else {
-            return false;
-        }
-    }
-    true
-}
+ghost use Rattle.record.specs.Set.{setStation};
+ghost use Rattle.synop.specs.Read.{isCallSign, signOf, withHead, posts};
+ghost use Rattle.synop.specs.Head.{postOf, headOnto, saidBy, refusedAt, ofRead, entered, endedShort, advance, advances};
 
 // A call sign has 3 to 9 letters and figures.
 fn is_call_sign(g: &[u8]) -> bool
     ensures { λ r. ⌜ r ≡ isCallSign (now (g .entry)) ⌝ }
 {
-    let right = is_of_letters_and_figures(g);
+    let right = slots_fit(true, g);
     (3 <= g.len()) & (g.len() <= 9) & right
 }
 
@@ -84,16 +71,6 @@ fn may_be_nil(post: Post) -> bool
     }
 }
 
-fn go_on(at: usize, report: Synop) -> Head
-    ensures { λ h. ⌜ h ≡ headOf at report ⌝ }
-{
-    Head {
-        stage: Stage::Going,
-        at,
-        report,
-    }
-}
-
 fn refuse(refusal: Refusal, place: usize, at: usize, report: Synop) -> Head
     ensures { λ h. ⌜ h ≡ refusedAt refusal place at report ⌝ }
 {
@@ -104,21 +81,83 @@ fn refuse(refusal: Refusal, place: usize, at: usize, report: Synop) -> Head
     }
 }
 
+fn with_station(n: u32, s: Site) -> Site
+    ensures { λ r. ⌜ r ≡ setStation (Number.Is n) s ⌝ }
+{
+    let sign = s.sign;
+    let position = s.position;
+    let time = s.time;
+    Site {
+        station: Number::Is(n),
+        sign,
+        position,
+        time,
+        nil: s.nil,
+    }
+}
+
+// The report with what a group says. What is said of section 1 after Nddff is no part of it here, and a refusal adds nothing.
+fn with_head(said: Said, report: Synop) -> Synop
+    ensures { λ r. ⌜ r ≡ headOnto said report ⌝ }
+{
+    let mut r = report;
+    let mut site = r.site;
+    let mut surface = r.surface;
+    match said {
+        Said::Time(x) => {
+            site.time = x;
+            r.site = site;
+        }
+        Said::Station(n) => {
+            let named = with_station(n, site);
+            r.site = named;
+        }
+        Said::Position(x) => {
+            site.position = x;
+            r.site = site;
+        }
+        Said::Indicators(x) => {
+            surface.indicators = x;
+            r.surface = surface;
+        }
+        Said::Wind(x) => {
+            surface.wind = x;
+            r.surface = surface;
+        }
+        _ => {}
+    }
+    r
+}
+
 // What the group from `start` up to `end` says goes into the report, or refuses it.
 fn tell(said: Said, start: usize, end: usize, r: Synop) -> Head
     ensures { λ h. ⌜ h ≡ ofRead start end r (withHead said r) ⌝ }
 {
     match said {
         Said::Refused(refusal) => refuse(refusal, start, end, r),
-        Said::Time(t) => go_on(end, parts::with_time(t, r)),
-        Said::Station(n) => go_on(end, parts::with_station(n, r)),
-        Said::Position(p) => go_on(end, parts::with_position(p, r)),
-        Said::Indicators(i) => go_on(
-            end,
-            parts::with_surface(parts::with_indicators(i, r.surface), r),
-        ),
-        Said::Wind(w) => go_on(end, parts::with_surface(parts::with_wind(w, r.surface), r)),
-        _ => go_on(end, r),
+        _ => {
+            let report = with_head(said, r);
+            Head {
+                stage: Stage::Going,
+                at: end,
+                report,
+            }
+        }
+    }
+}
+
+// What the group at a post says; a call sign is taken as it stands, and not by this function.
+fn said_by(post: Post, position: Position, g: &[u8]) -> Said
+    ensures { λ x. ⌜ x ≡ saidBy post position (now (g .entry)) ⌝ }
+{
+    match post {
+        Post::Time => read::read_time(g),
+        Post::Station => read::read_station(g),
+        Post::Sign => Said::Refused(Refusal::Shape),
+        Post::Latitude => read::read_latitude(g),
+        Post::Longitude => read::read_longitude(position, g),
+        Post::Indicators { land: _ } => read::read_indicators(g),
+        Post::Wind => read::read_wind(g),
     }
 }
 
@@ -126,18 +165,23 @@ fn tell(said: Said, start: usize, end: usize, r: Synop) -> Head
 fn read_post(post: Post, g: &[u8], start: usize, end: usize, r: Synop) -> Head
     ensures { λ h. ⌜ h ≡ ofRead start end r (postOf post .read (now (g .entry)) r) ⌝ }
 {
+    let mut site = r.site;
     match post {
-        Post::Time => tell(read::read_time(g), start, end, r),
-        Post::Station => tell(read::read_station(g), start, end, r),
-        Post::Sign => go_on(end, parts::with_sign(sign_of(g), r)),
-        Post::Latitude => tell(read::read_latitude(g), start, end, r),
-        Post::Longitude => {
-            let site = r.site;
-            let position = site.position;
-            tell(read::read_longitude(position, g), start, end, r)
+        Post::Sign => {
+            let sign = sign_of(g);
+            site.sign = sign;
+            let mut report = r;
+            report.site = site;
+            Head {
+                stage: Stage::Going,
+                at: end,
+                report,
+            }
         }
-        Post::Indicators { land: _ } => tell(read::read_indicators(g), start, end, r),
-        Post::Wind => tell(read::read_wind(g), start, end, r),
+        _ => {
+            let position = site.position;
+            tell(said_by(post, position, g), start, end, r)
+        }
     }
 }
 

@@ -1,7 +1,4 @@
-// SYNOP and SHIP: a text read, and a record judged and written.
-pub mod answer;
+// SYNOP and SHIP: their definitions, and the reader of a text.
 pub mod head;
 pub mod kinds;
-pub mod parts;
 pub mod read;
-pub mod section;

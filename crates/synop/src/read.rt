@@ -1,13 +1,12 @@
 // Reading a SYNOP or SHIP: the text as a whole, its first group, the groups known by position, then section 1 or what follows NIL.
-use crate::answer;
 use crate::head;
 use crate::kinds::Head;
-use crate::kinds::Reading;
 use crate::kinds::Stage;
-use crate::parts;
-use crate::section;
 use record::surface::Synop;
 use shapes::has_pattern;
+use synop_section::answer;
+use synop_section::kinds::Reading;
+use synop_section::section;
 use text::kinds::Bytes;
 use text::kinds::Cut;
 use text::kinds::Refusal;
@@ -17,7 +16,8 @@ ghost use mathlib.Core.List.{[]};
 ghost use lib.ListN.{length};
 ghost use Rattle.text.specs.Text.{tailOf};
 ghost use Rattle.text.specs.Groups.{groupsFrom};
-ghost use Rattle.synop.specs.Read.{afterNil, begun, fromFirst, answer, readOf};
+ghost use Rattle.synop_section.specs.Answer.{begun, answer};
+ghost use Rattle.synop.specs.Read.{afterNil, fromFirst, readOf};
 ghost use Rattle.synop.specs.Head.{headOf, outcome};
 
 // After NIL only what may follow an "=" is left.
@@ -31,7 +31,13 @@ fn read_nil(text: &[u8], at: usize, report: Synop) -> Reading
             let tail = text::tail(text);
             match tail {
                 Tail::Junk(place) => answer::refuse(Refusal::Shape, place),
-                Tail::Clear => answer::accept(text.len(), parts::with_nil(report)),
+                Tail::Clear => {
+                    let mut site = report.site;
+                    site.nil = true;
+                    let mut r = report;
+                    r.site = site;
+                    answer::accept(text.len(), r)
+                }
             }
         }
     }

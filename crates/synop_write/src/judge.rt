@@ -11,9 +11,8 @@ use record::surface::Site;
 use record::surface::Surface;
 use record::surface::Synop;
 use record::values::Direction;
-use record::values::Speed;
 use record::values::Tenths;
-use surface::kinds::Judged;
+use surface::sign::slots_fit;
 use surface_write::judge::judge_air;
 use surface_write::judge::judge_clock;
 use surface_write::judge::judge_clouds;
@@ -30,19 +29,21 @@ use surface_write::judge::judge_time;
 use surface_write::judge::judge_weather;
 use surface_write::judge::judge_wind;
 use surface_write::judge::no_fall;
-use surface_write::judge::slots_fit;
+use surface_write::judge::no_speed;
 use surface_write::write::is_missing;
 use surface_write::write::no_clouds;
 use surface_write::write::no_weather;
-use synop::kinds::Needs;
-use synop::section::needs_of;
+use synop_section::kinds::Needs;
+use synop_section::section::needs_of;
+use text::judge::and_then;
+use text::kinds::Judged;
 use text::kinds::Refusal;
 ghost use mathlib.Core.Path.{_≡_};
 ghost use mathlib.Core.Bool.{cond, not, _&&_};
-ghost use Rattle.surface.specs.declared.kinds.Judged.the-variants as judged;
+ghost use Rattle.text.specs.declared.kinds.Judged.the-variants as judged;
 ghost use Rattle.surface.specs.Shows.{isMissing};
-ghost use Rattle.synop.specs.Write.{noTenths, noSign, noPosition, noSight, noDirection, noSpeed, noMoist, noHeight, noChange, noClock, noSurface};
-ghost use Rattle.synop.specs.Write.{foreignBlank, foreign, andThen, judgeSite, judgeSection, judgeSurface, judgeOf};
+ghost use Rattle.synop.specs.Write.{noTenths, noSign, noPosition, noSight, noDirection, noMoist, noHeight, noChange, noClock, noSurface};
+ghost use Rattle.synop.specs.Write.{foreignBlank, foreign, judgeSite, judgeSection, judgeSurface, judgeOf};
 
 fn no_tenths(t: Tenths) -> bool
     ensures { λ r. ⌜ r ≡ noTenths t ⌝ }
@@ -98,15 +99,6 @@ fn no_direction(d: Direction) -> bool
         Direction::Calm => false,
         Direction::Variable => false,
         Direction::Degrees(_) => false,
-    }
-}
-
-fn no_speed(s: Speed) -> bool
-    ensures { λ r. ⌜ r ≡ noSpeed s ⌝ }
-{
-    match s {
-        Speed::Missing => true,
-        Speed::Is(_) => false,
     }
 }
 
@@ -220,16 +212,6 @@ fn judge_foreign(r: Synop) -> Judged
         Judged::Fine
     } else {
         Judged::Refused(Refusal::Value)
-    }
-}
-
-// The first refusal of two.
-fn and_then(first: Judged, second: Judged) -> Judged
-    ensures { λ j. ⌜ j ≡ andThen first second ⌝ }
-{
-    match first {
-        Judged::Fine => second,
-        Judged::Refused(refusal) => Judged::Refused(refusal),
     }
 }
 

@@ -1,10 +1,8 @@
 // A record written as its canonical text, over a lent buffer: all of it, or nothing.
 use crate::judge::judge;
-use figures::put::put_text;
 use record::surface::Site;
 use record::surface::Surface;
 use record::surface::Synop;
-use surface::kinds::Judged;
 use surface_write::write::put_air;
 use surface_write::write::put_clock;
 use surface_write::write::put_clouds;
@@ -22,12 +20,13 @@ use surface_write::write::put_tendency;
 use surface_write::write::put_time;
 use surface_write::write::put_weather;
 use surface_write::write::put_wind;
-use synop::kinds::Needs;
-use synop::kinds::Written;
-use synop::section::needs_of;
-use text::close_report;
-use text::kinds::Refusal;
-use text::open_group;
+use synop_section::kinds::Needs;
+use synop_section::section::needs_of;
+use text::kinds::Judged;
+use text::kinds::Written;
+use text::write::close_report;
+use text::write::deliver;
+use text::write::put_group;
 ghost use mathlib.Core.Path.{_≡_};
 ghost use mathlib.Core.Bool.{cond};
 ghost use mathlib.Core.List.{_∷_, [], _++_};
@@ -36,18 +35,10 @@ ghost use Rattle.figures.specs.Put.{Put};
 ghost use Rattle.figures.specs.Quote.{bytes};
 ghost use Rattle.text.specs.Groups.{written};
 ghost use Rattle.places.specs.Engine.{written as groupsAt};
-ghost use Rattle.surface.specs.declared.kinds.Judged.the-variants as judged;
+ghost use Rattle.text.specs.declared.kinds.Judged.the-variants as judged;
 ghost use Rattle.surface.specs.Shows.{showTime, showStation, showSign, showLatitude, showLongitude};
-ghost use Rattle.synop.specs.Row.{row};
+ghost use Rattle.synop_section.specs.Row.{row};
 ghost use Rattle.synop.specs.Write.{judgeOf, siteGroups, surfaceGroups, groupsOf, writtenOf, bufferOf};
-
-// A group of fixed bytes.
-fn put_word(out: &mut [u8], at: usize, word: &[u8]) -> usize
-    ensures { λ r. ⌜ Put (now (out .entry)) at (written at (now (word .entry) ∷ [])) r (now (out .exit)) ⌝ }
-{
-    let opened = open_group(out, at);
-    put_text(out, opened, word)
-}
 
 // AAXX YYGGiw IIiii
 fn put_land(out: &mut [u8], site: Site) -> usize
@@ -55,7 +46,7 @@ fn put_land(out: &mut [u8], site: Site) -> usize
 {
     let time = site.time;
     let station = site.station;
-    let named = put_word(out, 0, b"AAXX");
+    let named = put_group(out, 0, b"AAXX");
     let timed = put_time(out, named, time);
     put_station(out, timed, station)
 }
@@ -67,7 +58,7 @@ fn put_ship(out: &mut [u8], site: Site) -> usize
     let sign = site.sign;
     let time = site.time;
     let position = site.position;
-    let named = put_word(out, 0, b"BBXX");
+    let named = put_group(out, 0, b"BBXX");
     let called = put_sign(out, named, sign);
     let timed = put_time(out, called, time);
     let placed = put_latitude(out, timed, position);
@@ -130,7 +121,7 @@ fn put_rest(out: &mut [u8], at: usize, nil: bool, s: Surface) -> usize
     ensures { λ r. ⌜ Put (now (out .entry)) at (written at (cond nil (bytes "NIL" ∷ []) (surfaceGroups s))) r (now (out .exit)) ⌝ }
 {
     if nil {
-        put_word(out, at, b"NIL")
+        put_group(out, at, b"NIL")
     } else {
         put_surface(out, at, s)
     }
@@ -155,11 +146,7 @@ fn write_fine(r: Synop, out: &mut [u8]) -> Written
 {
     let mut text = [0u8; 128];
     let end = put_report(&mut text, r);
-    if out.len() < end {
-        return Written::Refused(Refusal::Room);
-    }
-    let count = put_text(out, 0, &text[..end]);
-    Written::Count(count)
+    deliver(&text[..end], out)
 }
 
 pub fn write(r: Synop, out: &mut [u8]) -> Written

@@ -5,3 +5,4 @@ pub mod Groups
 pub mod Texts
 pub mod Joins
 pub mod Writes
+pub mod Judging

@@ -1,16 +1,23 @@
 -- Groups written one after the other over a buffer, and the report that they make. A buffer that is too short changes none of these laws.
 -- Assumes nothing.
-use mathlib.Core.Path.{_≡_, refl, sym, _∙_}
-use mathlib.Core.Bool.{Bool, true, false}
+use mathlib.Core.Path.{_≡_, refl, sym, ap, _∙_}
+use mathlib.Core.Bool.{Bool, true, false, cond}
 use mathlib.Core.List.{List, [], _∷_, _++_, append-nil}
 use Prim.Native.Nat.{ℕ, zero, suc, _+_, _≤_, _<_}
 use native.Mathlib.Omega.{arith}
 use borrow.Author.Tests.{leb-true, leb-false}
-use lib.ListN.{length}
+use borrow.Author.Tests.{le-leb, lt-leb}
+use native.Mathlib.Nat.{zero-add}
+use lib.ListN.{length, take, replicate, length-replicate}
 use lib.Dec.{leb}
-use Rattle.figures.specs.Put.{after, Put}
-use Rattle.figures.proofs.Puts.{put-none, put-next, splice-out, length-put, then}
+use Rattle.figures.specs.Put.{splice, after, Put}
+use Rattle.figures.proofs.Puts.{put-none, put-next, put-before, splice-out, length-splice, length-put, then}
+use Rattle.text.specs.declared.kinds.Refusal.the-variants as refusal
+use Rattle.text.specs.declared.kinds.Judged.{Judged}
+use Rattle.text.specs.declared.kinds.Judged.the-variants as judged
+use Rattle.text.specs.declared.kinds.Written.the-variants as answer
 use Rattle.text.specs.Groups.{join, opening, written, Wholes}
+use Rattle.text.specs.Write.{fitsIn, answerBy, bufferBy}
 use Rattle.text.proofs.Joins.{written-append, parted-written}
 
 -- where no room is left one text is put as another is
@@ -49,3 +56,45 @@ write-groups {b} {l} {m} {at} {i} {r} gs hs p q = rw (written-append at gs hs) (
 pub write-report : {b l m : List ℕ} {i r : ℕ} (gs : List (List ℕ)) → Wholes gs → Put b 0 (written 0 gs) i l → Put l i (61 ∷ []) r m → Put b 0 (join gs) r m
 unfolding join
 write-report gs w p q = rw (parted-written gs w) (then p q)
+
+-- no group
+pub write-none : (b : List ℕ) (at : ℕ) → Put b at (written at []) at b
+unfolding written
+write-none b at = put-none b at
+
+-- ---- the report made first in an array of its own: it ends where the canonical text does, and is that text up to there
+module _ {n end : ℕ} {e : List ℕ} (gs : List (List ℕ)) (w : Wholes gs) (short : length (join gs) ≤ n) (p : Put (replicate n 0) 0 (written 0 gs ++ (61 ∷ [])) end e) where
+  made : Put (replicate n 0) 0 (join gs) end e
+  unfolding join
+  made = rw (parted-written gs w) p
+
+  fits : 0 + length (join gs) ≤ length (replicate {A = ℕ} n 0)
+  fits = omega (arith, short, length-replicate {A = ℕ} n 0)
+
+  pub made-end : end ≡ length (join gs)
+  made-end = put-next made fits ∙ zero-add (length (join gs))
+
+  pub made-within : end ≤ length e
+  made-within = omega (arith, made-end, short, length-put p, length-replicate {A = ℕ} n 0)
+
+  pub made-text : take end e ≡ join gs
+  made-text = rw (made-end, ← zero-add (length (join gs))) (put-before made fits)
+
+-- ---- the lent buffer without room, and with it
+pub no-room : (x b : List ℕ) → length b < length x → (answer.Refused refusal.Room ≡ answerBy judged.Fine x (length b)) × (b ≡ bufferBy judged.Fine x b)
+no-room x b h = (rw (lt-leb (length x) (length b) h), rw (lt-leb (length x) (length b) h))
+
+pub with-room : {x b e : List ℕ} {n : ℕ} → length x ≤ length b → Put b 0 x n e
+    → (answer.Count n ≡ answerBy judged.Fine x (length b)) × (e ≡ bufferBy judged.Fine x b)
+with-room {x} {b} h p =
+    let l = le-leb (length x) (length b) h in
+    (rw l (ap answer.Count (put-next p (omega arith) ∙ zero-add (length x))), rw l (p .text))
+
+-- a lent buffer keeps its length
+pub length-buffer : (j : Judged) (x b : List ℕ) → length (bufferBy j x b) ≡ length b
+length-buffer (judged.Refused f) x b = refl
+length-buffer judged.Fine x b = go (fitsIn (length b) x)
+  where
+    go : (t : Bool) → length (cond t (splice b 0 x) b) ≡ length b
+    go true = length-splice b 0 x
+    go false = refl

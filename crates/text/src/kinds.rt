@@ -1,4 +1,4 @@
-// The answers of the cutting functions, and document 01's refusals by name.
+// The answers of the cutting functions, document 01's refusals by name, and what every reader and writer answers.
 
 // What stands at or after a position of a text.
 pub enum Cut {
@@ -34,4 +34,23 @@ pub enum Refusal {
     Limit,
     Room,
     Value,
+}
+
+// What the writer judges of a part of a record: it can be written, or its refusal, 11 or 7.
+pub enum Judged {
+    Fine,
+    Refused(Refusal),
+}
+
+// What a reader answers of a text.
+pub enum Verdict {
+    // The unread rest begins at `rest`.
+    Accepted { rest: usize },
+    Refused { refusal: Refusal, place: usize },
+}
+
+// What a writer answers of a record: how many bytes were written, or why none was.
+pub enum Written {
+    Count(usize),
+    Refused(Refusal),
 }

@@ -1,8 +1,8 @@
-// Cutting a text: its bytes and length judged, its groups one after the other with their places, what follows the "=", the trimmed part;
-// and the bytes that part groups and end a report when one is written.
+// Cutting a text: its bytes and length judged, its groups one after the other with their places, what follows the "=", the trimmed part.
+pub mod judge;
 pub mod kinds;
+pub mod write;
 
-use figures::put;
 use kinds::Bytes;
 use kinds::Cut;
 use kinds::Refusal;
@@ -11,10 +11,9 @@ ghost use mathlib.Core.Path.{_≡_};
 ghost use mathlib.Core.List.{_∷_, []};
 ghost use Prim.Native.Nat.{_+_};
 ghost use lib.ListN.{drop};
-ghost use Rattle.figures.specs.Put.{Put};
 ghost use Rattle.text.specs.Refusals.{numberOf};
 ghost use Rattle.text.specs.Bytes.{parting, inner, allowed, passes, lead, lastEnd};
-ghost use Rattle.text.specs.Groups.{nextOf, partOf, opening};
+ghost use Rattle.text.specs.Groups.{nextOf, partOf};
 ghost use Rattle.text.specs.Text.{bytesOf, tailOf, trimmedOf};
 
 // Document 01's number of a refusal.
@@ -206,22 +205,4 @@ pub fn trimmed(text: &[u8]) -> &[u8]
     } else {
         part(text, start, find_last_end(text))
     }
-}
-
-// Writing: parts a group from the one before it, if any stands before it.
-pub fn open_group(out: &mut [u8], at: usize) -> usize
-    ensures { λ r. ⌜ Put (now (out .entry)) at (opening at) r (now (out .exit)) ⌝ }
-{
-    if at == 0 {
-        at
-    } else {
-        put::put_byte(out, at, b' ')
-    }
-}
-
-// Writing: ends the report.
-pub fn close_report(out: &mut [u8], at: usize) -> usize
-    ensures { λ r. ⌜ Put (now (out .entry)) at (61 ∷ []) r (now (out .exit)) ⌝ }
-{
-    put::put_byte(out, at, b'=')
 }

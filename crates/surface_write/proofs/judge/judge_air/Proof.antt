@@ -10,4 +10,4 @@ judge-air-spec =
     (tie.spec
     (λ c κs. tt)
     (λ c κs. tt)
-    (λ c. unfold judgeAir in rw (c .verdict .ensures, c .before .tenths-fit .ensures)))
+    (λ c. unfold judgeAir in rw (c .judge .ensures, c .before .tenths-fit .ensures)))

@@ -10,4 +10,4 @@ judge-clock-spec =
     (tie.spec
     (λ c κs. tt)
     (λ c κs. tt)
-    (λ c. unfold judgeClock in rw (c .verdict .ensures, c .before .clock-fits .ensures)))
+    (λ c. unfold judgeClock in rw (c .judge .ensures, c .before .clock-fits .ensures)))

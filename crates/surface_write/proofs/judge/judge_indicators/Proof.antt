@@ -19,4 +19,4 @@ judge-indicators-spec =
     let e = d .before in
     unfold judgeIndicators in
     let base = c .before .before .optional-between .ensures in
-    rw (c .verdict .ensures, e .present-between .ensures, d .present-between2 .ensures, base, optional-metres, c .before .sight-fits .ensures)))
+    rw (c .judge .ensures, e .present-between .ensures, d .present-between2 .ensures, base, optional-metres, c .before .sight-fits .ensures)))

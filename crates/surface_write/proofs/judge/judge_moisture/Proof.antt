@@ -10,4 +10,4 @@ judge-moisture-spec =
     (tie.spec
     (λ c κs. tt)
     (λ c κs. tt)
-    (λ c. unfold judgeMoisture in rw (c .verdict .ensures, c .before .moist-fits .ensures)))
+    (λ c. unfold judgeMoisture in rw (c .judge .ensures, c .before .moist-fits .ensures)))

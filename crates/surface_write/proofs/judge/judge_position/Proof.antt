@@ -11,4 +11,4 @@ judge-position-spec =
     (λ c κs. tt)
     (λ c κs. tt)
     (λ c κs. tt)
-    (λ c. unfold judgePosition in rw (c .verdict .ensures, c .before .before .latitude-fits .ensures, c .before .longitude-fits .ensures)))
+    (λ c. unfold judgePosition in rw (c .judge .ensures, c .before .before .latitude-fits .ensures, c .before .longitude-fits .ensures)))

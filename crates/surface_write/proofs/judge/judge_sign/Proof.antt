@@ -20,4 +20,4 @@ judge-sign-spec =
     let d = c .before .before .before .before in
     let e = d .before in
     unfold judgeSign in
-    rw (c .verdict .ensures, d .slots-fit .ensures, e .name-part .ensures, c .before .slots-fit2 .ensures, c .before .before .blank-part .ensures)))
+    rw (c .judge .ensures, d .slots-fit .ensures, e .name-part .ensures, c .before .slots-fit2 .ensures, c .before .before .blank-part .ensures)))

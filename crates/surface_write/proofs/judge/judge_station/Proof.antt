@@ -11,4 +11,4 @@ judge-station-spec =
     (tie.spec
     (λ c κs. tt)
     (λ c κs. tt)
-    (λ c. unfold judgeStation in rw (c .verdict .ensures, c .before .present-between .ensures, present-metres (c .before .before .args .n))))
+    (λ c. unfold judgeStation in rw (c .judge .ensures, c .before .present-between .ensures, present-metres (c .before .before .args .n))))

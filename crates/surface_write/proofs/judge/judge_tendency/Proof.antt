@@ -11,4 +11,4 @@ judge-tendency-spec =
     (λ c κs. tt)
     (λ c κs. tt)
     (λ c κs. tt)
-    (λ c. unfold judgeTendency in rw (c .verdict .ensures, c .before .before .change-fits .ensures, c .before .change-agrees .ensures)))
+    (λ c. unfold judgeTendency in rw (c .judge .ensures, c .before .before .change-fits .ensures, c .before .change-agrees .ensures)))

@@ -1,8 +1,8 @@
 -- `surface_write::write::put_clock` meets its contract, case by case.
 -- Assumes nothing.
 use borrow.Author.Needs.{needs}
+use Rattle.text.proofs.Writes.{write-none}
 use Rattle.surface.specs.Shows.{showClock}
-use Rattle.surface_write.proofs.Writings.{write-none}
 use Rattle.surface_write.proofs.write.put_clock.Statement.{statement}
 use Rattle.surface_write.proofs.write.put_clock.Tie as tie
 

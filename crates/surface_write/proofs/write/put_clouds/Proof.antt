@@ -1,8 +1,8 @@
 -- `surface_write::write::put_clouds` meets its contract, by its test.
 -- Assumes nothing.
 use borrow.Author.Needs.{needs}
+use Rattle.text.proofs.Writes.{write-none}
 use Rattle.surface.specs.Shows.{showClouds}
-use Rattle.surface_write.proofs.Writings.{write-none}
 use Rattle.surface_write.proofs.write.put_clouds.Statement.{statement}
 use Rattle.surface_write.proofs.write.put_clouds.Tie as tie
 

@@ -2,8 +2,8 @@
 -- Assumes nothing.
 use borrow.Author.Needs.{needs}
 use Rattle.figures.specs.Figures.{numberText}
+use Rattle.text.proofs.Writes.{write-none}
 use Rattle.surface.specs.Shows.{showLevel}
-use Rattle.surface_write.proofs.Writings.{write-none}
 use Rattle.surface_write.proofs.write.put_level.Statement.{statement}
 use Rattle.surface_write.proofs.write.put_level.Tie as tie
 

@@ -4,8 +4,8 @@ use borrow.Author.Needs.{needs}
 use mir.Syntax.{w32}
 use mir.ValLaws.{toZ-ofZ}
 use Rattle.figures.specs.Figures.{numberText}
+use Rattle.text.proofs.Writes.{write-none}
 use Rattle.surface.specs.Shows.{showMoisture}
-use Rattle.surface_write.proofs.Writings.{write-none}
 use Rattle.surface_write.proofs.write.put_moisture.Statement.{statement}
 use Rattle.surface_write.proofs.write.put_moisture.Tie as tie
 

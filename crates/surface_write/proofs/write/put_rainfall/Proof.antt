@@ -10,10 +10,11 @@ put-rainfall-spec =
     tie.close
     (tie.spec
     (λ c. search needs)
-    (λ c κs. tt)
     (λ c. search needs)
     (λ c κs. tt)
     (λ c. search needs)
-    (λ c. unfold showRainfall in rw (c .before .before .before .before .enum-told .given .1) (c .before .before .put-no-fall .ensures))
+    (λ c κs. tt)
+    (λ c. search needs)
+    (λ c. unfold showRainfall in rw (c .before .before .before .before .before .enum-told .given .1) (c .before .before .put-if .ensures))
     (λ c. search needs)
     (λ c. unfold showRainfall in rw (c .before .before .before .before .before .is .given .1) (c .before .before .put-fall .ensures)))

@@ -3,8 +3,8 @@
 use borrow.Author.Needs.{needs}
 use borrow.Author.Tests.{le-leb, lt-leb}
 use Rattle.figures.specs.Figures.{numberText}
+use Rattle.text.proofs.Writes.{write-none}
 use Rattle.surface.specs.Shows.{showSpeed}
-use Rattle.surface_write.proofs.Writings.{write-none}
 use Rattle.surface_write.proofs.write.put_speed.Statement.{statement}
 use Rattle.surface_write.proofs.write.put_speed.Tie as tie
 

@@ -3,8 +3,8 @@
 use borrow.Author.Needs.{needs}
 use mir.Syntax.{w32}
 use mir.ValLaws.{toZ-ofZ}
+use Rattle.text.proofs.Writes.{write-none}
 use Rattle.surface.specs.Shows.{showTendency}
-use Rattle.surface_write.proofs.Writings.{write-none}
 use Rattle.surface_write.proofs.write.put_tendency.Statement.{statement}
 use Rattle.surface_write.proofs.write.put_tendency.Tie as tie
 

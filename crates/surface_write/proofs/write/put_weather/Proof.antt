@@ -1,8 +1,9 @@
 -- `surface_write::write::put_weather` meets its contract, by its test.
 -- Assumes nothing.
 use borrow.Author.Needs.{needs}
+use Rattle.text.proofs.Writes.{write-none}
 use Rattle.surface.specs.Shows.{showWeather}
-use Rattle.surface_write.proofs.Writings.{write-none, group-if}
+use Rattle.surface_write.proofs.Writings.{group-if}
 use Rattle.surface_write.proofs.write.put_weather.Statement.{statement}
 use Rattle.surface_write.proofs.write.put_weather.Tie as tie
 

@@ -5,4 +5,4 @@ use Rattle.synop.proofs.head.is_call_sign.Statement.{statement}
 use Rattle.synop.proofs.head.is_call_sign.Tie as tie
 
 pub is-call-sign-spec : {M : Type 1} → statement M
-is-call-sign-spec = tie.close (tie.spec (λ c κs. search needs) (λ c. rw (c .is-of-letters-and-figures .ensures)))
+is-call-sign-spec = tie.close (tie.spec (λ c κs. search needs) (λ c. rw (c .slots-fit .ensures)))

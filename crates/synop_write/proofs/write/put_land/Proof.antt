@@ -14,4 +14,4 @@ put-land-spec =
     (λ c κs. tt)
     (λ c κs. tt)
     (λ c. search needs)
-    (λ c. write-groups _ _ (c .before .before .before .before .before .before .before .before .before .before .put-word .ensures) (write-groups _ _ (c .before .before .before .before .before .before .put-time .ensures) (c .before .before .put-station .ensures))))
+    (λ c. write-groups _ _ (c .before .before .before .before .before .before .before .before .before .before .put-group .ensures) (write-groups _ _ (c .before .before .before .before .before .before .put-time .ensures) (c .before .before .put-station .ensures))))

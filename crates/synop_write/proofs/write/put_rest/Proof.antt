@@ -12,6 +12,6 @@ put-rest-spec =
     (λ c κs. tt)
     (λ c κs. tt)
     (λ c. search needs)
-    (λ c. rw (c .before .before .before .before .before .if1 .taken) (c .before .before .put-word .ensures))
+    (λ c. rw (c .before .before .before .before .before .if1 .taken) (c .before .before .put-group .ensures))
     (λ c. search needs)
     (λ c. rw (c .before .before .before .before .if1 .left) (c .before .before .put-surface .ensures)))

@@ -17,6 +17,6 @@ put-ship-spec =
     (λ c κs. tt)
     (λ c. search needs)
     (λ c.
-    write-groups _ _ (c .before .before .before .before .before .before .before .before .before .before .before .before .before .before .before .before .before .before .put-word .ensures)
+    write-groups _ _ (c .before .before .before .before .before .before .before .before .before .before .before .before .before .before .before .before .before .before .put-group .ensures)
     (write-groups _ _ (c .before .before .before .before .before .before .before .before .before .before .before .before .before .before .put-sign .ensures)
     (write-groups _ _ (c .before .before .before .before .before .before .before .before .before .before .put-time .ensures) (write-groups _ _ (c .before .before .before .before .before .before .put-latitude .ensures) (c .before .before .put-longitude .ensures))))))

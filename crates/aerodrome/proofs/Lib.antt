@@ -1,0 +1,11 @@
+-- The laws that other crates use.
+pub mod Answers
+pub mod Readings
+pub mod HeadBack
+pub mod Printed
+pub mod RunwayBack
+pub mod RunwaysBack
+pub mod TemperaturesBack
+pub mod Judgings
+pub mod Writings
+pub mod Promises

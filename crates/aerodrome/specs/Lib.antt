@@ -1,0 +1,5 @@
+pub mod Head
+pub mod Runway
+pub mod Temperatures
+pub mod Values
+pub mod Answers

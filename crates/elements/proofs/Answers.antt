@@ -1,0 +1,86 @@
+-- What an answer says of the definition's reading.
+-- Assumes nothing.
+use Prim.Native.Nat.{ℕ}
+use native.Mathlib.Omega.{arith}
+use mathlib.Core.Path.{_≡_, refl}
+use Rattle.text.specs.declared.kinds.Refusal.{Refusal}
+use Rattle.text.specs.declared.kinds.Judged.the-variants as judged
+use Rattle.places.specs.Engine.{Read, Good, Bad}
+use Rattle.record.specs.declared.aerodrome.Wind.{Wind}
+use Rattle.record.specs.declared.aerodrome.Variation.{Variation}
+use Rattle.record.specs.declared.aerodrome.Visibility.{Visibility}
+use Rattle.record.specs.declared.aerodrome.Weather.{Weather}
+use Rattle.record.specs.declared.aerodrome.Layer.{Layer}
+use Rattle.record.specs.declared.aerodrome.Cover.{Cover}
+use Rattle.record.specs.declared.aerodrome.Sky.{Sky}
+use Rattle.elements.specs.declared.kinds.WindRead.{WindRead}
+use Rattle.elements.specs.declared.kinds.WindRead.the-variants as wind
+use Rattle.elements.specs.declared.kinds.VariationRead.{VariationRead}
+use Rattle.elements.specs.declared.kinds.VariationRead.the-variants as variation
+use Rattle.elements.specs.declared.kinds.VisibilityRead.{VisibilityRead}
+use Rattle.elements.specs.declared.kinds.VisibilityRead.the-variants as visibility
+use Rattle.elements.specs.declared.kinds.WeatherRead.{WeatherRead}
+use Rattle.elements.specs.declared.kinds.WeatherRead.the-variants as weather
+use Rattle.elements.specs.declared.kinds.LayerRead.{LayerRead}
+use Rattle.elements.specs.declared.kinds.LayerRead.the-variants as layer
+use Rattle.elements.specs.declared.kinds.CoverRead.{CoverRead}
+use Rattle.elements.specs.declared.kinds.CoverRead.the-variants as cover
+use Rattle.elements.specs.declared.kinds.SkyRead.{SkyRead}
+use Rattle.elements.specs.Answers.{asSky, asWind, asVariation, asVisibility, asWeather, asLayer, asCover}
+
+abbrev pub fromWind : WindRead → Read Wind
+fromWind (wind.Good x) = Good x
+fromWind (wind.Bad f) = Bad f
+
+pub wind-is : {e : WindRead} (x : Read Wind) → e ≡ asWind x → x ≡ fromWind e
+wind-is (Good y) p = rw p
+wind-is (Bad f) p = rw p
+
+abbrev pub fromVariation : VariationRead → Read Variation
+fromVariation (variation.Good x) = Good x
+fromVariation (variation.Bad f) = Bad f
+
+pub variation-is : {e : VariationRead} (x : Read Variation) → e ≡ asVariation x → x ≡ fromVariation e
+variation-is (Good y) p = rw p
+variation-is (Bad f) p = rw p
+
+abbrev pub fromVisibility : VisibilityRead → Read Visibility
+fromVisibility (visibility.Good x) = Good x
+fromVisibility (visibility.Bad f) = Bad f
+
+pub visibility-is : {e : VisibilityRead} (x : Read Visibility) → e ≡ asVisibility x → x ≡ fromVisibility e
+visibility-is (Good y) p = rw p
+visibility-is (Bad f) p = rw p
+
+abbrev pub fromWeather : WeatherRead → Read Weather
+fromWeather (weather.Good x) = Good x
+fromWeather (weather.Bad f) = Bad f
+
+pub weather-is : {e : WeatherRead} (x : Read Weather) → e ≡ asWeather x → x ≡ fromWeather e
+weather-is (Good y) p = rw p
+weather-is (Bad f) p = rw p
+
+abbrev pub fromLayer : LayerRead → Read Layer
+fromLayer (layer.Good x) = Good x
+fromLayer (layer.Bad f) = Bad f
+
+pub layer-is : {e : LayerRead} (x : Read Layer) → e ≡ asLayer x → x ≡ fromLayer e
+layer-is (Good y) p = rw p
+layer-is (Bad f) p = rw p
+
+abbrev pub fromCover : CoverRead → Read Cover
+fromCover (cover.Good x) = Good x
+fromCover (cover.Bad f) = Bad f
+
+pub cover-is : {e : CoverRead} (x : Read Cover) → e ≡ asCover x → x ≡ fromCover e
+cover-is (Good y) p = rw p
+cover-is (Bad f) p = rw p
+
+-- a sky with one group more, or the group's refusal
+pub sky-good : (s : Sky) {e : SkyRead} (x : Read Sky) → e ≡ asSky s x → e .judged ≡ judged.Fine → x ≡ Good (e .sky)
+sky-good s (Good y) p q = rw p
+sky-good s (Bad f) p q = let z : _≡_ {A = ℕ} 0 1 = cc in absurd (omega arith)
+
+pub sky-bad : (s : Sky) {e : SkyRead} {f : Refusal} (x : Read Sky) → e ≡ asSky s x → e .judged ≡ judged.Refused f → x ≡ Bad f
+sky-bad s (Good y) p q = let z : _≡_ {A = ℕ} 0 1 = cc in absurd (omega arith)
+sky-bad s {f = f} (Bad g) p q = let z : g ≡ f = cc in rw z

@@ -1,0 +1,27 @@
+-- `metar::read::finish` meets its contract: by what follows the "=".
+-- Assumes nothing.
+use borrow.Author.Needs.{needs}
+use mathlib.Core.Path.{_≡_, refl, sym, ap, _∙_}
+use lib.ListN.{length}
+use Rattle.text.specs.declared.kinds.Tail.{Tail}
+use Rattle.places.specs.Engine.{over}
+use Rattle.metar.specs.Row.{row}
+use Rattle.metar.specs.Read.{answer}
+use Rattle.metar.proofs.read.finish.Statement.{statement}
+use Rattle.metar.proofs.read.finish.Tie as tie
+
+returns : tie.Need-returns
+returns c =
+    let a = c .before .before .before .before .before .before .args in
+    c .refuse .ensures ∙ ap (λ (x : Tail). answer (over row x (length (a .text .now)) (a .s .place) (a .s .count) (a .s .report))) (sym (c .before .before .tail2 .given .1) ∙ c .before .before .before .before .tail .ensures)
+
+returns-2 : tie.Need-returns-2
+returns-2 c =
+    let a = c .before .before .before .before .before .args in
+    c .close .ensures ∙ ap (λ (x : Tail). answer (over row x (length (a .text .now)) (a .s .place) (a .s .count) (a .s .report))) (sym (c .before .enum-told .given .1) ∙ c .before .before .before .tail .ensures)
+
+pub finish-spec : {M : Type 1} → statement M
+finish-spec =
+    tie.close
+    (tie.spec
+    (λ c κs. search needs) (λ c. search needs) (λ c κs. search needs) (λ c. search needs) (λ c κs. search needs) returns returns-2)

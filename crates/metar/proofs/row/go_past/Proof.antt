@@ -1,0 +1,20 @@
+-- `metar::row::go_past` meets its contract: NIL alone ends the report.
+-- Assumes nothing.
+use borrow.Author.Needs.{needs}
+use mathlib.Core.Bool.{true, false}
+use borrow.Author.Tests.{eq-eqb, ne-eqb}
+use Rattle.metar.proofs.Steps.{past-nil}
+use Rattle.metar.proofs.row.go_past.Statement.{statement}
+use Rattle.metar.proofs.row.go_past.Tie as tie
+
+returns : tie.Need-returns
+returns c = past-nil _ true (eq-eqb _ _ (c .if1 .taken))
+
+returns-2 : tie.Need-returns-2
+returns-2 c = past-nil _ false (ne-eqb _ _ (c .if1 .left))
+
+pub go-past-spec : {M : Type 1} → statement M
+go-past-spec =
+    tie.close
+    (tie.spec
+    returns returns-2)

@@ -1,0 +1,37 @@
+-- `metar::row::shapes_of` meets its contract: place by place.
+-- Assumes nothing.
+use borrow.Author.Needs.{needs}
+use Rattle.metar.specs.Row.{row}
+use Rattle.metar.specs.Step.{shapesOf}
+use Rattle.metar.proofs.row.shapes_of.Statement.{statement}
+use Rattle.metar.proofs.row.shapes_of.Tie as tie
+
+returns : tie.Need-returns
+returns c =
+    unfold shapesOf row in
+    rw (
+      c .before .before .before .before .before .before .before .before .before .before .before .before .before .before .before .before .before .before .before .before .is-name .ensures,
+      c .before .before .before .before .before .before .before .before .before .before .before .before .before .before .before .before .before .before .has-pattern .ensures,
+      c .before .before .before .before .before .before .before .before .before .before .before .before .before .before .before .before .has-pattern2 .ensures,
+      c .before .before .before .before .before .before .before .before .before .before .before .before .before .before .has-pattern3 .ensures,
+      c .before .before .before .before .before .before .before .before .before .before .before .before .has-pattern4 .ensures,
+      c .before .before .before .before .before .before .before .before .before .before .has-pattern5 .ensures,
+      c .before .before .before .before .before .before .before .before .before .has-wind .ensures,
+      c .before .before .before .before .before .before .before .before .has-variation .ensures,
+      c .before .before .before .before .before .before .before .has-visibility .ensures,
+      c .before .before .before .before .before .before .has-runway .ensures,
+      c .before .before .before .before .before .has-weather .ensures,
+      c .before .before .before .before .has-sky .ensures,
+      c .before .before .before .has-temperatures .ensures,
+      c .before .has-pattern6 .ensures,
+      c .has-recent .ensures,
+    )
+
+pub shapes-of-spec : {M : Type 1} → statement M
+shapes-of-spec =
+    tie.close
+    (tie.spec
+    (λ c κs. search needs) (λ c. search needs) (λ c κs. search needs) (λ c. search needs) (λ c κs. search needs) (λ c. search needs)
+    (λ c κs. search needs) (λ c. search needs) (λ c κs. search needs) (λ c. search needs) (λ c κs. search needs) (λ c κs. search needs)
+    (λ c κs. search needs) (λ c κs. search needs) (λ c κs. search needs) (λ c κs. search needs) (λ c κs. search needs) (λ c κs. search needs)
+    (λ c. search needs) (λ c κs. search needs) (λ c κs. search needs) returns)

@@ -1,0 +1,28 @@
+-- `metar::take::take_temperatures` meets its contract: what the group says is put into the record, or refuses it.
+-- Assumes nothing.
+use borrow.Author.Needs.{needs}
+use mathlib.Core.Path.{_≡_, sym, _∙_}
+use Rattle.record.specs.Metar.{setTemperatures}
+use Rattle.aerodrome.specs.Temperatures.{readTemperatures}
+use Rattle.aerodrome.proofs.Answers.{temperatures-is}
+use Rattle.metar.proofs.Steps.{took}
+use Rattle.metar.proofs.take.take_temperatures.Statement.{statement}
+use Rattle.metar.proofs.take.take_temperatures.Tie as tie
+
+returns : tie.Need-returns
+returns c =
+    let a = c .before .before .before .before .before .before .args in
+    c .keep .ensures ∙ took (a .r) setTemperatures (temperatures-is (readTemperatures (a .g .now)) (sym (c .before .before .read .given .1) ∙ c .before .before .before .before .read-temperatures .ensures))
+
+returns-2 : tie.Need-returns-2
+returns-2 c =
+    let a = c .before .before .before .before .before .before .args in
+    c .refuse .ensures ∙ took (a .r) setTemperatures (temperatures-is (readTemperatures (a .g .now)) (sym (c .before .before .read2 .given .1) ∙ c .before .before .before .before .read-temperatures .ensures))
+
+pub take-temperatures-spec : {M : Type 1} → statement M
+take-temperatures-spec =
+    tie.close
+    (tie.spec
+    (λ c κs. search needs) (λ c. search needs) (λ c κs. search needs) (λ c. search needs) (λ c κs. search needs)
+    returns
+    returns-2)

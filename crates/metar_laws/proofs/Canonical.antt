@@ -1,0 +1,176 @@
+-- THE ROUND TRIP OF METAR AND SPECI, at the level of the text: the canonical text of a record that the writer accepts is read back whole, as the record
+-- with each rounded number the reading of its class; written again it is the same text.
+-- Assumes nothing.
+use Prim.Native.Nat.{ℕ, _≤_, _<_}
+use native.Mathlib.Omega.{arith}
+use mathlib.Core.Path.{_≡_, refl, sym, ap, _∙_}
+use mathlib.Core.Bool.{Bool, true, false}
+use mathlib.Core.List.{List, [], _∷_}
+use lib.ListN.{length, length-map}
+use borrow.Author.Tests.{le-leb}
+use Rattle.figures.specs.Put.{splice}
+use Rattle.text.specs.declared.kinds.Judged.the-variants as judged
+use Rattle.text.specs.declared.kinds.Tail.the-variants.{Clear}
+use Rattle.text.specs.declared.kinds.Written.the-variants as answer
+use Rattle.text.specs.Groups.{Piece, groupsFrom, join}
+use Rattle.text.specs.Write.{answerBy, bufferBy}
+use Rattle.text.proofs.Joins.{round-trip-bytes}
+use Rattle.places.specs.Engine.{run, written}
+use Rattle.places.proofs.ReadBack.{groupsOf}
+use Rattle.places.proofs.Sizes.{Sizes, sizes-more}
+use Rattle.places.proofs.Kept.{kept-sizes, rowRoom, text-short, text-sound, text-tail, text-back}
+use Rattle.record.specs.declared.aerodrome.Metar.{Metar}
+use Rattle.record.specs.Metar.{blankMetar}
+use Rattle.elements.specs.Visibility.{isCavok}
+use Rattle.elements.specs.Sky.{classLayer}
+use Rattle.aerodrome.specs.Runway.{classRunway}
+use Rattle.wind.proofs.RoundTripWind.{wind-again, wind-classed}
+use Rattle.wind.proofs.RoundTripVariation.{variation-again, variation-classed}
+use Rattle.wind.proofs.RoundTripVisibility.{visibility-again, visibility-classed}
+use Rattle.sky.proofs.RoundTrip.{sky-again, sky-classed}
+use Rattle.aerodrome.proofs.RunwaysBack.{runways-again, runways-classed}
+use Rattle.aerodrome.proofs.TemperaturesBack.{temperatures-again, temperatures-classed, qnh-again, qnh-classed}
+use Rattle.metar.specs.declared.kinds.Reading.{Reading}
+use Rattle.metar.specs.Row.{row, stopWords}
+use Rattle.metar.specs.Read.{fromFirst, accepted, readOf}
+use Rattle.metar.specs.Write.{judgeHead, judgeBody, judgeOf, canonicalOf, classedOf}
+use Rattle.metar.proofs.Sound.{row-sound}
+use Rattle.metar_laws.proofs.Rows.{row-covered}
+use Rattle.metar_laws.proofs.Report.{fair, FairBody, fair-body, fair-bare, sizes, kept-row}
+use Rattle.metar_laws.proofs.Places.{name, name-named, cavok-classed}
+use Rattle.metar_laws.proofs.Blanks.{Bare}
+pub use Rattle.metar_laws.proofs.Blanks.{Arrays}
+
+-- ---- how long it is
+
+-- at most 225 bytes
+room-is : rowRoom sizes row ≤ 256
+unfolding row
+room-is = omega arith
+
+some-written : (r : Metar) → 0 < length (written row r)
+unfolding row
+some-written r = omega arith
+
+-- The groups of a record can be joined and cut, and hold only bytes that a text may hold.
+pub groups-sizes : (r : Metar) → Arrays r → judgeOf r ≡ judged.Fine → Sizes 256 (written row r)
+groups-sizes r arrays e = sizes-more room-is (kept-sizes (kept-row r arrays e))
+
+-- HOW LONG THE CANONICAL TEXT IS, at most.
+pub length-canonical : (r : Metar) → Arrays r → judgeOf r ≡ judged.Fine → length (canonicalOf r) ≤ 256
+unfolding canonicalOf
+length-canonical r arrays e =
+    let short = text-short row stopWords sizes r blankMetar (kept-row r arrays e) (some-written r) in
+    let room = room-is in
+    omega arith
+
+-- ---- read back
+
+-- the first group names the report
+from-first : (r : Metar) (end : ℕ) (gs : List Piece) → groupsOf gs ≡ written row r → fromFirst Clear end gs ≡ run row stopWords Clear end 0 0 blankMetar gs
+unfolding row fromFirst
+from-first r end [] are = let z : _≡_ {A = ℕ} 0 1 = cc in absurd (omega arith)
+from-first r end (g ∷ gs) are =
+    let here : g .bytes ≡ name (r .special) = cc in
+    rw (here, name-named (r .special))
+
+-- THE CANONICAL TEXT OF A RECORD IS READ BACK, to its end, as the record's classes.
+pub read-canonical : (r : Metar) → Arrays r → judgeOf r ≡ judged.Fine → readOf (canonicalOf r) ≡ accepted (length (canonicalOf r)) (classedOf r)
+unfolding readOf canonicalOf classedOf
+read-canonical r arrays e =
+    let kept = kept-row r arrays e in
+    let text = join (written row r) in
+    let room = room-is in
+    rw (
+      text-sound row stopWords sizes r blankMetar kept (some-written r) (omega arith),
+      text-tail row stopWords sizes r blankMetar kept,
+      from-first r (length text) (groupsFrom text 0) (round-trip-bytes (written row r) (kept-sizes kept .wholes)),
+      text-back row stopWords sizes r blankMetar kept (unfold row in omega arith) row-sound row-covered (length text),
+    )
+
+-- ---- written again
+
+-- what stands in the body is written alike
+body-again : (r : Metar) → FairBody r → written row (classedOf r) ≡ written row r
+unfolding row classedOf
+body-again r f =
+    rw (
+      wind-again false (r .wind) (f .wind),
+      variation-again (r .variation) (f .variation),
+      visibility-again false (r .visibility) (f .visibility),
+      runways-again (r .runways),
+      sky-again (r .sky),
+      temperatures-again (r .temperatures) (f .temperatures),
+      qnh-again (r .qnh),
+    )
+
+-- A record that is NIL is read back as it was.
+pub nil-classed : (r : Metar) → Bare r → classedOf r ≡ r
+unfolding row classedOf
+nil-classed r b =
+    rw (b .automatic, b .wind, b .variation, b .visibility, b .runways, b .weathers, b .sky, b .temperatures, b .qnh, b .recents)
+
+-- THE RECORD THAT IS READ BACK IS WRITTEN AS THE SAME TEXT.
+pub written-again : (r : Metar) → Arrays r → judgeOf r ≡ judged.Fine → canonicalOf (classedOf r) ≡ canonicalOf r
+written-again r arrays e = go (r .nil) refl
+  where
+    go : (b : Bool) → r .nil ≡ b → canonicalOf (classedOf r) ≡ canonicalOf r
+    go true n = ap canonicalOf (nil-classed r (fair-bare r arrays e n))
+    go false n = unfold canonicalOf in ap join (body-again r (fair-body r e n))
+
+body-classed : (r : Metar) → FairBody r → judgeBody (classedOf r) ≡ judged.Fine
+unfolding judgeBody row classedOf
+body-classed r f =
+    rw (
+      cavok-classed (r .visibility .is),
+      wind-classed false (r .wind) (f .wind),
+      variation-classed (r .variation) (f .variation),
+      visibility-classed false (r .visibility) (f .visibility),
+      runways-classed (r .runways) (f .runways),
+      f .weathers,
+      sky-classed false (isCavok (r .visibility)) (r .sky) (f .sky),
+      temperatures-classed (r .temperatures) (f .temperatures),
+      qnh-classed (r .qnh) (f .qnh),
+      f .recents,
+    )
+
+full-classed : (r : Metar) → judgeOf r ≡ judged.Fine → r .nil ≡ false → judgeOf (classedOf r) ≡ judged.Fine
+unfolding judgeBody judgeOf judgeHead row classedOf
+full-classed r e n = let f = fair r e in rw (n, f .station, f .time) (body-classed r (fair-body r e n))
+
+-- AND THE WRITER ACCEPTS IT.
+pub classed-fine : (r : Metar) → Arrays r → judgeOf r ≡ judged.Fine → judgeOf (classedOf r) ≡ judged.Fine
+classed-fine r arrays e = go (r .nil) refl
+  where
+    go : (b : Bool) → r .nil ≡ b → judgeOf (classedOf r) ≡ judged.Fine
+    go true n = rw (nil-classed r (fair-bare r arrays e n)) e
+    go false n = full-classed r e n
+
+arrays-classed : (r : Metar) → Arrays r → Arrays (classedOf r)
+unfolding row classedOf
+arrays-classed r arrays =
+    record {
+      letters = arrays .letters;
+      runways = rw (length-map (r .runways .items) classRunway) (arrays .runways);
+      weathers = arrays .weathers;
+      layers = rw (length-map (r .sky .layers) classLayer) (arrays .layers);
+      recents = arrays .recents;
+    }
+
+-- It is read back as itself.
+pub classed-twice : (r : Metar) → Arrays r → judgeOf r ≡ judged.Fine → classedOf (classedOf r) ≡ classedOf r
+classed-twice r arrays e =
+    let first = ap (λ (q : Reading). q .report) (read-canonical r arrays e) in
+    let second = ap (λ (q : Reading). q .report) (read-canonical (classedOf r) (arrays-classed r arrays) (classed-fine r arrays e)) in
+    sym second ∙ ap (λ (t : List ℕ). readOf t .report) (written-again r arrays e) ∙ first
+
+-- WRITTEN AGAIN IT HAS THE SAME ANSWER AND LEAVES THE SAME BYTES, in any buffer.
+pub buffer-again : (r : Metar) (b : List ℕ) → Arrays r → judgeOf r ≡ judged.Fine
+    → (answerBy (judgeOf (classedOf r)) (canonicalOf (classedOf r)) (length b) ≡ answerBy (judgeOf r) (canonicalOf r) (length b))
+    × (bufferBy (judgeOf (classedOf r)) (canonicalOf (classedOf r)) b ≡ bufferBy (judgeOf r) (canonicalOf r) b)
+buffer-again r b arrays e = (rw (classed-fine r arrays e, e, written-again r arrays e), rw (classed-fine r arrays e, e, written-again r arrays e))
+
+-- A buffer with room holds the canonical text at its front, and is as it was past it.
+pub buffer-canonical : (r : Metar) (b : List ℕ) → judgeOf r ≡ judged.Fine → length (canonicalOf r) ≤ length b
+    → (answerBy (judgeOf r) (canonicalOf r) (length b) ≡ answer.Count (length (canonicalOf r))) × (bufferBy (judgeOf r) (canonicalOf r) b ≡ splice b 0 (canonicalOf r))
+buffer-canonical r b e h = (rw (e, le-leb (length (canonicalOf r)) (length b) h), rw (e, le-leb (length (canonicalOf r)) (length b) h))

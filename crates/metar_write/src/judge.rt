@@ -1,0 +1,195 @@
+// What the writer judges of a METAR or SPECI before it writes anything: that a NIL report has nothing after its time, then each group in written order.
+use aerodrome::judge::judge_qnh;
+use aerodrome::judge::judge_runways;
+use aerodrome::judge::judge_station;
+use aerodrome::judge::judge_temperatures;
+use aerodrome::judge::judge_time;
+use aerodrome::judge::no_runways;
+use record::aerodrome::Extremes;
+use record::aerodrome::Metar;
+use record::aerodrome::Temperatures;
+use record::aerodrome::Unit;
+use record::aerodrome::View;
+use record::aerodrome::Wind;
+use record::values::Direction;
+use record::values::Number;
+use record::values::Speed;
+use record::values::Tenths;
+use sky::judge::judge_sky;
+use sky::judge::no_sky;
+use text::judge::and_then;
+use text::judge::judge as judge_pair;
+use text::kinds::Judged;
+use weather_write::judge::judge_recents;
+use weather_write::judge::judge_weathers;
+use weather_write::judge::no_weathers;
+use wind::judge::judge_variation;
+use wind::judge::judge_visibility;
+use wind::judge::judge_wind;
+use wind::read::is_cavok;
+ghost use mathlib.Core.Path.{_≡_};
+ghost use mathlib.Core.Bool.{cond, not, _&&_};
+ghost use Rattle.text.specs.declared.kinds.Judged.the-variants as judged;
+ghost use Rattle.elements.specs.Wind.{noDirection, hasUnit, noGust};
+ghost use Rattle.elements.specs.Visibility.{noView};
+ghost use Rattle.aerodrome.specs.Runway.{isMissing};
+ghost use Rattle.metar.specs.Write.{noTenths, noExtremes, noBody, judgeHead, judgeBody, judgeOf};
+
+// ---- a NIL report: nothing after its time
+
+fn no_tenths(t: Tenths) -> bool
+    ensures { λ r. ⌜ r ≡ noTenths t ⌝ }
+{
+    match t {
+        Tenths::Missing => true,
+        Tenths::Is(_) => false,
+    }
+}
+
+fn no_direction(d: Direction) -> bool
+    ensures { λ r. ⌜ r ≡ noDirection d ⌝ }
+{
+    match d {
+        Direction::Missing => true,
+        Direction::Calm => false,
+        Direction::Variable => false,
+        Direction::Degrees(_) => false,
+    }
+}
+
+fn no_speed(s: Speed) -> bool
+    ensures { λ r. ⌜ r ≡ noGust s ⌝ }
+{
+    match s {
+        Speed::Missing => true,
+        Speed::Is(_) => false,
+    }
+}
+
+fn no_unit(u: Unit) -> bool
+    ensures { λ r. ⌜ r ≡ not (hasUnit u) ⌝ }
+{
+    match u {
+        Unit::Missing => true,
+        Unit::Knots => false,
+        Unit::MetresPerSecond => false,
+        Unit::KilometresPerHour => false,
+    }
+}
+
+fn no_extremes(e: Extremes) -> bool
+    ensures { λ r. ⌜ r ≡ noExtremes e ⌝ }
+{
+    match e {
+        Extremes::Missing => true,
+        Extremes::Between { from: _, to: _ } => false,
+    }
+}
+
+fn no_view(v: View) -> bool
+    ensures { λ r. ⌜ r ≡ noView v ⌝ }
+{
+    match v {
+        View::Missing => true,
+        View::Cavok => false,
+        View::Metres(_) => false,
+    }
+}
+
+fn is_missing(n: Number) -> bool
+    ensures { λ r. ⌜ r ≡ isMissing n ⌝ }
+{
+    match n {
+        Number::Missing => true,
+        Number::Is(_) => false,
+    }
+}
+
+fn no_wind(w: Wind) -> bool
+    ensures { λ r. ⌜ r ≡ (noDirection (w .direction) && noGust (w .speed) && noGust (w .gust) && not (hasUnit (w .unit))) ⌝ }
+{
+    let direction = w.direction;
+    let speed = w.speed;
+    let gust = w.gust;
+    let unit = w.unit;
+    no_direction(direction) & no_speed(speed) & no_speed(gust) & no_unit(unit)
+}
+
+fn no_temperatures(t: Temperatures) -> bool
+    ensures { λ r. ⌜ r ≡ (noTenths (t .air) && noTenths (t .dew)) ⌝ }
+{
+    let air = t.air;
+    let dew = t.dew;
+    no_tenths(air) & no_tenths(dew)
+}
+
+fn no_body(r: Metar) -> bool
+    ensures { λ b. ⌜ b ≡ noBody r ⌝ }
+{
+    let automatic = r.automatic;
+    let wind = r.wind;
+    let variation = r.variation;
+    let extremes = variation.is;
+    let visibility = r.visibility;
+    let view = visibility.is;
+    let runways = r.runways;
+    let weathers = r.weathers;
+    let sky = r.sky;
+    let temperatures = r.temperatures;
+    let qnh = r.qnh;
+    let pressure = qnh.is;
+    let recents = r.recents;
+    let seen = !automatic & no_wind(wind) & no_extremes(extremes) & no_view(view);
+    let clouded = seen & no_runways(runways) & no_weathers(weathers) & no_sky(sky);
+    clouded & no_temperatures(temperatures) & is_missing(pressure) & no_weathers(recents)
+}
+
+// ---- the groups in written order
+
+fn judge_head(r: Metar) -> Judged
+    ensures { λ j. ⌜ j ≡ judgeHead r ⌝ }
+{
+    let station = r.station;
+    let time = r.time;
+    and_then(judge_station(station), judge_time(time))
+}
+
+fn judge_body(r: Metar) -> Judged
+    ensures { λ j. ⌜ j ≡ judgeBody r ⌝ }
+{
+    let automatic = r.automatic;
+    let wind = r.wind;
+    let variation = r.variation;
+    let visibility = r.visibility;
+    let runways = r.runways;
+    let weathers = r.weathers;
+    let sky = r.sky;
+    let temperatures = r.temperatures;
+    let qnh = r.qnh;
+    let recents = r.recents;
+    let cavok = is_cavok(visibility);
+    let from_qnh = and_then(judge_qnh(qnh), judge_recents(automatic, recents));
+    let from_air = and_then(judge_temperatures(temperatures), from_qnh);
+    let from_sky = and_then(judge_sky(false, cavok, sky), from_air);
+    let from_weather = and_then(judge_weathers(false, automatic, cavok, weathers), from_sky);
+    let from_runways = and_then(judge_runways(runways), from_weather);
+    let from_view = and_then(judge_visibility(false, visibility), from_runways);
+    let from_variation = and_then(judge_variation(variation), from_view);
+    and_then(judge_wind(false, wind), from_variation)
+}
+
+// A NIL report has no body to judge.
+fn judge_rest(nil: bool, r: Metar) -> Judged
+    ensures { λ j. ⌜ j ≡ cond nil judged.Fine (judgeBody r) ⌝ }
+{
+    if nil { Judged::Fine } else { judge_body(r) }
+}
+
+pub fn judge(r: Metar) -> Judged
+    ensures { λ j. ⌜ j ≡ judgeOf r ⌝ }
+{
+    let nil = r.nil;
+    let foreign = judge_pair(!nil | no_body(r), true);
+    let stood = and_then(judge_head(r), judge_rest(nil, r));
+    and_then(foreign, stood)
+}

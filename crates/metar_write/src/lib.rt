@@ -1,0 +1,3 @@
+// The writer of METAR and SPECI: a record judged, and written as its canonical text.
+pub mod judge;
+pub mod write;

@@ -1,0 +1,28 @@
+-- What a reader answers of a text, for any record: accepted, with where the unread rest begins, or refused by number and place, with a blank record.
+-- Assumes nothing: these are definitions.
+use Prim.Native.Nat.{ℕ}
+use Rattle.text.specs.declared.kinds.Refusal.{Refusal}
+use Rattle.text.specs.declared.kinds.Refusal.the-variants as refusal
+use Rattle.text.specs.declared.kinds.Bytes.{Bytes}
+use Rattle.text.specs.declared.kinds.Bytes.the-variants as judgement
+use Rattle.text.specs.declared.kinds.Verdict.{Verdict}
+use Rattle.text.specs.declared.kinds.Verdict.the-variants as verdict
+use Rattle.places.specs.Engine.{Outcome, Done, Fault}
+
+-- `make` puts a verdict and a record together, `blank` is the blank record
+module _ {R A : Type 0} (make : Verdict → R → A) (blank : R) where
+  abbrev pub acceptedAs : ℕ → R → A
+  acceptedAs rest r = make (verdict.Accepted rest) r
+
+  abbrev pub refusedAs : Refusal → ℕ → A
+  refusedAs f at = make (verdict.Refused f at) blank
+
+  abbrev pub answerOf : Outcome R → A
+  answerOf (Done rest r) = acceptedAs rest r
+  answerOf (Fault f at) = refusedAs f at
+
+  -- "1, 2 and 3 are judged over the whole text in that order": the bytes first
+  abbrev pub afterBytes : Bytes → A → A
+  afterBytes judgement.Sound a = a
+  afterBytes judgement.Length a = refusedAs refusal.Length 0
+  afterBytes (judgement.Byte at) a = refusedAs refusal.Byte at

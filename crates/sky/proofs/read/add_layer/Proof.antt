@@ -1,0 +1,16 @@
+-- `sky::read::add_layer` meets its contract, by the room.
+-- Assumes nothing.
+use borrow.Author.Tests.{lt-ltb, le-ltb}
+use borrow.Author.Needs.{needs}
+use Rattle.sky.proofs.read.add_layer.Statement.{statement}
+use Rattle.sky.proofs.read.add_layer.Tie as tie
+
+pub add-layer-spec : {M : Type 1} → statement M
+add-layer-spec =
+    tie.close
+    (tie.spec
+    (λ c. search needs)
+    (λ c. search needs)
+    (λ c. search needs)
+    (λ c. rw (lt-ltb _ _ (c .before .if1 .taken)))
+    (λ c. rw (le-ltb _ _ (c .if1 .left))))

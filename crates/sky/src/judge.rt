@@ -1,0 +1,190 @@
+// What the writer judges of a sky: the cover, the count and what stands past it, then each layer, first its ranges (refusal 11) and then its
+// agreement (refusal 7).
+use crate::read::is_layers;
+use crate::read::not_above;
+use crate::write::cloud_number;
+use record::aerodrome::Amount;
+use record::aerodrome::Convective;
+use record::aerodrome::Cover;
+use record::aerodrome::Layer;
+use record::aerodrome::Sky;
+use record::values::Number;
+use scales::kinds::Reading;
+use scales::metres::cloud_reading;
+use text::judge::and_then;
+use text::judge::judge;
+use text::kinds::Judged;
+ghost use mathlib.Core.Path.{_≡_};
+ghost use mathlib.Core.Bool.{not, _&&_};
+ghost use mathlib.Core.List.{[]};
+ghost use lib.ListN.{take, drop};
+ghost use lib.Dec.{eqb};
+ghost use Rattle.text.specs.Judge.{judge};
+ghost use Rattle.elements.specs.Judge.{metresFit};
+ghost use Rattle.elements.specs.Sky.{notAbove, isLayers, coverFits, judgeCover, hasAmount, isNoHeight, isNoConvective, isBlankLayer, allBlank, writtenHeight, judgeLayers, judgeSky};
+ghost use Rattle.sky.specs.Judge.{lastHeight};
+
+fn metres_fit(forecast: bool, n: Number) -> bool
+    ensures { λ r. ⌜ r ≡ metresFit forecast n ⌝ }
+{
+    match n {
+        Number::Missing => !forecast,
+        Number::Is(m) => m <= 99999,
+    }
+}
+
+fn cover_fits(forecast: bool, c: Cover) -> bool
+    ensures { λ r. ⌜ r ≡ coverFits forecast c ⌝ }
+{
+    match c {
+        Cover::Layers => true,
+        Cover::Clear => true,
+        Cover::NoneSignificant => true,
+        Cover::NoneDetected => true,
+        Cover::Vertical(h) => metres_fit(forecast, h),
+    }
+}
+
+fn judge_cover(forecast: bool, cavok: bool, c: Cover) -> Judged
+    ensures { λ r. ⌜ r ≡ judgeCover forecast cavok c ⌝ }
+{
+    judge(cover_fits(forecast, c), !cavok | is_layers(c))
+}
+
+fn has_amount(a: Amount) -> bool
+    ensures { λ r. ⌜ r ≡ hasAmount a ⌝ }
+{
+    match a {
+        Amount::None => false,
+        Amount::Few => true,
+        Amount::Scattered => true,
+        Amount::Broken => true,
+        Amount::Overcast => true,
+    }
+}
+
+fn is_no_height(h: Number) -> bool
+    ensures { λ r. ⌜ r ≡ isNoHeight h ⌝ }
+{
+    match h {
+        Number::Missing => true,
+        Number::Is(_) => false,
+    }
+}
+
+fn is_no_convective(c: Convective) -> bool
+    ensures { λ r. ⌜ r ≡ isNoConvective c ⌝ }
+{
+    match c {
+        Convective::None => true,
+        Convective::Cumulonimbus => false,
+        Convective::ToweringCumulus => false,
+    }
+}
+
+fn is_blank_layer(l: Layer) -> bool
+    ensures { λ r. ⌜ r ≡ isBlankLayer l ⌝ }
+{
+    let a = l.amount;
+    let h = l.height;
+    let c = l.convective;
+    !has_amount(a) & is_no_height(h) & is_no_convective(c)
+}
+
+// The layers from number `from` on are blank.
+fn all_blank(layers: [Layer; 4], from: usize) -> bool
+    ensures { λ r. ⌜ r ≡ allBlank (drop from layers) ⌝ }
+{
+    let mut i = from;
+    while i < 4 {
+        let l = layers[i];
+        if is_blank_layer(l) {
+            i += 1;
+        } else {
+            return false;
+        }
+    }
+    true
+}
+
+// A height as it would be read back.
+fn written_height(h: Number) -> Number
+    ensures { λ r. ⌜ r ≡ writtenHeight h ⌝ }
+{
+    match h {
+        Number::Missing => Number::Missing,
+        Number::Is(m) => {
+            let r = cloud_reading(cloud_number(m));
+            match r {
+                Reading::Is(foot) => Number::Is(foot),
+                Reading::Unused => Number::Missing,
+            }
+        }
+    }
+}
+
+// A layer whose height would be written as `height`, where the last height before it is `last`.
+fn judge_layer(forecast: bool, beside: bool, last: Number, l: Layer, height: Number) -> Judged
+    ensures { λ r. ⌜ r ≡ judge (hasAmount (l .amount) && metresFit forecast (l .height)) (not beside && notAbove last height) ⌝ }
+{
+    let a = l.amount;
+    let h = l.height;
+    judge(
+        has_amount(a) & metres_fit(forecast, h),
+        !beside & not_above(last, height),
+    )
+}
+
+// The last height so far, missing ones passed over.
+fn last_height(before: Number, h: Number) -> Number
+    ensures { λ r. ⌜ r ≡ lastHeight before h ⌝ }
+{
+    match h {
+        Number::Missing => before,
+        Number::Is(m) => Number::Is(m),
+    }
+}
+
+// The first `count` layers: as heights rise, the last one so far is the greatest.
+fn judge_layers(forecast: bool, beside: bool, layers: [Layer; 4], count: usize) -> Judged
+    ensures { λ r. ⌜ r ≡ judgeLayers forecast beside [] (take count layers) ⌝ }
+{
+    let mut last = Number::Missing;
+    let mut i = 0;
+    while i < 4 {
+        if count <= i {
+            return Judged::Fine;
+        }
+        let l = layers[i];
+        let h = l.height;
+        let height = written_height(h);
+        let judged = judge_layer(forecast, beside, last, l, height);
+        if let Judged::Refused(refusal) = judged {
+            return Judged::Refused(refusal);
+        }
+        last = last_height(last, height);
+        i += 1;
+    }
+    Judged::Fine
+}
+
+pub fn judge_sky(forecast: bool, cavok: bool, s: Sky) -> Judged
+    ensures { λ r. ⌜ r ≡ judgeSky forecast cavok s ⌝ }
+{
+    let c = s.cover;
+    let layers = s.layers;
+    let count = s.count;
+    let counted = judge((count <= 4) & all_blank(layers, count), true);
+    let layered = judge_layers(forecast, cavok | !is_layers(c), layers, count);
+    and_then(judge_cover(forecast, cavok, c), and_then(counted, layered))
+}
+
+// Nothing is said of the sky.
+pub fn no_sky(s: Sky) -> bool
+    ensures { λ r. ⌜ r ≡ (isLayers (s .cover) && eqb (s .count) 0 && allBlank (s .layers)) ⌝ }
+{
+    let c = s.cover;
+    let layers = s.layers;
+    let count = s.count;
+    is_layers(c) & (count == 0) & all_blank(layers, 0)
+}

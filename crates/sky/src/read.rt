@@ -1,0 +1,296 @@
+// A sky group read into the sky that the groups before it gave.
+use elements::kinds::CoverRead;
+use elements::kinds::LayerRead;
+use elements::kinds::SkyRead;
+use figures::field;
+use figures::kinds::Field;
+use record::aerodrome::Amount;
+use record::aerodrome::Convective;
+use record::aerodrome::Cover;
+use record::aerodrome::Layer;
+use record::aerodrome::Sky;
+use record::values::Number;
+use scales::kinds::Reading;
+use scales::metres::cloud_reading;
+use shapes::has_pattern;
+use shapes::kinds::Scan;
+use shapes::kinds::Value;
+use shapes::scan::scan;
+use text::kinds::Judged;
+use text::kinds::Refusal;
+ghost use mathlib.Core.Path.{_≡_};
+ghost use lib.ListN.{getD, take};
+ghost use Rattle.shapes.specs.Pattern.{hasAny};
+ghost use Rattle.shapes.specs.Shape.{scanOf, blankValue};
+ghost use Rattle.places.specs.Engine.{Bad};
+ghost use Rattle.elements.specs.Parts.{then};
+ghost use Rattle.elements.specs.Answers.{asLayer, asCover, asSky};
+ghost use Rattle.elements.specs.Sky.{layerShape, aloneShapes, hasSky, heightOf, amountOf, convectiveOf, layerBy, readAlone, notAbove, rises, isLayers, addLayer, withLayer, withAlone, readSky};
+ghost use Rattle.sky.specs.Answers.{asHeight, verticalBy};
+
+// A height that may be missing, or the group's refusal.
+enum HeightRead {
+    Good(Number),
+    Bad(Refusal),
+}
+
+// FEW, SCT, BKN or OVC, hhh, and CB or TCU or nothing.
+fn scan_layer(g: &[u8]) -> Scan
+    ensures { λ r. ⌜ r ≡ scanOf layerShape (now (g .entry)) ⌝ }
+{
+    scan(g, b"FEW|SCT|BKN|OVC ### CB|TCU|")
+}
+
+fn stands_alone(g: &[u8]) -> bool
+    ensures { λ r. ⌜ r ≡ hasAny aloneShapes (now (g .entry)) ⌝ }
+{
+    has_pattern(g, b"SKC")
+        | (has_pattern(g, b"NSC") | (has_pattern(g, b"NCD") | has_pattern(g, b"VV###")))
+}
+
+pub fn has_sky(g: &[u8]) -> bool
+    ensures { λ r. ⌜ r ≡ hasSky (now (g .entry)) ⌝ }
+{
+    let scanned = scan_layer(g);
+    scanned.fits | stands_alone(g)
+}
+
+// hhh, by table 1690; in a TAF a height is not missing.
+fn height_of(forecast: bool, f: Field) -> HeightRead
+    ensures { λ r. ⌜ r ≡ asHeight (heightOf forecast f) ⌝ }
+{
+    match f {
+        Field::Number(n) => {
+            let r = cloud_reading(n);
+            match r {
+                Reading::Is(m) => HeightRead::Good(Number::Is(m)),
+                Reading::Unused => HeightRead::Bad(Refusal::Figure),
+            }
+        }
+        Field::Missing => {
+            if forecast {
+                HeightRead::Bad(Refusal::Figure)
+            } else {
+                HeightRead::Good(Number::Missing)
+            }
+        }
+        Field::Mixed => HeightRead::Bad(Refusal::Figure),
+        Field::Other => HeightRead::Bad(Refusal::Figure),
+    }
+}
+
+fn amount_of(which: usize) -> Amount
+    ensures { λ r. ⌜ r ≡ amountOf which ⌝ }
+{
+    if which == 0 {
+        Amount::Few
+    } else if which == 1 {
+        Amount::Scattered
+    } else if which == 2 {
+        Amount::Broken
+    } else {
+        Amount::Overcast
+    }
+}
+
+fn convective_of(which: usize) -> Convective
+    ensures { λ r. ⌜ r ≡ convectiveOf which ⌝ }
+{
+    if which == 0 {
+        Convective::Cumulonimbus
+    } else if which == 1 {
+        Convective::ToweringCumulus
+    } else {
+        Convective::None
+    }
+}
+
+// The layer that a group's three parts say.
+fn layer_by(forecast: bool, amount: Value, height: Value, convective: Value) -> LayerRead
+    ensures { λ r. ⌜ r ≡ asLayer (layerBy forecast amount height convective) ⌝ }
+{
+    let a = amount_of(amount.which);
+    let c = convective_of(convective.which);
+    let f = height.field;
+    let h = height_of(forecast, f);
+    match h {
+        HeightRead::Good(n) => LayerRead::Good(Layer {
+            amount: a,
+            height: n,
+            convective: c,
+        }),
+        HeightRead::Bad(refusal) => LayerRead::Bad(refusal),
+    }
+}
+
+// The layer of a group that was scanned by the shape of a layer.
+fn read_layer(forecast: bool, values: [Value; 8]) -> LayerRead
+    ensures { λ r. ⌜ r ≡ asLayer (layerBy forecast (getD values 0 blankValue) (getD values 1 blankValue) (getD values 2 blankValue)) ⌝ }
+{
+    layer_by(forecast, values[0], values[1], values[2])
+}
+
+// VVhhh
+fn read_vertical(forecast: bool, f: Field) -> CoverRead
+    ensures { λ r. ⌜ r ≡ asCover (verticalBy forecast f) ⌝ }
+{
+    let h = height_of(forecast, f);
+    match h {
+        HeightRead::Good(n) => CoverRead::Good(Cover::Vertical(n)),
+        HeightRead::Bad(refusal) => CoverRead::Bad(refusal),
+    }
+}
+
+fn read_alone(forecast: bool, g: &[u8]) -> CoverRead
+    ensures { λ r. ⌜ r ≡ asCover (readAlone forecast (now (g .entry))) ⌝ }
+{
+    if has_pattern(g, b"SKC") {
+        CoverRead::Good(Cover::Clear)
+    } else if has_pattern(g, b"NSC") {
+        CoverRead::Good(Cover::NoneSignificant)
+    } else if has_pattern(g, b"NCD") {
+        CoverRead::Good(Cover::NoneDetected)
+    } else {
+        read_vertical(forecast, field(g, 2, 3))
+    }
+}
+
+// A missing height is above none and below none.
+pub fn not_above(a: Number, b: Number) -> bool
+    ensures { λ r. ⌜ r ≡ notAbove a b ⌝ }
+{
+    match a {
+        Number::Missing => true,
+        Number::Is(x) => match b {
+            Number::Missing => true,
+            Number::Is(y) => x <= y,
+        },
+    }
+}
+
+// None of the first k layers is above h.
+fn rises(layers: [Layer; 4], k: usize, h: Number) -> bool
+    ensures { λ r. ⌜ r ≡ rises (take k layers) h ⌝ }
+{
+    let mut i = 0;
+    while i < 4 {
+        if k <= i {
+            return true;
+        }
+        let l = layers[i];
+        let a = l.height;
+        if not_above(a, h) {
+            i += 1;
+        } else {
+            return false;
+        }
+    }
+    true
+}
+
+pub fn is_layers(c: Cover) -> bool
+    ensures { λ r. ⌜ r ≡ isLayers c ⌝ }
+{
+    match c {
+        Cover::Layers => true,
+        Cover::Clear => false,
+        Cover::NoneSignificant => false,
+        Cover::NoneDetected => false,
+        Cover::Vertical(_) => false,
+    }
+}
+
+// The sky as it was, beside a refusal.
+fn refused(s: Sky, refusal: Refusal) -> SkyRead
+    ensures { λ r. ⌜ r ≡ asSky s (Bad refusal) ⌝ }
+{
+    SkyRead {
+        judged: Judged::Refused(refusal),
+        sky: s,
+    }
+}
+
+// One more layer where k stand; past the fourth there is no room.
+fn add_layer(k: usize, s: Sky, l: Layer) -> Sky
+    ensures { λ r. ⌜ r ≡ addLayer k s l ⌝ }
+{
+    if k < 4 {
+        let mut layers = s.layers;
+        layers[k] = l;
+        Sky {
+            cover: Cover::Layers,
+            layers,
+            count: k + 1,
+        }
+    } else {
+        s
+    }
+}
+
+// CAVOK stands for the clouds, what stands alone for the layers, and heights rise.
+fn with_layer(cavok: bool, k: usize, s: Sky, l: Layer) -> SkyRead
+    ensures { λ r. ⌜ r ≡ asSky s (withLayer cavok k s l) ⌝ }
+{
+    let c = s.cover;
+    let layers = s.layers;
+    let h = l.height;
+    if !cavok & is_layers(c) & rises(layers, k, h) {
+        SkyRead {
+            judged: Judged::Fine,
+            sky: add_layer(k, s, l),
+        }
+    } else {
+        refused(s, Refusal::Disagreement)
+    }
+}
+
+fn with_alone(cavok: bool, k: usize, s: Sky, c: Cover) -> SkyRead
+    ensures { λ r. ⌜ r ≡ asSky s (withAlone cavok k s c) ⌝ }
+{
+    let layers = s.layers;
+    if !cavok & (k == 0) {
+        SkyRead {
+            judged: Judged::Fine,
+            sky: Sky {
+                cover: c,
+                layers,
+                count: 0,
+            },
+        }
+    } else {
+        refused(s, Refusal::Disagreement)
+    }
+}
+
+fn read_as_layer(forecast: bool, cavok: bool, k: usize, scanned: Scan, s: Sky) -> SkyRead
+    ensures { λ r. ⌜ r ≡ asSky s (then (layerBy forecast (getD (scanned .values) 0 blankValue) (getD (scanned .values) 1 blankValue) (getD (scanned .values) 2 blankValue)) (withLayer cavok k s)) ⌝ }
+{
+    let values = scanned.values;
+    let read = read_layer(forecast, values);
+    match read {
+        LayerRead::Good(l) => with_layer(cavok, k, s, l),
+        LayerRead::Bad(refusal) => refused(s, refusal),
+    }
+}
+
+fn read_as_alone(forecast: bool, cavok: bool, k: usize, g: &[u8], s: Sky) -> SkyRead
+    ensures { λ r. ⌜ r ≡ asSky s (then (readAlone forecast (now (g .entry))) (withAlone cavok k s)) ⌝ }
+{
+    let read = read_alone(forecast, g);
+    match read {
+        CoverRead::Good(c) => with_alone(cavok, k, s, c),
+        CoverRead::Bad(refusal) => refused(s, refusal),
+    }
+}
+
+// The sky with what the group says, k groups standing before it, or as it was beside the group's refusal.
+pub fn read_sky(forecast: bool, cavok: bool, k: usize, g: &[u8], s: Sky) -> SkyRead
+    ensures { λ r. ⌜ r ≡ asSky s (readSky forecast cavok k (now (g .entry)) s) ⌝ }
+{
+    let scanned = scan_layer(g);
+    if scanned.fits {
+        read_as_layer(forecast, cavok, k, scanned, s)
+    } else {
+        read_as_alone(forecast, cavok, k, g, s)
+    }
+}

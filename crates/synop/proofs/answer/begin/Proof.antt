@@ -1,8 +1,0 @@
--- `answer::begin` meets its contract.
--- Assumes nothing.
-use borrow.Author.Needs.{needs}
-use Rattle.synop.proofs.answer.begin.Statement.{statement}
-use Rattle.synop.proofs.answer.begin.Tie as tie
-
-pub begin-spec : {M : Type 1} → statement M
-begin-spec = tie.close (tie.spec (λ c κs. search needs) (λ c κs. search needs) (λ c. rw (c .blank-surface .ensures, c .before .blank-site .ensures)))

@@ -1,8 +1,0 @@
--- `answer::refuse` meets its contract.
--- Assumes nothing.
-use borrow.Author.Needs.{needs}
-use Rattle.synop.proofs.answer.refuse.Statement.{statement}
-use Rattle.synop.proofs.answer.refuse.Tie as tie
-
-pub refuse-spec : {M : Type 1} → statement M
-refuse-spec = tie.close (tie.spec (λ c κs. search needs) (λ c. rw (c .begin .ensures)))

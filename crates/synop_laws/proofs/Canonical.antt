@@ -1,0 +1,289 @@
+-- THE ROUND TRIP OF SYNOP AND SHIP, at the level of the text: the canonical text of a record that the writer accepts is read back whole, as the record
+-- with each rounded number the reading of its class; written again it is the same text.
+-- Assumes nothing.
+use Prim.Native.Nat.{ℕ, _+_, _≤_}
+use native.Mathlib.Omega.{arith}
+use mathlib.Core.Path.{_≡_, refl, sym, ap, _∙_}
+use mathlib.Core.Bool.{Bool, true, false, not, cond, _&&_, _||_, false≢true}
+use mathlib.Core.List.{List, [], _∷_, _++_}
+use lib.ListN.{length}
+use borrow.Author.Tests.{le-leb, not-true}
+use Rattle.figures.specs.Quote.{bytes}
+use Rattle.figures.specs.Put.{splice}
+use Rattle.text.specs.declared.kinds.Refusal.the-variants as refusal
+use Rattle.text.specs.declared.kinds.Tail.{Tail}
+use Rattle.text.specs.declared.kinds.Tail.the-variants.{Clear}
+use Rattle.text.specs.Groups.{Piece, groupsFrom, join}
+use Rattle.text.proofs.Judging.{and-then}
+use Rattle.text.proofs.Joins.{round-trip-bytes, join-tail, join-sound}
+use Rattle.shapes.specs.Pattern.{low, high, fits, hasPattern}
+use Rattle.shapes.proofs.Patterns.{both}
+use Rattle.places.specs.Engine.{Group, Done, written}
+use Rattle.places.proofs.ReadBack.{groupsOf as pieceGroups}
+use Rattle.places.proofs.Sizes.{Sized, sized-sign, Sizes, sizes-none, sizes-cons, sizes-append, sizes-more, join-room}
+use Rattle.record.specs.declared.surface.Surface.{Surface}
+use Rattle.record.specs.declared.surface.Synop.{Synop}
+use Rattle.record.specs.Blank.{blankSurface}
+use Rattle.record.specs.Set.{setNil, setSurface}
+use Rattle.text.specs.declared.kinds.Judged.the-variants as judged
+use Rattle.surface.specs.Shows.{isMissing}
+use Rattle.surface.proofs.RoundTripFields.{is-missing}
+use Rattle.surface.specs.Judge.{judgeIndicators, judgeWind, windFits, fallFits}
+use Rattle.surface.proofs.RoundTripHead.{wind-fine, indicators-again, indicators-classed, wind-again, wind-classed}
+use Rattle.synop_section.specs.declared.kinds.Reading.{Reading}
+use Rattle.text.specs.declared.kinds.Written.the-variants as answer
+use Rattle.synop_section.specs.Row.{needsOf, row}
+use Rattle.synop_section.specs.Answer.{section, begun, accepted}
+use Rattle.synop.specs.Read.{posts, walk, fromFirst, readOf}
+use Rattle.synop.specs.Write.{noSign, noPosition, noSurface, foreignBlank, judgeSite, judgeSection, judgeSurface, judgeOf, siteGroups, surfaceGroups, groupsOf, canonicalOf, classedOf, writtenOf, bufferOf}
+use Rattle.synop_laws.proofs.Blanks.{sign-blank, position-blank, surface-blank}
+use Rattle.synop_laws.proofs.Sections.{classedSurface, section-back, section-fall, section-sizes, section-again, section-classed}
+use Rattle.synop_laws.proofs.Heads.{shown, putPosts, walk-stood, sitePosts, surfacePosts, posts-are, site-stood, surface-stood, site-sizes, surface-sizes}
+
+-- ---- what is judged fine
+
+-- a record whose foreign fields are blank, whose site is judged fine, and whose surface too unless the report is NIL
+record Fair (r : Synop) : Type 0 where
+  blank : foreignBlank r ≡ true
+  site : judgeSite r ≡ judged.Fine
+  surface : cond (r .site .nil) judged.Fine (judgeSurface (r .surface)) ≡ judged.Fine
+
+blank-fine : (b : Bool) → cond b judged.Fine (judged.Refused refusal.Value) ≡ judged.Fine → b ≡ true
+blank-fine true e = refl
+blank-fine false e = let z : _≡_ {A = ℕ} 0 1 = cc in absurd (omega arith)
+
+fair : (r : Synop) → judgeOf r ≡ judged.Fine → Fair r
+unfolding judgeOf
+fair r e =
+    let f = and-then (cond (foreignBlank r) judged.Fine (judged.Refused refusal.Value)) _ e in
+    let s = and-then (judgeSite r) _ (f .1) in
+    record { blank = blank-fine (foreignBlank r) (f .0); site = s .0; surface = s .1 }
+
+-- what is judged fine of a surface
+record FairSurface (s : Surface) : Type 0 where
+  indicators : judgeIndicators (s .indicators) ≡ judged.Fine
+  wind : judgeWind (s .wind) ≡ judged.Fine
+  section : judgeSection (needsOf s) s ≡ judged.Fine
+
+fair-surface : (s : Surface) → judgeSurface s ≡ judged.Fine → FairSurface s
+unfolding judgeSurface
+fair-surface s e =
+    let i = and-then (judgeIndicators (s .indicators)) _ e in
+    let w = and-then (judgeWind (s .wind)) _ (i .1) in
+    record { indicators = i .0; wind = w .0; section = w .1 }
+
+-- the fields that are foreign to each kind and to NIL
+module _ (r : Synop) (e : foreignBlank r ≡ true) where
+  foreign-parts : (cond (r .ship) (isMissing (r .site .station) && not (r .site .nil)) (noSign (r .site .sign) && noPosition (r .site .position)) ≡ true)
+      × ((not (r .site .nil) || noSurface (r .surface)) ≡ true)
+  unfolding foreignBlank
+  foreign-parts =
+      both (cond (r .ship) (isMissing (r .site .station) && not (r .site .nil)) (noSign (r .site .sign) && noPosition (r .site .position)))
+      (not (r .site .nil) || noSurface (r .surface)) e
+
+  foreign-land : r .ship ≡ false → (noSign (r .site .sign) ≡ true) × (noPosition (r .site .position) ≡ true)
+  foreign-land is = both (noSign (r .site .sign)) (noPosition (r .site .position)) (rw is at (foreign-parts .0))
+
+  foreign-ship : r .ship ≡ true → (isMissing (r .site .station) ≡ true) × (r .site .nil ≡ false)
+  foreign-ship is =
+      let t = both (isMissing (r .site .station)) (not (r .site .nil)) (rw is at (foreign-parts .0)) in
+      (t .0, not-true (r .site .nil) (t .1))
+
+  foreign-nil : r .site .nil ≡ true → noSurface (r .surface) ≡ true
+  foreign-nil is = rw is at (foreign-parts .1)
+
+-- the wind and the rain of such a record are in range, or missing
+pub parts-fit : (r : Synop) → judgeOf r ≡ judged.Fine → (windFits (r .surface .wind .direction) (r .surface .wind .speed) ≡ true) × (fallFits (r .surface .rainfall .is) ≡ true)
+parts-fit r e = go (r .site .nil) refl
+  where
+    go : (nil : Bool) → r .site .nil ≡ nil → (windFits (r .surface .wind .direction) (r .surface .wind .speed) ≡ true) × (fallFits (r .surface .rainfall .is) ≡ true)
+    go true n = rw (surface-blank (r .surface) (foreign-nil r (fair r e .blank) n)) (refl, refl)
+    go false n =
+        let s = fair-surface (r .surface) (rw n at (fair r e .surface)) in
+        (wind-fine (r .surface .wind) (s .wind) .1, section-fall (r .surface) (s .section))
+
+-- ---- the groups of the site
+
+-- the word that begins a report of the kind
+abbrev word : Bool → Group
+word false = bytes "AAXX"
+word true = bytes "BBXX"
+
+site-groups : (ship : Bool) (r : Synop) → r .ship ≡ ship → siteGroups r ≡ word ship ∷ shown (sitePosts ship) r
+unfolding siteGroups
+site-groups false r is = rw is
+site-groups true r is = rw is
+
+-- the record as they leave it
+abbrev siteRead : Synop → Synop
+siteRead r = record { ship = r .ship; site = setNil false (r .site); surface = blankSurface }
+
+site-put : (ship : Bool) (r : Synop) → r .ship ≡ ship → length (r .site .sign .letters) ≡ 9 → foreignBlank r ≡ true
+    → putPosts (sitePosts ship) r (begun ship) ≡ siteRead r
+site-put false r is nine e =
+    let f = foreign-land r e is in
+    rw (is, sign-blank (r .site .sign) nine (f .0), position-blank (r .site .position) (f .1))
+site-put true r is nine e = rw (is, is-missing (r .site .station) (foreign-ship r e is .0))
+
+-- ---- the report as a whole
+
+-- what a report of the kind has after its site
+abbrev restGroups : Synop → List Group
+restGroups r = cond (r .site .nil) (bytes "NIL" ∷ []) (surfaceGroups (r .surface))
+
+groups-are : (ship : Bool) (r : Synop) → r .ship ≡ ship → groupsOf r ≡ word ship ∷ (shown (sitePosts ship) r ++ restGroups r)
+unfolding groupsOf
+groups-are ship r is = rw (site-groups ship r is)
+
+-- NIL ends a land report
+nil-back : (r : Synop) (end : ℕ) (gs : List Piece) → pieceGroups gs ≡ bytes "NIL" ∷ []
+    → walk (surfacePosts false) (siteRead r) Clear end gs ≡ Done end (record { ship = r .ship; site = setNil true (r .site); surface = blankSurface })
+unfolding walk hasPattern fits low high
+nil-back r end [] are = let z : _≡_ {A = ℕ} 0 1 = cc in absurd (omega arith)
+nil-back r end (g ∷ []) are = let here : g .bytes ≡ bytes "NIL" = cc in rw here
+nil-back r end (g ∷ h ∷ gs) are = let z : _≡_ {A = ℕ} 0 1 = cc in absurd (omega arith)
+
+surface-back : (ship : Bool) (r : Synop) (end : ℕ) (gs : List Piece) → FairSurface (r .surface) → pieceGroups gs ≡ surfaceGroups (r .surface)
+    → walk (surfacePosts ship) (siteRead r) Clear end gs ≡ Done end (setSurface (classedSurface (r .surface)) (siteRead r))
+unfolding surfaceGroups walk
+surface-back ship r end gs f are =
+    walk-stood (surfacePosts ship) [] r (siteRead r) Clear end gs (written (row (needsOf (r .surface))) (r .surface)) _
+    (surface-stood ship r (siteRead r) (f .indicators) (f .wind)) are
+    (λ hs rest. section-back (r .surface) (siteRead r) end hs (f .wind) (f .section) rest)
+
+-- after the site
+rest-back : (ship : Bool) (r : Synop) (end : ℕ) (gs : List Piece) → r .ship ≡ ship → Fair r → pieceGroups gs ≡ restGroups r
+    → walk (surfacePosts ship) (siteRead r) Clear end gs ≡ Done end (classedOf r)
+unfolding classedOf
+rest-back ship r end gs is f are = go (r .site .nil) refl ship is
+  where
+    go : (nil : Bool) → r .site .nil ≡ nil → (ship : Bool) → r .ship ≡ ship → walk (surfacePosts ship) (siteRead r) Clear end gs ≡ Done end (classedOf r)
+    go true n true is = absurd (false≢true (sym (foreign-ship r (f .blank) is .1) ∙ n))
+    go true n false is = nil-back r end gs (rw n at are) ∙ rw (n, surface-blank (r .surface) (foreign-nil r (f .blank) n))
+    go false n ship is = surface-back ship r end gs (fair-surface (r .surface) (rw n at (f .surface))) (rw n at are) ∙ rw n
+
+from-first : (ship : Bool) (g : Piece) (gs : List Piece) (tail : Tail) (end : ℕ) → g .bytes ≡ word ship
+    → fromFirst tail end (g ∷ gs) ≡ walk (posts ship) (begun ship) tail end gs
+unfolding fromFirst hasPattern fits low high
+from-first false g gs tail end e = rw e
+from-first true g gs tail end e = rw e
+
+-- THE GROUPS OF A RECORD ARE READ BACK, from any pieces that hold them.
+pub pieces-back : (r : Synop) (end : ℕ) (gs : List Piece) → length (r .site .sign .letters) ≡ 9 → judgeOf r ≡ judged.Fine → pieceGroups gs ≡ groupsOf r
+    → fromFirst Clear end gs ≡ Done end (classedOf r)
+pieces-back r end gs nine e are = go gs (are ∙ groups-are (r .ship) r refl)
+  where
+    go : (gs : List Piece) → pieceGroups gs ≡ word (r .ship) ∷ (shown (sitePosts (r .ship)) r ++ restGroups r) → fromFirst Clear end gs ≡ Done end (classedOf r)
+    go [] are = let z : _≡_ {A = ℕ} 0 1 = cc in absurd (omega arith)
+    go (g ∷ gs) are =
+        let f = fair r e in
+        let ship = r .ship in
+        from-first ship g gs Clear end (cc)
+        ∙ rw (posts-are ship)
+        (walk-stood (sitePosts ship) (surfacePosts ship) r (begun ship) Clear end gs (restGroups r) (Done end (classedOf r))
+        (site-stood ship r refl nine (f .site)) (cc)
+        (λ hs rest. rw (site-put ship r refl nine (f .blank)) (rest-back ship r end hs refl f rest)))
+
+-- ---- the text
+
+word-sized : (ship : Bool) → Sized 4 (word ship)
+word-sized false = sized-sign 4 (bytes "AAXX") refl
+word-sized true = sized-sign 4 (bytes "BBXX") refl
+
+rest-sizes : (r : Synop) → Fair r → Sizes 72 (restGroups r)
+unfolding surfaceGroups
+rest-sizes r f = go (r .site .nil) refl
+  where
+    go : (nil : Bool) → r .site .nil ≡ nil → Sizes 72 (restGroups r)
+    go true n = rw n (sizes-more (omega arith) (sizes-cons (sized-sign 3 (bytes "NIL") refl) sizes-none))
+    go false n =
+        let s = fair-surface (r .surface) (rw n at (f .surface)) in
+        rw n
+        (sizes-append (shown (surfacePosts (r .ship)) r) (written (row (needsOf (r .surface))) (r .surface))
+        (surface-sizes (r .ship) r (siteRead r) (surface-stood (r .ship) r (siteRead r) (s .indicators) (s .wind)))
+        (section-sizes (r .surface) (s .wind) (s .section)))
+
+report-sizes : (r : Synop) → length (r .site .sign .letters) ≡ 9 → judgeOf r ≡ judged.Fine
+    → Sizes 105 (word (r .ship) ∷ (shown (sitePosts (r .ship)) r ++ restGroups r))
+report-sizes r nine e =
+    let f = fair r e in
+    let ship = r .ship in
+    sizes-cons (word-sized ship)
+    (sizes-append (shown (sitePosts ship) r) (restGroups r) (site-sizes ship r (begun ship) (site-stood ship r refl nine (f .site))) (rest-sizes r f))
+
+-- The groups of a record can be joined and cut, and hold only bytes that a text may hold.
+pub groups-sizes : (r : Synop) → length (r .site .sign .letters) ≡ 9 → judgeOf r ≡ judged.Fine → Sizes 105 (groupsOf r)
+groups-sizes r nine e = rw (groups-are (r .ship) r refl) (report-sizes r nine e)
+
+-- HOW LONG THE CANONICAL TEXT IS, at most: a ship's, with a call sign of nine and every group.
+pub length-canonical : (r : Synop) → length (r .site .sign .letters) ≡ 9 → judgeOf r ≡ judged.Fine → length (canonicalOf r) ≤ 105
+unfolding canonicalOf
+length-canonical r nine e =
+    rw (groups-are (r .ship) r refl, join-room (word (r .ship)) (shown (sitePosts (r .ship)) r ++ restGroups r)) (report-sizes r nine e .short)
+
+-- THE CANONICAL TEXT OF A RECORD IS READ BACK, to its end, as the record's classes.
+pub read-canonical : (r : Synop) → length (r .site .sign .letters) ≡ 9 → judgeOf r ≡ judged.Fine
+    → readOf (canonicalOf r) ≡ accepted (length (canonicalOf r)) (classedOf r)
+unfolding readOf canonicalOf
+read-canonical r nine e =
+    let s = groups-sizes r nine e in
+    let short = length-canonical r nine e in
+    rw (
+      join-sound (groupsOf r) (s .allow) (omega arith),
+      join-tail (groupsOf r) (s .wholes),
+      pieces-back r (length (join (groupsOf r))) (groupsFrom (join (groupsOf r)) 0) nine e (round-trip-bytes (groupsOf r) (s .wholes)),
+    )
+
+-- ---- written again
+
+surface-again : (s : Surface) → FairSurface s → surfaceGroups (classedSurface s) ≡ surfaceGroups s
+unfolding surfaceGroups
+surface-again s f = rw (indicators-again (s .indicators) (f .indicators), wind-again (s .wind) (f .wind), section-again s (f .section))
+
+-- THE RECORD THAT IS READ BACK IS WRITTEN AS THE SAME TEXT.
+pub written-again : (r : Synop) → judgeOf r ≡ judged.Fine → canonicalOf (classedOf r) ≡ canonicalOf r
+unfolding canonicalOf groupsOf siteGroups classedOf
+written-again r e = ap (λ (gs : List Group). join (siteGroups r ++ gs)) (go (r .site .nil) refl)
+  where
+    go : (nil : Bool) → r .site .nil ≡ nil → restGroups (classedOf r) ≡ restGroups r
+    go true n = rw n
+    go false n = rw n (surface-again (r .surface) (fair-surface (r .surface) (rw n at (fair r e .surface))))
+
+surface-classed : (s : Surface) → FairSurface s → judgeSurface (classedSurface s) ≡ judged.Fine
+unfolding judgeSurface
+surface-classed s f = rw (indicators-classed (s .indicators) (f .indicators), wind-classed (s .wind) (f .wind), section-classed s (f .section))
+
+foreign-classed : (r : Synop) → foreignBlank r ≡ true → foreignBlank (classedOf r) ≡ true
+unfolding foreignBlank classedOf noSurface
+foreign-classed r b = rw (foreign-parts r b .0) (go (r .site .nil) refl)
+  where
+    go : (nil : Bool) → r .site .nil ≡ nil → (not (r .site .nil) || noSurface (classedSurface (r .surface))) ≡ true
+    go true n = rw (n, surface-blank (r .surface) (foreign-nil r b n))
+    go false n = rw n
+
+-- AND THE WRITER ACCEPTS IT.
+pub classed-fine : (r : Synop) → judgeOf r ≡ judged.Fine → judgeOf (classedOf r) ≡ judged.Fine
+unfolding judgeOf judgeSite classedOf
+classed-fine r e = let f = fair r e in rw (foreign-classed r (f .blank), f .site, go (r .site .nil) refl)
+  where
+    go : (nil : Bool) → r .site .nil ≡ nil → cond (r .site .nil) judged.Fine (judgeSurface (classedSurface (r .surface))) ≡ judged.Fine
+    go true n = rw n
+    go false n = rw n (surface-classed (r .surface) (fair-surface (r .surface) (rw n at (fair r e .surface))))
+
+-- It is read back as itself.
+pub classed-twice : (r : Synop) → length (r .site .sign .letters) ≡ 9 → judgeOf r ≡ judged.Fine → classedOf (classedOf r) ≡ classedOf r
+classed-twice r nine e =
+    let first = ap (λ (q : Reading). q .report) (read-canonical r nine e) in
+    let second = ap (λ (q : Reading). q .report) (read-canonical (classedOf r) (unfold classedOf in nine) (classed-fine r e)) in
+    sym second ∙ ap (λ (t : List ℕ). readOf t .report) (written-again r e) ∙ first
+
+-- WRITTEN AGAIN IT HAS THE SAME ANSWER AND LEAVES THE SAME BYTES, in any buffer.
+pub buffer-again : (r : Synop) (b : List ℕ) → judgeOf r ≡ judged.Fine → (writtenOf (classedOf r) (length b) ≡ writtenOf r (length b)) × (bufferOf (classedOf r) b ≡ bufferOf r b)
+unfolding writtenOf bufferOf
+buffer-again r b e = (rw (classed-fine r e, e, written-again r e), rw (classed-fine r e, e, written-again r e))
+
+-- A buffer with room holds the canonical text at its front, and is as it was past it.
+pub buffer-canonical : (r : Synop) (b : List ℕ) → judgeOf r ≡ judged.Fine → length (canonicalOf r) ≤ length b
+    → (writtenOf r (length b) ≡ answer.Count (length (canonicalOf r))) × (bufferOf r b ≡ splice b 0 (canonicalOf r))
+unfolding writtenOf bufferOf
+buffer-canonical r b e h = (rw (e, le-leb (length (canonicalOf r)) (length b) h), rw (e, le-leb (length (canonicalOf r)) (length b) h))

@@ -1,0 +1,223 @@
+-- What the round trip promises, in document 01's words: each exact field comes back as it was, each rounded number as the reading of its class, near
+-- its value and never above it where the scale rounds down; and of two values on one scale the greater never reads smaller.
+-- Assumes nothing.
+use Prim.Native.Nat.{ℕ, _+_, _-_, _*_, _/_, _%_, _≤_, _<_}
+use native.Mathlib.Omega.{arith}
+use mathlib.Core.Path.{_≡_, refl}
+use mathlib.Core.Bool.{true, false, false≢true}
+use mathlib.Core.Logic.{⊎-elim}
+use lib.ListN.{length}
+use lib.Dec.{leb, eqb}
+use borrow.Author.Tests.{leb-true, le-ltb, lt-ltb}
+use Rattle.shapes.proofs.Patterns.{both}
+use Rattle.scales.specs.declared.kinds.Rain.{Rain}
+use Rattle.scales.specs.declared.kinds.Rain.the-variants as rain
+use Rattle.scales.specs.Scale.{Scale, Of, Open, classOf, lengthOf, footOf, lastIn}
+use Rattle.scales.specs.Metres.{land, sea, base}
+use Rattle.scales.specs.Rounded.{roundedRain, rainRank, roundedDirection}
+use Rattle.scales.proofs.Laws.{Lawful, reached}
+use Rattle.scales.proofs.MetresLaws.{land-laws, sea-laws, base-laws}
+use Rattle.scales.proofs.RainLaws.{rain-exact, rain-most, rain-order}
+use Rattle.scales.proofs.DirectionLaws.{direction-rounds, direction-near}
+use Rattle.record.specs.declared.values.Number.{Number}
+use Rattle.record.specs.declared.values.Number.the-variants as number
+use Rattle.record.specs.declared.values.Direction.{Direction}
+use Rattle.record.specs.declared.values.Direction.the-variants as direction
+use Rattle.record.specs.declared.values.Speed.{Speed}
+use Rattle.record.specs.declared.values.Speed.the-variants as speed
+use Rattle.record.specs.declared.surface.Sight.{Sight}
+use Rattle.record.specs.declared.surface.Sight.the-variants as sight
+use Rattle.record.specs.declared.surface.Fall.{Fall}
+use Rattle.record.specs.declared.surface.Fall.the-variants as fall
+use Rattle.record.specs.declared.surface.Surface.{Surface}
+use Rattle.record.specs.declared.surface.Synop.{Synop}
+use Rattle.text.specs.declared.kinds.Judged.the-variants as judged
+use Rattle.surface.specs.Judge.{amountFits, fallFits, windFits}
+use Rattle.surface.specs.Classes.{classBase, classSight, classDirection, classRain, classFall}
+use Rattle.surface.proofs.RoundTripFields.{oneFigure}
+use Rattle.surface.proofs.RoundTripScales.{direction-written, rain-classed}
+use Rattle.text.specs.declared.kinds.Verdict.the-variants as verdict
+use Rattle.synop.specs.Read.{readOf}
+use Rattle.synop.specs.Write.{judgeOf, canonicalOf, classedOf}
+use Rattle.synop_laws.proofs.Canonical.{parts-fit, read-canonical}
+use Rattle.synop_laws.proofs.Sections.{classedSurface}
+
+-- ---- how far off
+
+-- A value in metres and its reading: "the value less its reading is 0 or more and smaller than the class's length. .. the last class is open above."
+pub record Down (s : Scale ℕ) (value read : ℕ) : Type 0 where
+  pub not-above : read ≤ value
+  pub within : (l : ℕ) → lengthOf s value ≡ Of l → value < read + l
+  pub open-last : lengthOf s value ≡ Open → classOf s value ≡ lastIn (s .lowest) (s .above)
+
+down : (s : Scale ℕ) → Lawful eqb s → (v : ℕ) → Down s v (footOf s v)
+down s l v = record { not-above = l .not-above v; within = l .within v; open-last = l .open-last v }
+
+-- h and its reading
+pub data BaseRead : Number → Number → Type 0 where
+  no-base : BaseRead number.Missing number.Missing
+  base-metres : {m n : ℕ} → Down base m n → BaseRead (number.Is m) (number.Is n)
+
+pub base-read : (b : Number) → BaseRead b (classBase b)
+base-read number.Missing = no-base
+base-read (number.Is m) = base-metres (down base base-laws m)
+
+-- VV and its reading, on the same scale
+pub data SightRead : Sight → Sight → Type 0 where
+  no-sight : SightRead sight.Missing sight.Missing
+  land-metres : {m n : ℕ} → Down land m n → SightRead (sight.Land m) (sight.Land n)
+  sea-metres : {m n : ℕ} → Down sea m n → SightRead (sight.Sea m) (sight.Sea n)
+
+pub sight-read : (v : Sight) → SightRead v (classSight v)
+sight-read sight.Missing = no-sight
+sight-read (sight.Land m) = land-metres (down land land-laws m)
+sight-read (sight.Sea m) = sea-metres (down sea sea-laws m)
+
+-- An amount of rain and its reading: "Value less reading, in tenths: .. -5 to 4; 989 (from 988.5 mm) is open and is read 989.0"; below 1.0 mm, and
+-- trace, exact.
+pub data RainRead : Rain → Rain → Type 0 where
+  trace : RainRead rain.Trace rain.Trace
+  exact : {t : ℕ} → t < 10 → RainRead (rain.Tenths t) (rain.Tenths t)
+  near : {t u : ℕ} → 10 ≤ t → t < 9885 → u ≤ t + 5 → t ≤ u + 4 → RainRead (rain.Tenths t) (rain.Tenths u)
+  most : {t : ℕ} → 9885 ≤ t → RainRead (rain.Tenths t) (rain.Tenths 9890)
+
+rounded-read : (r : Rain) → RainRead r (roundedRain r)
+unfolding roundedRain
+rounded-read rain.Trace = trace
+rounded-read (rain.Tenths t) =
+    ⊎-elim
+    (λ m. rw (rain-most t m) (most m))
+    (λ m.
+    ⊎-elim
+    (λ l. rw (le-ltb t 10 l, lt-ltb t 9885 m) (near {u = (t + 5) / 10 * 10} l m (omega arith) (omega arith)))
+    (λ l. rw (rain-exact t l) (exact l))
+    (reached 10 t))
+    (reached 9885 t)
+
+pub rain-read : (r : Rain) → amountFits r ≡ true → RainRead r (classRain r)
+rain-read r e = rw (rain-classed r e) (rounded-read r)
+
+-- RRRt and its reading: the period is exact
+pub data FallRead : Fall → Fall → Type 0 where
+  no-fall : FallRead fall.Missing fall.Missing
+  fell : {r q : Rain} {t : Number} → RainRead r q → FallRead (fall.Is r t) (fall.Is q t)
+
+pub fall-read : (f : Fall) → fallFits f ≡ true → FallRead f (classFall f)
+fall-read fall.Missing e = no-fall
+fall-read (fall.Is r t) e = fell (rain-read r (both (amountFits r) (oneFigure t) e .0))
+
+-- A direction and its reading: "on the circle, -5 to 4 degrees", so that five more is 0 to 9 round the circle.
+pub data DirectionRead : Direction → Direction → Type 0 where
+  no-direction : DirectionRead direction.Missing direction.Missing
+  calm : DirectionRead direction.Calm direction.Calm
+  variable : DirectionRead direction.Variable direction.Variable
+  degrees : {d e : ℕ} → e < 360 → (d + 365 - e) % 360 ≤ 9 → DirectionRead (direction.Degrees d) (direction.Degrees e)
+
+pub direction-read : (d : Direction) (s : Speed) → windFits d s ≡ true → DirectionRead d (classDirection d)
+unfolding roundedDirection
+direction-read direction.Missing s e = no-direction
+direction-read direction.Calm s e = calm
+direction-read direction.Variable s e = variable
+direction-read (direction.Degrees d) speed.Missing e = absurd (false≢true e)
+direction-read (direction.Degrees d) (speed.Is s) e =
+    let h = leb-true d 359 (both (leb d 359) (leb s 999) e .0) in
+    let w = direction-written d h in
+    rw (w .1, direction-rounds .back d (w .0) (w .1)) (degrees {e = roundedDirection d} (omega arith) (direction-near d h))
+
+-- ---- the record that is read back
+
+-- "The numbers scaled here are the rounded ones; all else in a record, missing, calm, variable and trace too, is carried exactly."
+pub record SurfaceRead (s q : Surface) : Type 0 where
+  pub rain : q .indicators .rain ≡ s .indicators .rain
+  pub weather-figure : q .indicators .weather ≡ s .indicators .weather
+  pub base : BaseRead (s .indicators .base) (q .indicators .base)
+  pub sight : SightRead (s .indicators .sight) (q .indicators .sight)
+  pub cover : q .wind .cover ≡ s .wind .cover
+  pub direction : DirectionRead (s .wind .direction) (q .wind .direction)
+  pub speed : q .wind .speed ≡ s .wind .speed
+  pub air : q .air ≡ s .air
+  pub moisture : q .moisture ≡ s .moisture
+  pub pressure : q .pressure ≡ s .pressure
+  pub level : q .level ≡ s .level
+  pub tendency : q .tendency ≡ s .tendency
+  pub rainfall : FallRead (s .rainfall .is) (q .rainfall .is)
+  pub weather : q .weather ≡ s .weather
+  pub clouds : q .clouds ≡ s .clouds
+  pub clock : q .clock ≡ s .clock
+
+pub record RecordRead (r q : Synop) : Type 0 where
+  pub ship : q .ship ≡ r .ship
+  pub site : q .site ≡ r .site
+  pub surface : SurfaceRead (r .surface) (q .surface)
+
+surface-read : (s : Surface) → windFits (s .wind .direction) (s .wind .speed) ≡ true → fallFits (s .rainfall .is) ≡ true → SurfaceRead s (classedSurface s)
+surface-read s w f =
+    record {
+      rain = refl;
+      weather-figure = refl;
+      base = base-read (s .indicators .base);
+      sight = sight-read (s .indicators .sight);
+      cover = refl;
+      direction = direction-read (s .wind .direction) (s .wind .speed) w;
+      speed = refl;
+      air = refl;
+      moisture = refl;
+      pressure = refl;
+      level = refl;
+      tendency = refl;
+      rainfall = fall-read (s .rainfall .is) f;
+      weather = refl;
+      clouds = refl;
+      clock = refl;
+    }
+
+-- WHAT IS WRITTEN OF A RECORD THAT THE WRITER ACCEPTS IS READ, to the text's end, as a record that says the same.
+pub promise : (r : Synop) → length (r .site .sign .letters) ≡ 9 → judgeOf r ≡ judged.Fine
+    → (readOf (canonicalOf r) .verdict ≡ verdict.Accepted (length (canonicalOf r))) × RecordRead r (readOf (canonicalOf r) .report)
+unfolding classedOf
+promise r nine e =
+    let f = parts-fit r e in
+    rw (read-canonical r nine e) (refl, record { ship = refl; site = refl; surface = surface-read (r .surface) (f .0) (f .1) })
+
+-- ---- the order
+
+-- a is not above b, both on one scale
+pub data BaseOrder : Number → Number → Type 0 where
+  bases : {m n : ℕ} → m ≤ n → BaseOrder (number.Is m) (number.Is n)
+
+pub data SightOrder : Sight → Sight → Type 0 where
+  on-land : {m n : ℕ} → m ≤ n → SightOrder (sight.Land m) (sight.Land n)
+  at-sea : {m n : ℕ} → m ≤ n → SightOrder (sight.Sea m) (sight.Sea n)
+
+-- "Trace is least."
+pub data FallOrder : Fall → Fall → Type 0 where
+  amounts : {a b : Rain} {t u : Number} → rainRank a ≤ rainRank b → FallOrder (fall.Is a t) (fall.Is b u)
+
+pub base-order : (a b : Number) → BaseOrder a b → BaseOrder (classBase a) (classBase b)
+base-order _ _ (bases {m} {n} h) = bases (base-laws .order m n h)
+
+pub sight-order : (a b : Sight) → SightOrder a b → SightOrder (classSight a) (classSight b)
+sight-order _ _ (on-land {m} {n} h) = on-land (land-laws .order m n h)
+sight-order _ _ (at-sea {m} {n} h) = at-sea (sea-laws .order m n h)
+
+pub fall-order : (a b : Fall) → fallFits a ≡ true → fallFits b ≡ true → FallOrder a b → FallOrder (classFall a) (classFall b)
+fall-order _ _ e f (amounts {a} {b} {t} {u} h) =
+    amounts {a = classRain a} {b = classRain b}
+    (rw (rain-classed a (both (amountFits a) (oneFigure t) e .0), rain-classed b (both (amountFits b) (oneFigure u) f .0)) (rain-order a b h))
+
+-- OF TWO RECORDS THAT THE WRITER ACCEPTS, the greater value never reads smaller.
+pub record Ordered (r q back-r back-q : Surface) : Type 0 where
+  pub base : BaseOrder (r .indicators .base) (q .indicators .base) → BaseOrder (back-r .indicators .base) (back-q .indicators .base)
+  pub sight : SightOrder (r .indicators .sight) (q .indicators .sight) → SightOrder (back-r .indicators .sight) (back-q .indicators .sight)
+  pub rainfall : FallOrder (r .rainfall .is) (q .rainfall .is) → FallOrder (back-r .rainfall .is) (back-q .rainfall .is)
+
+pub order : (r q : Synop) → length (r .site .sign .letters) ≡ 9 → length (q .site .sign .letters) ≡ 9 → judgeOf r ≡ judged.Fine → judgeOf q ≡ judged.Fine
+    → Ordered (r .surface) (q .surface) (readOf (canonicalOf r) .report .surface) (readOf (canonicalOf q) .report .surface)
+unfolding classedOf
+order r q nine nine′ e f =
+    rw (read-canonical r nine e, read-canonical q nine′ f)
+    (record {
+      base = base-order (r .surface .indicators .base) (q .surface .indicators .base);
+      sight = sight-order (r .surface .indicators .sight) (q .surface .indicators .sight);
+      rainfall = fall-order (r .surface .rainfall .is) (q .surface .rainfall .is) (parts-fit r e .1) (parts-fit q f .1);
+    })

@@ -1,0 +1,2 @@
+-- How the reader goes through section 1.
+pub mod SectionSteps

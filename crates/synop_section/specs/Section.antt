@@ -1,0 +1,64 @@
+-- What the functions that read section 1 answer, in terms of its row.
+-- Assumes nothing: these are definitions.
+use Prim.Native.Nat.{ℕ}
+use mathlib.Core.Path.{_≡_}
+use mathlib.Core.Bool.{Bool, _||_}
+use mathlib.Core.List.{List, [], _∷_}
+use lib.Dec.{eqb}
+use Rattle.figures.specs.Quote.{bytes}
+use Rattle.shapes.specs.Pattern.{hasPattern}
+use Rattle.places.specs.Engine.{Group, Read, Good, Bad, placeAt, Step, On, Halt, Stop, step}
+use Rattle.record.specs.declared.surface.Surface.{Surface}
+use Rattle.surface.specs.declared.kinds.Said.{Said}
+use Rattle.synop_section.specs.declared.kinds.Needs.{Needs}
+use Rattle.synop_section.specs.declared.kinds.Next.the-variants as next
+use Rattle.synop_section.specs.declared.kinds.Section.{Section}
+use Rattle.synop_section.specs.declared.kinds.Stepped.{Stepped}
+use Rattle.synop_section.specs.Row.{withSaid, row, stopWords}
+
+-- the figures of iR and ix that require a group
+abbrev pub rainDue : ℕ → Bool
+rainDue r = eqb r 0 || eqb r 1
+
+abbrev pub weatherDue : ℕ → Bool
+weatherDue x = eqb x 1 || eqb x 4 || eqb x 7
+
+-- which places of the row have the group's shape
+unfoldable pub shapesOf : Group → List Bool
+shapesOf g =
+    hasPattern g (bytes "00###")
+    ∷ hasPattern g (bytes "1####")
+    ∷ hasPattern g (bytes "2####")
+    ∷ hasPattern g (bytes "3####")
+    ∷ hasPattern g (bytes "4####")
+    ∷ hasPattern g (bytes "5####")
+    ∷ hasPattern g (bytes "6####")
+    ∷ hasPattern g (bytes "7####")
+    ∷ hasPattern g (bytes "8####")
+    ∷ hasPattern g (bytes "9####")
+    ∷ []
+
+-- what a group says at a place, as the place adds it to the surface
+abbrev pub Says : Needs → ℕ → Group → Said → Type 0
+Says n i g x = (k : ℕ) (s : Surface) → placeAt (row n) i .read k g s ≡ withSaid x s
+
+-- what is read; a refusal leaves it as it was
+abbrev pub orElse : {R : Type 0} → R → Read R → R
+orElse s (Good x) = x
+orElse s (Bad f) = s
+
+-- the surface with what a group says
+abbrev pub saidOnto : Said → Surface → Surface
+saidOnto x s = orElse s (withSaid x s)
+
+-- one group read: reading goes on, or as a step of the row says
+abbrev pub steppedTo : ℕ → ℕ → Surface → Stepped
+steppedTo c k x = record { next = next.On; section = record { place = c; count = k; surface = x } }
+
+abbrev pub stepped : Section → Step Surface → Stepped
+stepped s (On c k x) = steppedTo c k x
+stepped s Halt = record { next = next.Halt; section = s }
+stepped s (Stop f) = record { next = next.Fault f; section = s }
+
+unfoldable pub stepOf : Needs → Section → Group → Stepped
+stepOf n s g = stepped s (step (row n) stopWords (s .place) (s .count) (s .surface) g)

@@ -1,0 +1,10 @@
+-- Laws of wind, variation and visibility.
+pub mod Readings
+pub mod Scanned
+pub mod DirectionLaws
+pub mod VisibilityLaws
+pub mod RoundTripWind
+pub mod RoundTripVariation
+pub mod RoundTripVisibility
+pub mod Promises
+pub mod Examples

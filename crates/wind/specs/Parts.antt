@@ -1,0 +1,46 @@
+-- What the reader finds in the parts of a wind and of a visibility: the definition's readings, as enums of the code.
+-- Assumes nothing: these are definitions.
+use Prim.Native.Nat.{ℕ}
+use mathlib.Core.Bool.{Bool, not}
+use Rattle.places.specs.Engine.{Read, Good, Bad}
+use Rattle.scales.specs.declared.kinds.Reading.{Reading}
+use Rattle.record.specs.declared.values.Direction.{Direction}
+use Rattle.record.specs.declared.values.Speed.{Speed}
+use Rattle.record.specs.declared.aerodrome.Unit.{Unit}
+use Rattle.record.specs.declared.aerodrome.Wind.{Wind}
+use Rattle.record.specs.declared.aerodrome.View.the-variants as view
+use Rattle.record.specs.declared.aerodrome.Visibility.{Visibility}
+use Rattle.elements.specs.Parts.{used, provided, agreeing}
+use Rattle.elements.specs.Wind.{windAgrees, windWith}
+use Rattle.wind.specs.declared.kinds.DirectionRead.{DirectionRead}
+use Rattle.wind.specs.declared.kinds.DirectionRead.the-variants as direction
+use Rattle.wind.specs.declared.kinds.FiguresRead.{FiguresRead}
+use Rattle.wind.specs.declared.kinds.FiguresRead.the-variants as figures
+use Rattle.wind.specs.declared.kinds.SpeedRead.{SpeedRead}
+use Rattle.wind.specs.declared.kinds.SpeedRead.the-variants as speed
+
+abbrev pub asDirection : Read Direction → DirectionRead
+asDirection (Good x) = direction.Good x
+asDirection (Bad f) = direction.Bad f
+
+abbrev pub asFigures : Read ℕ → FiguresRead
+asFigures (Good n) = figures.Good n
+asFigures (Bad f) = figures.Bad f
+
+abbrev pub asSpeed : Read Speed → SpeedRead
+asSpeed (Good x) = speed.Good x
+asSpeed (Bad f) = speed.Bad f
+
+-- the wind that the parts make, or the first refusal among them
+abbrev pub windOf : Unit → DirectionRead → FiguresRead → SpeedRead → Read Wind
+windOf u (direction.Bad f) s g = Bad f
+windOf u (direction.Good x) (figures.Bad f) g = Bad f
+windOf u (direction.Good x) (figures.Good y) (speed.Bad f) = Bad f
+windOf u (direction.Good x) (figures.Good y) (speed.Good z) = agreeing (windAgrees x y z) (Good (windWith u x y z))
+
+-- VVVV by its reading; ////
+abbrev pub seenBy : Reading → Read Visibility
+seenBy r = used r (λ m. Good (record { is = view.Metres m }))
+
+abbrev pub unseen : Bool → Read Visibility
+unseen forecast = provided (not forecast) (Good (record { is = view.Missing }))

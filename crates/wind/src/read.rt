@@ -1,0 +1,292 @@
+// What a group of wind, of variation or of visibility says. A caller holds the group to its shape first; what has another shape is refused as a
+// wrong figure.
+use crate::agree::wind_agrees;
+use crate::directions::is_tens;
+use crate::kinds::DirectionRead;
+use crate::kinds::FiguresRead;
+use crate::kinds::SpeedRead;
+use elements::kinds::VariationRead;
+use elements::kinds::VisibilityRead;
+use elements::kinds::WindRead;
+use figures::field;
+use figures::kinds::Field;
+use record::aerodrome::Extremes;
+use record::aerodrome::Unit;
+use record::aerodrome::Variation;
+use record::aerodrome::View;
+use record::aerodrome::Visibility;
+use record::aerodrome::Wind;
+use record::values::Direction;
+use record::values::Speed;
+use scales::kinds::Reading;
+use shapes::has_pattern;
+use shapes::kinds::Value;
+use shapes::scan::has_shape;
+use shapes::scan::scan;
+use text::kinds::Refusal;
+ghost use mathlib.Core.Path.{_≡_};
+ghost use Rattle.shapes.specs.Pattern.{hasPattern, hasAny};
+ghost use Rattle.shapes.specs.Shape.{hasShape};
+ghost use Rattle.scales.specs.Metres.{visibility, metresReading};
+ghost use Rattle.places.specs.Engine.{Good};
+ghost use Rattle.elements.specs.Parts.{agreeing, isMissing};
+ghost use Rattle.elements.specs.Wind.{windShape, variationShape, unitOf, speedOf, gustOf, directionOf, windAgrees, windWith, isNoWind, windBy, readWind, readVariation};
+ghost use Rattle.elements.specs.Visibility.{visibilityShapes, readVisibility, isCavok};
+ghost use Rattle.elements.specs.Answers.{asWind, asVariation, asVisibility};
+ghost use Rattle.wind.specs.Parts.{asDirection, asFigures, asSpeed, windOf, seenBy, unseen};
+
+// ---- wind
+
+// Direction, speed, gust and unit.
+pub const WIND_SHAPE: [u8; 35] = *b"###|VRB ###|## G###|G##| KT|MPS|KMH";
+
+pub fn has_wind(g: &[u8]) -> bool
+    ensures { λ r. ⌜ r ≡ hasShape windShape (now (g .entry)) ⌝ }
+{
+    has_shape(g, &WIND_SHAPE)
+}
+
+fn unit_of(which: usize) -> Unit
+    ensures { λ r. ⌜ r ≡ unitOf which ⌝ }
+{
+    if which == 0 {
+        Unit::Knots
+    } else if which == 1 {
+        Unit::MetresPerSecond
+    } else {
+        Unit::KilometresPerHour
+    }
+}
+
+fn is_missing(f: Field) -> bool
+    ensures { λ r. ⌜ r ≡ isMissing f ⌝ }
+{
+    match f {
+        Field::Number(_) => false,
+        Field::Missing => true,
+        Field::Mixed => false,
+        Field::Other => false,
+    }
+}
+
+// Two figures below 100, three for 100 to 199: the alternative of three figures is number 0.
+fn speed_of(v: Value) -> FiguresRead
+    ensures { λ r. ⌜ r ≡ asFigures (speedOf v) ⌝ }
+{
+    let which = v.which;
+    let f = v.field;
+    let Field::Number(n) = f else {
+        return FiguresRead::Bad(Refusal::Figure);
+    };
+    if which == 0 {
+        if (100 <= n) & (n <= 199) {
+            FiguresRead::Good(n)
+        } else {
+            FiguresRead::Bad(Refusal::Figure)
+        }
+    } else {
+        FiguresRead::Good(n)
+    }
+}
+
+// Alternative number 2 of the gust is nothing.
+fn gust_of(v: Value) -> SpeedRead
+    ensures { λ r. ⌜ r ≡ asSpeed (gustOf v) ⌝ }
+{
+    if v.which == 2 {
+        return SpeedRead::Good(Speed::Missing);
+    }
+    let s = speed_of(v);
+    match s {
+        FiguresRead::Good(n) => SpeedRead::Good(Speed::Is(n)),
+        FiguresRead::Bad(f) => SpeedRead::Bad(f),
+    }
+}
+
+// Alternative number 1 of the direction is VRB.
+fn direction_of(v: Value) -> DirectionRead
+    ensures { λ r. ⌜ r ≡ asDirection (directionOf v) ⌝ }
+{
+    if v.which == 1 {
+        return DirectionRead::Good(Direction::Variable);
+    }
+    let f = v.field;
+    let Field::Number(d) = f else {
+        return DirectionRead::Bad(Refusal::Figure);
+    };
+    if d == 0 {
+        return DirectionRead::Good(Direction::Calm);
+    }
+    if is_tens(d) {
+        DirectionRead::Good(Direction::Degrees(d % 360))
+    } else {
+        DirectionRead::Bad(Refusal::Figure)
+    }
+}
+
+// ///// and unit
+fn is_no_wind(d: Value, s: Value, g: Value) -> bool
+    ensures { λ r. ⌜ r ≡ isNoWind d s g ⌝ }
+{
+    let direction = d.field;
+    let speed = s.field;
+    (d.which == 0) & is_missing(direction) & (s.which == 1) & is_missing(speed) & (g.which == 2)
+}
+
+// A wind whose parts agree.
+fn wind_with(unit: Unit, direction: Direction, mean: u32, gust: Speed) -> WindRead
+    ensures { λ r. ⌜ r ≡ asWind (agreeing (windAgrees direction mean gust) (Good (windWith unit direction mean gust))) ⌝ }
+{
+    if wind_agrees(direction, mean, gust) {
+        let speed = Speed::Is(mean);
+        WindRead::Good(Wind {
+            direction,
+            speed,
+            gust,
+            unit,
+        })
+    } else {
+        WindRead::Bad(Refusal::Disagreement)
+    }
+}
+
+// The wind that the parts read make, or the first refusal among them.
+fn wind_of(unit: Unit, d: DirectionRead, s: FiguresRead, g: SpeedRead) -> WindRead
+    ensures { λ r. ⌜ r ≡ asWind (windOf unit d s g) ⌝ }
+{
+    match d {
+        DirectionRead::Bad(f) => WindRead::Bad(f),
+        DirectionRead::Good(direction) => match s {
+            FiguresRead::Bad(f) => WindRead::Bad(f),
+            FiguresRead::Good(mean) => match g {
+                SpeedRead::Bad(f) => WindRead::Bad(f),
+                SpeedRead::Good(gust) => wind_with(unit, direction, mean, gust),
+            },
+        },
+    }
+}
+
+// What the four parts of the group say together.
+fn wind_by(forecast: bool, d: Value, s: Value, g: Value, u: Value) -> WindRead
+    ensures { λ r. ⌜ r ≡ asWind (windBy forecast d s g u) ⌝ }
+{
+    let unit = unit_of(u.which);
+    if is_no_wind(d, s, g) {
+        if forecast {
+            return WindRead::Bad(Refusal::Figure);
+        }
+        return WindRead::Good(Wind {
+            direction: Direction::Missing,
+            speed: Speed::Missing,
+            gust: Speed::Missing,
+            unit,
+        });
+    }
+    let direction = direction_of(d);
+    let mean = speed_of(s);
+    let gust = gust_of(g);
+    wind_of(unit, direction, mean, gust)
+}
+
+pub fn read_wind(forecast: bool, g: &[u8]) -> WindRead
+    ensures { λ r. ⌜ r ≡ asWind (readWind forecast (now (g .entry))) ⌝ }
+{
+    let s = scan(g, &WIND_SHAPE);
+    let values = s.values;
+    let direction = values[0];
+    let speed = values[1];
+    let gust = values[2];
+    let unit = values[3];
+    wind_by(forecast, direction, speed, gust, unit)
+}
+
+// ---- variation
+
+pub fn has_variation(g: &[u8]) -> bool
+    ensures { λ r. ⌜ r ≡ hasPattern (now (g .entry)) variationShape ⌝ }
+{
+    has_pattern(g, b"###V###")
+}
+
+// dddVddd
+pub fn read_variation(g: &[u8]) -> VariationRead
+    ensures { λ r. ⌜ r ≡ asVariation (readVariation (now (g .entry))) ⌝ }
+{
+    let Field::Number(a) = field(g, 0, 3) else {
+        return VariationRead::Bad(Refusal::Figure);
+    };
+    let Field::Number(b) = field(g, 4, 3) else {
+        return VariationRead::Bad(Refusal::Figure);
+    };
+    if is_tens(a) & is_tens(b) {
+        if a == b {
+            VariationRead::Bad(Refusal::Disagreement)
+        } else {
+            let from = a % 360;
+            let to = b % 360;
+            VariationRead::Good(Variation {
+                is: Extremes::Between { from, to },
+            })
+        }
+    } else {
+        VariationRead::Bad(Refusal::Figure)
+    }
+}
+
+// ---- visibility
+
+pub fn has_visibility(g: &[u8]) -> bool
+    ensures { λ r. ⌜ r ≡ hasAny visibilityShapes (now (g .entry)) ⌝ }
+{
+    has_pattern(g, b"####") | has_pattern(g, b"CAVOK")
+}
+
+pub fn is_cavok(v: Visibility) -> bool
+    ensures { λ r. ⌜ r ≡ isCavok v ⌝ }
+{
+    let view = v.is;
+    match view {
+        View::Missing => false,
+        View::Cavok => true,
+        View::Metres(_) => false,
+    }
+}
+
+// VVVV, by its scale.
+fn seen_at(figure: u32) -> VisibilityRead
+    ensures { λ r. ⌜ r ≡ asVisibility (seenBy (metresReading visibility figure)) ⌝ }
+{
+    let r = scales::metres::visibility_reading(figure);
+    match r {
+        Reading::Is(m) => VisibilityRead::Good(Visibility {
+            is: View::Metres(m),
+        }),
+        Reading::Unused => VisibilityRead::Bad(Refusal::Figure),
+    }
+}
+
+// //// is not written in a TAF.
+fn unseen(forecast: bool) -> VisibilityRead
+    ensures { λ r. ⌜ r ≡ asVisibility (unseen forecast) ⌝ }
+{
+    if forecast {
+        VisibilityRead::Bad(Refusal::Figure)
+    } else {
+        VisibilityRead::Good(Visibility { is: View::Missing })
+    }
+}
+
+pub fn read_visibility(forecast: bool, g: &[u8]) -> VisibilityRead
+    ensures { λ r. ⌜ r ≡ asVisibility (readVisibility forecast (now (g .entry))) ⌝ }
+{
+    if has_pattern(g, b"CAVOK") {
+        return VisibilityRead::Good(Visibility { is: View::Cavok });
+    }
+    let f = field(g, 0, 4);
+    match f {
+        Field::Number(n) => seen_at(n),
+        Field::Missing => unseen(forecast),
+        Field::Mixed => VisibilityRead::Bad(Refusal::Figure),
+        Field::Other => VisibilityRead::Bad(Refusal::Figure),
+    }
+}
