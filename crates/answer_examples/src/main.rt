@@ -1,4 +1,5 @@
 // Examples of every kind, those of the rulings first: each text and the program's answer, held to the stored output.
+mod forecast;
 mod observed;
 mod surface;
 
@@ -12,4 +13,5 @@ pub fn show(text: &[u8]) {
 fn main() {
     surface::show_all();
     observed::show_all();
+    forecast::show_all();
 }

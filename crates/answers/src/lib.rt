@@ -1,6 +1,7 @@
 // What the programs say of a text: its canonical text or "refused N at P".
 use libc::STDOUT_FILENO;
 use record::aerodrome::Metar;
+use record::aerodrome::Taf;
 use record::surface::Synop;
 use text::kinds::Refusal;
 use text::kinds::Verdict;
@@ -45,6 +46,12 @@ fn say_observed(r: Metar) {
     say_written(written, &out);
 }
 
+fn say_forecast(r: Taf) {
+    let mut out = [0u8; 2048];
+    let written = taf_write::write::write(r, &mut out);
+    say_written(written, &out);
+}
+
 fn is_other_kind(r: Refusal) -> bool {
     match r {
         Refusal::Kind => true,
@@ -52,7 +59,20 @@ fn is_other_kind(r: Refusal) -> bool {
     }
 }
 
-// A METAR or SPECI.
+// A TAF.
+fn say_taf(text: &[u8]) {
+    let reading = taf_read::read(text);
+    let verdict = reading.verdict;
+    match verdict {
+        Verdict::Accepted { rest: _ } => {
+            let report = reading.report;
+            say_forecast(report);
+        }
+        Verdict::Refused { refusal, place } => say_refusal(refusal, place),
+    }
+}
+
+// A METAR or SPECI, and where the text is of another kind, that kind's answer.
 fn say_metar(text: &[u8]) {
     let reading = metar::read::read(text);
     let verdict = reading.verdict;
@@ -61,7 +81,13 @@ fn say_metar(text: &[u8]) {
             let report = reading.report;
             say_observed(report);
         }
-        Verdict::Refused { refusal, place } => say_refusal(refusal, place),
+        Verdict::Refused { refusal, place } => {
+            if is_other_kind(refusal) {
+                say_taf(text);
+            } else {
+                say_refusal(refusal, place);
+            }
+        }
     }
 }
 

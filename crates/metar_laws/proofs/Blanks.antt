@@ -1,12 +1,9 @@
 -- A METAR that is NIL: nothing stands after its time, so that nothing is written of it and nothing is put.
 -- Assumes nothing.
-use Prim.Native.Nat.{ℕ}
 use mathlib.Core.Path.{_≡_, refl}
 use mathlib.Core.Bool.{true, false, not, false≢true}
-use mathlib.Core.List.{List, [], _∷_}
-use lib.ListN.{length, replicate}
-use lib.Dec.{eqb}
-use borrow.Author.Tests.{eqb-true, not-true}
+use lib.ListN.{length}
+use borrow.Author.Tests.{not-true}
 use Rattle.shapes.proofs.Patterns.{both}
 use Rattle.record.specs.declared.values.Number.{Number}
 use Rattle.record.specs.declared.values.Number.the-variants as number
@@ -22,21 +19,17 @@ use Rattle.record.specs.declared.aerodrome.Extremes.{Extremes}
 use Rattle.record.specs.declared.aerodrome.Extremes.the-variants as extremes
 use Rattle.record.specs.declared.aerodrome.View.{View}
 use Rattle.record.specs.declared.aerodrome.View.the-variants as view
-use Rattle.record.specs.declared.aerodrome.Phenomena.{Phenomena}
-use Rattle.record.specs.declared.aerodrome.Phenomena.the-variants as phenomena
 use Rattle.record.specs.declared.aerodrome.Wind.{Wind}
-use Rattle.record.specs.declared.aerodrome.Weather.{Weather}
-use Rattle.record.specs.declared.aerodrome.Weathers.{Weathers}
 use Rattle.record.specs.declared.aerodrome.Temperatures.{Temperatures}
 use Rattle.record.specs.declared.aerodrome.Metar.{Metar}
-use Rattle.record.specs.Metar.{blankWeather, blankWeathers, blankWind, blankMetar}
+use Rattle.record.specs.Metar.{blankWind, blankMetar}
 use Rattle.elements.specs.Wind.{noDirection, hasUnit, noGust}
 use Rattle.elements.specs.Visibility.{noView}
-use Rattle.elements.specs.Weather.{isMissingWeather, allMissing}
 use Rattle.aerodrome.specs.Runway.{isMissing}
 use Rattle.aerodrome.proofs.RunwaysBack.{runways-blank}
 use Rattle.sky.proofs.RoundTrip.{sky-blank}
-use Rattle.metar.specs.Write.{noTenths, noExtremes, noWeathers, noBody}
+use Rattle.weather.proofs.Lists.{weathers-blank}
+use Rattle.metar.specs.Write.{noTenths, noExtremes, noBody}
 
 -- The record's arrays have the lengths of the code's arrays.
 pub record Arrays (r : Metar) : Type 0 where
@@ -80,26 +73,6 @@ view-blank : (v : View) → noView v ≡ true → v ≡ view.Missing
 view-blank view.Missing e = refl
 view-blank view.Cavok e = absurd (false≢true e)
 view-blank (view.Metres m) e = absurd (false≢true e)
-
-weather-blank : (p : Phenomena) → isMissingWeather p ≡ true → p ≡ phenomena.Missing
-weather-blank phenomena.Missing e = refl
-weather-blank (phenomena.Is i d a b c) e = absurd (false≢true e)
-
-all-blank : (ws : List Weather) → allMissing ws ≡ true → ws ≡ replicate (length ws) blankWeather
-all-blank [] e = refl
-all-blank (w ∷ ws) e =
-    let t = both (isMissingWeather (w .is)) (allMissing ws) e in
-    let same : w ≡ blankWeather = rw (weather-blank (w .is) (t .0)) in
-    rw (same, ← all-blank ws (t .1))
-
-weathers-blank : (ws : Weathers) → length (ws .items) ≡ 3 → noWeathers ws ≡ true → ws ≡ blankWeathers
-weathers-blank ws three e = make (ws .items) (ws .count) (rw three at (all-blank (ws .items) (t .1))) (eqb-true (ws .count) 0 (t .0))
-  where
-    t : (eqb (ws .count) 0 ≡ true) × (allMissing (ws .items) ≡ true)
-    t = both (eqb (ws .count) 0) (allMissing (ws .items)) e
-
-    make : (l : List Weather) (n : ℕ) → l ≡ replicate 3 blankWeather → n ≡ 0 → _≡_ {A = Weathers} (record { items = l; count = n }) blankWeathers
-    make l n e z = rw (e, z)
 
 wind-blank : (d : Direction) (s g : Speed) (u : Unit) → noDirection d ≡ true → noGust s ≡ true → noGust g ≡ true → not (hasUnit u) ≡ true
     → _≡_ {A = Wind} (record { direction = d; speed = s; gust = g; unit = u }) blankWind

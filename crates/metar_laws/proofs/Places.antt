@@ -13,7 +13,7 @@ use Rattle.text.specs.declared.kinds.Judged.the-variants as judged
 use Rattle.shapes.specs.Pattern.{low, high, fits, hasPattern}
 use Rattle.shapes.specs.Shape.{leading, split, partsOf, spellings}
 use Rattle.places.specs.Engine.{Group, placeAt}
-use Rattle.places.proofs.ReadBack.{one-pattern}
+use Rattle.places.proofs.ReadBack.{one-pattern, two-patterns}
 use Rattle.places.proofs.Sizes.{measured, sized-any}
 use Rattle.places.proofs.Kept.{Kept, keep-one, keep-none}
 use Rattle.record.specs.declared.aerodrome.Extremes.{Extremes}
@@ -32,7 +32,6 @@ use Rattle.wind.proofs.RoundTripVisibility.{visibility-shaped, visibility-back}
 use Rattle.aerodrome.proofs.HeadBack.{station-shaped, station-whole, time-shaped, time-back}
 use Rattle.aerodrome.proofs.TemperaturesBack.{temperatures-shaped, temperatures-back, qnh-shaped, qnh-back}
 use Rattle.metar.specs.Row.{wordPlace, isName, row}
-use Rattle.metar_laws.proofs.Rows.{two-patterns}
 
 -- ---- the room of a group
 

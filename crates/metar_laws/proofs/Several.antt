@@ -4,8 +4,8 @@
 use Prim.Native.Nat.{_≤_}
 use mathlib.Core.Path.{_≡_, refl, sym, ap, _∙_}
 use mathlib.Core.Bool.{true, false, not, _&&_, _||_}
-use mathlib.Core.List.{[], _∷_, _++_, map}
-use lib.ListN.{length, take, length-map}
+use mathlib.Core.List.{[], _∷_, _++_}
+use lib.ListN.{length}
 use Rattle.figures.specs.Quote.{bytes}
 use Rattle.text.specs.declared.kinds.Judged.{Judged}
 use Rattle.text.specs.declared.kinds.Judged.the-variants as judged
@@ -16,7 +16,7 @@ use Rattle.shapes.proofs.Patterns.{both}
 use Rattle.places.specs.Engine.{Group, Read, Good, Bad, placeAt}
 use Rattle.places.proofs.ReadBack.{All, fill}
 use Rattle.places.proofs.Sizes.{Sized, measured, sized-each}
-use Rattle.places.proofs.Kept.{Kept}
+use Rattle.places.proofs.Kept.{Kept, keep-each}
 use Rattle.record.specs.declared.aerodrome.Weather.{Weather}
 use Rattle.record.specs.declared.aerodrome.Weathers.{Weathers}
 use Rattle.record.specs.declared.aerodrome.Metar.{Metar}
@@ -27,11 +27,11 @@ use Rattle.elements.specs.Sky.{layerShape, aloneShapes, hasSky, readSky, showSk
 use Rattle.aerodrome.specs.Runway.{runwayShape, readRunway, withRunway, showRunways, judgeRunways, classRunways}
 use Rattle.weather.proofs.Covers.{weather-covered, recent-covered}
 use Rattle.weather.proofs.RoundTrip.{weather-shaped, weather-back, weather-sized, recent-shaped, recent-back, recent-sized}
-use Rattle.weather.proofs.Lists.{addEach as addWeathers, weathers-each, weathers-few, weathers-back}
+use Rattle.weather.proofs.Lists.{addEach as addWeathers, weathers-back, weathers-all, weathers-three}
 use Rattle.sky.proofs.RoundTrip.{addEach as addSky, sky-shaped, sky-few, sky-back}
 use Rattle.aerodrome.proofs.RunwaysBack.{addEach as addRunways, runways-shaped, runways-few, runways-back}
 use Rattle.metar.specs.Row.{besideCavok, row}
-use Rattle.metar_laws.proofs.Rows.{filled, filled-items, keep-each, all-shown}
+use Rattle.elements.proofs.Fills.{filled, filled-items}
 
 runway-measured : measured 11 (spellings (partsOf runwayShape)) ≡ true
 unfolding low high leading split partsOf spellings
@@ -80,14 +80,6 @@ module _ (r acc : Metar) (blank : setSky blankSky acc ≡ acc) (seen : isCavok (
       (sky-few false (isCavok (r .visibility)) (r .sky) e) sky-filled
 
 -- ---- weather
-
--- what holds of each group of weather that is judged fine; and how many there are
-module _ (show : Weather → Group) (test : Weather → Judged) (ws : Weathers) (e : judgeWeathers test ws ≡ judged.Fine) where
-  weathers-all : (P : Group → Type 0) → ((w : Weather) → test w ≡ judged.Fine → P (show w)) → All P (map show (take (ws .count) (ws .items)))
-  weathers-all P f = all-shown P show test f (take (ws .count) (ws .items)) (weathers-each test ws e)
-
-  weathers-three : length (ws .items) ≡ 3 → length (map show (take (ws .count) (ws .items))) ≤ 3
-  weathers-three three = let n = weathers-few test ws e three in rw (length-map (take (ws .count) (ws .items)) show, n .1) (n .0)
 
 module _ (r acc : Metar) (blank : setWeathers blankWeathers acc ≡ acc) (seen : isCavok (acc .visibility) ≡ isCavok (r .visibility)) (same : acc .automatic ≡ r .automatic)
     (three : length (r .weathers .items) ≡ 3) (e : judgeWeathers (judgeWeather false (r .automatic) (isCavok (r .visibility))) (r .weathers) ≡ judged.Fine) where

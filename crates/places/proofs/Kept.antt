@@ -16,7 +16,7 @@ use Rattle.text.specs.Text.{bytesOf, tailOf}
 use Rattle.text.proofs.Joins.{round-trip-bytes, join-tail, join-sound}
 use Rattle.shapes.specs.Pattern.{Pattern, hasAny}
 use Rattle.places.specs.Engine.{Group, Good, Place, Done, run, written, putAll}
-use Rattle.places.proofs.ReadBack.{All, All-map, sound, Covered, Shaped, Spoken, Served, ServedRow, stops, read-back}
+use Rattle.places.proofs.ReadBack.{All, All-map, sound, Covered, Shaped, Spoken, fill, Served, ServedRow, stops, read-back}
 use Rattle.places.proofs.Sizes.{Sized, measured, sized-each, Sizes, sizes-none, sizes-all, sizes-append, sizes-more, join-room, room}
 
 module _ {R : Type 0} where
@@ -111,3 +111,8 @@ module _ {R : Type 0} where
         sized = rw is tt;
         served = rw (is, e) (record { few = omega arith; there = λ t. absurd (false≢true (sym m ∙ t)); reads = refl });
       }
+
+  -- several where none must
+  pub keep-each : {p : Place R} {n : ℕ} {r acc : R} → p .must ≡ false → Shaped p (p .show r) → All (Sized n) (p .show r)
+      → length (p .show r) ≤ p .most → fill p 0 (p .show r) acc ≡ Good (p .put r acc) → Kept p n r acc
+  keep-each m s z few e = record { shaped = s; sized = z; served = record { few = few; there = λ t. absurd (false≢true (rw m at t)); reads = e } }

@@ -4,7 +4,7 @@
 use Prim.Native.Nat.{ℕ, suc, _+_, _≤_, _<_}
 use native.Mathlib.Omega.{arith}
 use mathlib.Core.Path.{_≡_, refl, sym, ap, _∙_}
-use mathlib.Core.Bool.{Bool, true, false, _&&_, _||_, cond, and-false, false≢true}
+use mathlib.Core.Bool.{Bool, true, false, _&&_, _||_, cond, and-false, or-false, false≢true}
 use mathlib.Core.List.{List, [], _∷_, _++_, map, append-nil}
 use lib.ListN.{length, drop}
 use lib.Seq.{drop-length}
@@ -51,6 +51,10 @@ All-left P (x ∷ xs) ys h = (h .0, All-left P xs ys (h .1))
 pub one-pattern : (p : Pattern) (g : Group) → hasPattern g p ≡ true → hasAny (p ∷ []) g ≡ true
 unfolding hasAny
 one-pattern p g h = rw h
+
+pub two-patterns : (p q : Pattern) (g : Group) → (hasPattern g p || hasPattern g q) ≡ true → hasAny (p ∷ q ∷ []) g ≡ true
+unfolding hasAny
+two-patterns p q g h = rw (or-false (hasPattern g q)) h
 
 -- the groups that pieces hold
 abbrev pub groupsOf : List Piece → List Group
@@ -149,7 +153,7 @@ module _ {R : Type 0} where
   -- ---- what a sound row says of its written groups
 
   -- none is a stop word
-  plain : (words : List Pattern) (ps : List (Place R)) (r : R) → sound words ps ≡ true → Spoken ps r
+  pub plain : (words : List Pattern) (ps : List (Place R)) (r : R) → sound words ps ≡ true → Spoken ps r
       → All (λ g. hasAny words g ≡ false) (written ps r)
   plain words [] r s o = tt
   plain words (p ∷ ps) r s o =

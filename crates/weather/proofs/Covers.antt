@@ -18,7 +18,7 @@ use Rattle.weather.proofs.Table.{same-eq, code-among}
 -- ---- patterns that stand for themselves
 
 -- a byte that fits itself as a pattern
-abbrev itself : ℕ → Bool
+abbrev pub itself : ℕ → Bool
 itself p = fits p p
 
 own-pattern : (s rest : List ℕ) → every itself s ≡ true → hasPattern (s ++ rest) (s ++ bytes "*") ≡ true
@@ -29,13 +29,13 @@ own-pattern (p ∷ s) rest h =
     let t = both (itself p) (every itself s) h in
     or-right (more p) _ (rw (t .0) (own-pattern s rest (t .1)))
 
-any-append : (ps qs : List Pattern) (g : Group) → hasAny (ps ++ qs) g ≡ (hasAny ps g || hasAny qs g)
+pub any-append : (ps qs : List Pattern) (g : Group) → hasAny (ps ++ qs) g ≡ (hasAny ps g || hasAny qs g)
 unfolding hasAny
 any-append [] qs g = refl
 any-append (p ∷ ps) qs g = rw (any-append ps qs g) (sym (or-assoc (hasPattern g p) (hasAny ps g) (hasAny qs g)))
 
 -- what begins with bytes and a code fits the code's pattern after the same bytes
-covered-by : (before c rest : List ℕ) (cs : List (List ℕ)) → allAmong (λ d. every itself (before ++ d)) cs ≡ true → among c cs ≡ true
+pub covered-by : (before c rest : List ℕ) (cs : List (List ℕ)) → allAmong (λ d. every itself (before ++ d)) cs ≡ true → among c cs ≡ true
     → hasAny (covering before cs) ((before ++ c) ++ rest) ≡ true
 unfolding hasAny
 covered-by before c rest [] a h = absurd (false≢true h)

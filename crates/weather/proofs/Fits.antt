@@ -18,10 +18,10 @@ use Rattle.elements.specs.Weather.{codesOf, among, one, isDescriptor, isPrecipi
 use Rattle.weather.proofs.Table.{in-table, all-in-table}
 
 -- the codes of the table other than descriptors and VC; other than VC
-abbrev plains : List (List ℕ)
+abbrev pub plains : List (List ℕ)
 plains = codesOf (bytes "DZRASNSGICPLGRGSUPBRFGFUVADUSAHZPOSQFCSSDS")
 
-abbrev isPlain : List ℕ → Bool
+abbrev pub isPlain : List ℕ → Bool
 isPlain c = among c plains
 
 abbrev pub joins : List (List ℕ)
@@ -33,10 +33,10 @@ isJoined c = among c joins
 -- ---- of what precipitations and a single code are
 
 module _ (cs : List (List ℕ)) where
-  single-all : (test : List ℕ → Bool) → single test cs ≡ true → allAmong test cs ≡ true
+  pub single-all : (test : List ℕ → Bool) → single test cs ≡ true → allAmong test cs ≡ true
   single-all test h = both (eqb (length cs) 1) (allAmong test cs) h .1
 
-  single-one : (test : List ℕ → Bool) → single test cs ≡ true → length cs ≡ 1
+  pub single-one : (test : List ℕ → Bool) → single test cs ≡ true → length cs ≡ 1
   single-one test h = eqb-true (length cs) 1 (both (eqb (length cs) 1) (allAmong test cs) h .0)
 
   falling : precipitations cs ≡ true → (1 ≤ length cs) × (allAmong isPrecipitation cs ≡ true)
@@ -100,7 +100,7 @@ module _ (cs : List (List ℕ)) where
       (λ h. let e = eqb-true (length cs) 0 (both (one "SHTS" (a ∷ b ∷ [])) _ h .1) in (none-plain e, omega arith))
       (λ h. let s = both (one "BL" (a ∷ b ∷ [])) _ h .1 in (drift s .1, omega (arith, single-one cs (one "DUSASN") s)))
 
-  fit-plain : (i : Intensity) (d : Code) → intensityFits i (under d cs) ≡ true → allAmong isPlain cs ≡ true
+  pub fit-plain : (i : Intensity) (d : Code) → intensityFits i (under d cs) ≡ true → allAmong isPlain cs ≡ true
   fit-plain intensity.None d h = right-plain d h .1
   fit-plain intensity.Light d h = right-plain d (both (right (under d cs)) _ h .0) .1
   fit-plain intensity.Heavy d h = right-plain d (both (right (under d cs)) _ h .0) .1

@@ -6,3 +6,4 @@ pub mod Fits
 pub mod Spelt
 pub mod RoundTrip
 pub mod Lists
+pub mod Spoken

@@ -5,16 +5,17 @@ use mathlib.Core.Bool.{true, false, _&&_, false≢true}
 use mathlib.Core.List.{List, [], _∷_, map}
 use Prim.Native.Nat.{ℕ, zero, suc, _+_, _≤_}
 use native.Mathlib.Omega.{arith}
-use lib.ListN.{length, take, drop}
+use lib.ListN.{length, take, drop, replicate, length-map}
 use lib.Seq.{length-take-le}
-use lib.Dec.{leb}
-use borrow.Author.Tests.{leb-true}
+use lib.Dec.{leb, eqb}
+use borrow.Author.Tests.{leb-true, eqb-true}
 use Rattle.text.specs.declared.kinds.Judged.{Judged}
 use Rattle.text.specs.declared.kinds.Judged.the-variants as judged
 use Rattle.text.specs.Judge.{judge}
 use Rattle.text.proofs.Judging.{fine, and-then}
 use Rattle.shapes.proofs.Patterns.{both}
 use Rattle.places.specs.Engine.{Group, Read, Good}
+use Rattle.places.proofs.ReadBack.{All}
 use Rattle.record.specs.declared.aerodrome.Phenomena.{Phenomena}
 use Rattle.record.specs.declared.aerodrome.Phenomena.the-variants as phenomena
 use Rattle.record.specs.declared.aerodrome.Weather.{Weather}
@@ -88,3 +89,32 @@ pub weathers-back : (ws : Weathers) → length (ws .items) ≡ 3 → (read : Gro
     → judgeWeathers test ws ≡ judged.Fine
     → addEach read 0 (map show (take (ws .count) (ws .items))) blankWeathers ≡ Good ws
 weathers-back ws e read show test back h = let t = parts test ws h in three-back read show test back (ws .items) (ws .count) e (t .0) (t .1) (t .2)
+
+-- ---- what holds of each group of weather that is judged fine, and how many there are
+
+all-shown : (P : Group → Type 0) (show : Weather → Group) (test : Weather → Judged) → ((w : Weather) → test w ≡ judged.Fine → P (show w))
+    → (ws : List Weather) → EachFine test ws → All P (map show ws)
+all-shown P show test f [] e = tt
+all-shown P show test f (w ∷ ws) e = (f w (e .0), all-shown P show test f ws (e .1))
+
+module _ (show : Weather → Group) (test : Weather → Judged) (ws : Weathers) (e : judgeWeathers test ws ≡ judged.Fine) where
+  pub weathers-all : (P : Group → Type 0) → ((w : Weather) → test w ≡ judged.Fine → P (show w)) → All P (map show (take (ws .count) (ws .items)))
+  weathers-all P f = all-shown P show test f (take (ws .count) (ws .items)) (weathers-each test ws e)
+
+  pub weathers-three : length (ws .items) ≡ 3 → length (map show (take (ws .count) (ws .items))) ≤ 3
+  weathers-three three = let n = weathers-few test ws e three in rw (length-map (take (ws .count) (ws .items)) show, n .1) (n .0)
+
+-- ---- none
+
+all-missing : (l : List Weather) → allMissing l ≡ true → l ≡ replicate (length l) blankWeather
+all-missing [] e = refl
+all-missing (w ∷ l) e = let t = missing-first w l e in rw (t .0, ← all-missing l (t .1))
+
+pub weathers-blank : (ws : Weathers) → length (ws .items) ≡ 3 → (eqb (ws .count) 0 && allMissing (ws .items)) ≡ true → ws ≡ blankWeathers
+weathers-blank ws three e = make (ws .items) (ws .count) (rw three at (all-missing (ws .items) (t .1))) (eqb-true (ws .count) 0 (t .0))
+  where
+    t : (eqb (ws .count) 0 ≡ true) × (allMissing (ws .items) ≡ true)
+    t = both (eqb (ws .count) 0) (allMissing (ws .items)) e
+
+    make : (l : List Weather) (n : ℕ) → l ≡ replicate 3 blankWeather → n ≡ 0 → _≡_ {A = Weathers} (record { items = l; count = n }) blankWeathers
+    make l n e z = rw (e, z)

@@ -74,7 +74,7 @@ module _ (i : Intensity) (d a b c : Code) (f : phenomenaFit (phenomena.Is i d a 
   abbrev rest : List (List ℕ)
   rest = listed a (listed b (listed c []))
 
-  fitted : (isDescribed d ≡ true) × (gapless a b c ≡ true) × (intensityFits i (under d rest) ≡ true)
+  pub fitted : (isDescribed d ≡ true) × (gapless a b c ≡ true) × (intensityFits i (under d rest) ≡ true)
   fitted =
       let t = both (isDescribed d && gapless a b c) (intensityFits i (under d rest)) f in
       let u = both (isDescribed d) (gapless a b c) (t .0) in
@@ -145,7 +145,7 @@ module _ (forecast automatic beside : Bool) where
       let t = fine (phenomenaFit (w .is) || (not forecast && isMissingWeather (w .is))) (not beside && (automatic || not (hasUnknown (w .is)))) h in
       (t .0, both (not beside) (automatic || not (hasUnknown (w .is))) (t .1) .1)
 
-  fits-of : (i : Intensity) (d a b c : Code) → judgeWeather forecast automatic beside (record { is = phenomena.Is i d a b c }) ≡ judged.Fine
+  pub fits-of : (i : Intensity) (d a b c : Code) → judgeWeather forecast automatic beside (record { is = phenomena.Is i d a b c }) ≡ judged.Fine
       → phenomenaFit (phenomena.Is i d a b c) ≡ true
   fits-of i d a b c h =
       or-cases (phenomenaFit (phenomena.Is i d a b c)) (not forecast && false) (judged-fine (record { is = phenomena.Is i d a b c }) h .0)

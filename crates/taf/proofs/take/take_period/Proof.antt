@@ -1,0 +1,25 @@
+-- `taf::take::take_period` meets its contract: what the group says is put into the part, or refuses it.
+-- Assumes nothing.
+use borrow.Author.Needs.{needs}
+use mathlib.Core.Path.{sym, _∙_}
+use Rattle.record.specs.Taf.{setPeriod}
+use Rattle.taf.specs.Row.{readPeriod}
+use Rattle.taf.proofs.Steps.{took, period-is}
+use Rattle.taf.proofs.take.take_period.Statement.{statement}
+use Rattle.taf.proofs.take.take_period.Tie as tie
+
+returns : tie.Need-returns
+returns c =
+    let a = c .before .before .before .before .before .before .args in
+    c .keep .ensures ∙ took (a .r) setPeriod (period-is (readPeriod (a .g .now)) (sym (c .before .before .read .given .1) ∙ c .before .before .before .before .read-period .ensures))
+
+returns-2 : tie.Need-returns-2
+returns-2 c =
+    let a = c .before .before .before .before .before .before .args in
+    c .refuse .ensures ∙ took (a .r) setPeriod (period-is (readPeriod (a .g .now)) (sym (c .before .before .read2 .given .1) ∙ c .before .before .before .before .read-period .ensures))
+
+pub take-period-spec : {M : Type 1} → statement M
+take-period-spec =
+    tie.close
+    (tie.spec
+    (λ c κs. search needs) (λ c. search needs) (λ c κs. search needs) (λ c. search needs) (λ c κs. search needs) returns returns-2)

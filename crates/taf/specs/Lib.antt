@@ -1,0 +1,4 @@
+pub mod Row
+pub mod Read
+pub mod Step
+pub mod Write

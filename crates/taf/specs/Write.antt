@@ -1,0 +1,249 @@
+-- Writing a TAF: what the writer judges, the canonical text, and the record that it is read back as.
+-- Assumes nothing: these are definitions.
+use Prim.Native.Nat.{ℕ}
+use mathlib.Core.Bool.{Bool, true, false, cond, not, _&&_, _||_}
+use mathlib.Core.List.{List, [], _∷_, _++_, map}
+use lib.ListN.{length, take, drop}
+use lib.Dec.{leb, eqb}
+use Rattle.figures.specs.Quote.{bytes}
+use Rattle.figures.specs.Figures.{numberText, fieldText}
+use Rattle.text.specs.declared.kinds.Refusal.the-variants as refusal
+use Rattle.text.specs.declared.kinds.Judged.{Judged}
+use Rattle.text.specs.declared.kinds.Judged.the-variants as judged
+use Rattle.text.specs.declared.kinds.Written.{Written}
+use Rattle.text.specs.Judge.{judge, andThen}
+use Rattle.text.specs.Write.{answerBy, bufferBy}
+use Rattle.text.specs.Groups.{join}
+use Rattle.places.specs.Engine.{Group, written, putAll}
+use Rattle.record.specs.declared.values.Number.{Number}
+use Rattle.record.specs.declared.aerodrome.Instant.{Instant}
+use Rattle.record.specs.declared.aerodrome.Period.{Period}
+use Rattle.record.specs.declared.aerodrome.Opening.{Opening}
+use Rattle.record.specs.declared.aerodrome.Opening.the-variants as opening
+use Rattle.record.specs.declared.aerodrome.Weathers.{Weathers}
+use Rattle.record.specs.declared.aerodrome.Sky.{Sky}
+use Rattle.record.specs.declared.aerodrome.Leg.{Leg}
+use Rattle.record.specs.declared.aerodrome.Change.{Change}
+use Rattle.record.specs.declared.aerodrome.Changes.{Changes}
+use Rattle.record.specs.declared.aerodrome.Taf.{Taf}
+use Rattle.record.specs.Taf.{blankInstant, blankLeg}
+use Rattle.elements.specs.Wind.{judgeWind, isBlankWind}
+use Rattle.elements.specs.Visibility.{isCavok, judgeVisibility, noView}
+use Rattle.elements.specs.Weather.{allMissing, judgeWeather, judgeWeathers}
+use Rattle.elements.specs.Sky.{isLayers, allBlank, judgeSky}
+use Rattle.aerodrome.specs.Head.{fieldOf, present, isDay, isHour, isMinute, judgeStation, judgeTime}
+use Rattle.aerodrome.specs.Runway.{isMissing}
+use Rattle.taf.specs.declared.kinds.Part.{Part}
+use Rattle.taf.specs.declared.kinds.Part.the-variants as part
+use Rattle.taf.specs.Row.{isMain, isWhole, isEndHour, row}
+use Rattle.taf.specs.Read.{changeOf, hasElement}
+
+-- ---- a part: wind, visibility, weather, sky, in written order
+
+-- a wind or visibility that a change group may leave out
+abbrev pub unlessAbsent : Part → Bool → Judged → Judged
+unlessAbsent w absent j = cond (not (isWhole w) && absent) judged.Fine j
+
+-- NSW "only in change bodies", and not beside CAVOK
+abbrev pub nswAgrees : Part → Leg → Bool
+nswAgrees w r = not (r .nsw) || (not (isMain w) && not (isCavok (r .visibility)))
+
+-- "a count over its limit, a slot past its count .. that is not blank"
+abbrev pub threeFit : Weathers → Bool
+threeFit ws = leb (ws .count) 3 && allMissing (drop (ws .count) (ws .items))
+
+-- the count, NSW, then each weather group
+abbrev pub judgeForecast : Part → Leg → Judged
+judgeForecast w r =
+    cond (nswAgrees w r) (judgeWeathers (judgeWeather true false (isCavok (r .visibility) || r .nsw)) (r .weathers)) (judge (threeFit (r .weathers)) false)
+
+-- "A change body needs one element, under FM wind and visibility."
+unfoldable pub judgePart : Part → Leg → Judged
+judgePart w r =
+    andThen (unlessAbsent w (isBlankWind (r .wind)) (judgeWind true (r .wind)))
+    (andThen (unlessAbsent w (noView (r .visibility .is)) (judgeVisibility true (r .visibility)))
+    (andThen (judgeForecast w r)
+    (andThen (judgeSky true (isCavok (r .visibility)) (r .sky)) (judge (isMain w || hasElement r) true))))
+
+-- ---- periods and what opens a change
+
+abbrev pub isHourOf : (ℕ → Bool) → Instant → Bool
+isHourOf hour t = present isDay (t .day) && present hour (t .hour) && isMissing (t .minute)
+
+abbrev pub isNoInstant : Instant → Bool
+isNoInstant t = isMissing (t .day) && isMissing (t .hour) && isMissing (t .minute)
+
+abbrev pub periodFits : Period → Bool
+periodFits p = isHourOf isHour (p .from) && isHourOf isEndHour (p .to)
+
+abbrev pub isNoPeriod : Period → Bool
+isNoPeriod p = isNoInstant (p .from) && isNoInstant (p .to)
+
+abbrev pub instantFits : Instant → Bool
+instantFits t = present isDay (t .day) && present isHour (t .hour) && present isMinute (t .minute)
+
+abbrev pub isChance : ℕ → Bool
+isChance n = eqb n 30 || eqb n 40
+
+-- the opening and its period: under FM a time and no end, else a period without minutes
+abbrev pub openingFits : Opening → Period → Bool
+openingFits opening.None p = false
+openingFits opening.Becoming p = periodFits p
+openingFits opening.Temporary p = periodFits p
+openingFits (opening.Probable n) p = isChance n && periodFits p
+openingFits (opening.ProbablyTemporary n) p = isChance n && periodFits p
+openingFits opening.From p = instantFits (p .from) && isNoInstant (p .to)
+
+abbrev pub partOf : Opening → Part
+partOf opening.None = part.Changing
+partOf opening.Becoming = part.Changing
+partOf opening.Temporary = part.Changing
+partOf (opening.Probable n) = part.Changing
+partOf (opening.ProbablyTemporary n) = part.Changing
+partOf opening.From = part.From
+
+-- a change group's part as a leg, its head blank
+abbrev pub legOf : Change → Leg
+legOf c =
+    record {
+      correction = blankLeg .correction;
+      station = blankLeg .station;
+      time = blankLeg .time;
+      nil = false;
+      period = c .period;
+      cancelled = false;
+      wind = c .wind;
+      visibility = c .visibility;
+      weathers = c .weathers;
+      nsw = c .nsw;
+      sky = c .sky;
+    }
+
+unfoldable pub judgeChange : Change → Judged
+judgeChange c = andThen (judge (openingFits (c .opening) (c .period)) true) (judgePart (partOf (c .opening)) (legOf c))
+
+abbrev pub judgeEach : List Change → Judged
+judgeEach [] = judged.Fine
+judgeEach (c ∷ cs) = andThen (judgeChange c) (judgeEach cs)
+
+-- ---- blanks
+
+abbrev pub noWeathers : Weathers → Bool
+noWeathers ws = eqb (ws .count) 0 && allMissing (ws .items)
+
+abbrev pub noSky : Sky → Bool
+noSky s = isLayers (s .cover) && eqb (s .count) 0 && allBlank (s .layers)
+
+-- nothing is said of wind, visibility, weather and sky
+unfoldable pub noPart : Leg → Bool
+noPart r = isBlankWind (r .wind) && noView (r .visibility .is) && noWeathers (r .weathers) && not (r .nsw) && noSky (r .sky)
+
+abbrev pub noOpening : Opening → Bool
+noOpening opening.None = true
+noOpening opening.Becoming = false
+noOpening opening.Temporary = false
+noOpening (opening.Probable n) = false
+noOpening (opening.ProbablyTemporary n) = false
+noOpening opening.From = false
+
+abbrev pub isBlankChange : Change → Bool
+isBlankChange c = noOpening (c .opening) && isNoPeriod (c .period) && noPart (legOf c)
+
+abbrev pub allBlankChanges : List Change → Bool
+allBlankChanges [] = true
+allBlankChanges (c ∷ cs) = isBlankChange c && allBlankChanges cs
+
+unfoldable pub judgeChanges : Changes → Judged
+judgeChanges cs = andThen (judge (leb (cs .count) 16 && allBlankChanges (drop (cs .count) (cs .items))) true) (judgeEach (take (cs .count) (cs .items)))
+
+abbrev pub noChanges : Changes → Bool
+noChanges cs = eqb (cs .count) 0 && allBlankChanges (cs .items)
+
+-- ---- foreign fields: a NIL report has nothing after its time, a cancelled one nothing after its period
+
+unfoldable pub foreignBlank : Taf → Bool
+foreignBlank t =
+    (not (t .leg .nil) || (isNoPeriod (t .leg .period) && not (t .leg .cancelled)))
+    && (not (t .leg .nil || t .leg .cancelled) || (noPart (t .leg) && noChanges (t .changes)))
+
+-- ---- "The writer judges foreign fields first, then the others in written order, 11 before 7 at each"
+
+unfoldable pub judgeOf : Taf → Judged
+judgeOf t =
+    andThen (judge (foreignBlank t) true)
+    (andThen (judgeStation (t .leg .station))
+    (andThen (judgeTime (t .leg .time))
+    (cond (t .leg .nil) judged.Fine
+    (andThen (judge (periodFits (t .leg .period)) true)
+    (cond (t .leg .cancelled) judged.Fine (andThen (judgePart part.Main (t .leg)) (judgeChanges (t .changes))))))))
+
+-- ---- the canonical text
+
+abbrev pub showChance : ℕ → Group
+showChance n = bytes "PROB" ++ numberText 2 n
+
+abbrev pub showFrom : Instant → Group
+showFrom t = bytes "FM" ++ fieldText 2 (fieldOf (t .day)) ++ fieldText 2 (fieldOf (t .hour)) ++ fieldText 2 (fieldOf (t .minute))
+
+abbrev pub showOpening : Opening → Period → List Group
+showOpening opening.None p = []
+showOpening opening.Becoming p = bytes "BECMG" ∷ []
+showOpening opening.Temporary p = bytes "TEMPO" ∷ []
+showOpening (opening.Probable n) p = showChance n ∷ []
+showOpening (opening.ProbablyTemporary n) p = showChance n ∷ bytes "TEMPO" ∷ []
+showOpening opening.From p = showFrom (p .from) ∷ []
+
+unfoldable pub showChange : Change → List Group
+showChange c = showOpening (c .opening) (c .period) ++ written (row (partOf (c .opening))) (legOf c)
+
+abbrev pub showEach : List Change → List Group
+showEach [] = []
+showEach (c ∷ cs) = showChange c ++ showEach cs
+
+unfoldable pub groupsOf : Taf → List Group
+groupsOf t = written (row part.Main) (t .leg) ++ showEach (take (t .changes .count) (t .changes .items))
+
+unfoldable pub canonicalOf : Taf → List ℕ
+canonicalOf t = join (groupsOf t)
+
+-- ---- the record that it is read back as: each rounded number the reading of its class, all else as it is
+
+-- the leg that a change's part is read into
+abbrev pub openedLeg : Opening → Period → Leg
+openedLeg opening.None p = blankLeg
+openedLeg opening.Becoming p = blankLeg
+openedLeg opening.Temporary p = blankLeg
+openedLeg (opening.Probable n) p = blankLeg
+openedLeg (opening.ProbablyTemporary n) p = blankLeg
+openedLeg opening.From p =
+    record {
+      correction = blankLeg .correction;
+      station = blankLeg .station;
+      time = blankLeg .time;
+      nil = false;
+      period = record { from = p .from; to = blankInstant };
+      cancelled = false;
+      wind = blankLeg .wind;
+      visibility = blankLeg .visibility;
+      weathers = blankLeg .weathers;
+      nsw = false;
+      sky = blankLeg .sky;
+    }
+
+unfoldable pub classChange : Change → Change
+classChange c = changeOf (c .opening) (putAll (row (partOf (c .opening))) (legOf c) (openedLeg (c .opening) (c .period)))
+
+unfoldable pub classedOf : Taf → Taf
+classedOf t =
+    record {
+      leg = putAll (row part.Main) (t .leg) blankLeg;
+      changes = record { items = map classChange (take (t .changes .count) (t .changes .items)) ++ drop (t .changes .count) (t .changes .items); count = t .changes .count };
+    }
+
+-- ---- the writer's answer, and the lent buffer afterwards
+
+unfoldable pub writtenOf : Taf → ℕ → Written
+writtenOf t room = answerBy (judgeOf t) (canonicalOf t) room
+
+unfoldable pub bufferOf : Taf → List ℕ → List ℕ
+bufferOf t b = bufferBy (judgeOf t) (canonicalOf t) b

@@ -1,0 +1,2 @@
+-- Laws that the proofs of the judging use.
+pub mod Judgings

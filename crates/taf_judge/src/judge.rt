@@ -1,0 +1,338 @@
+// What the writer judges of a TAF before it writes anything: that a NIL report has nothing after its time and a cancelled one nothing after its
+// period, then each group in written order.
+use crate::blank::blank_from;
+use crate::blank::has_unit;
+use crate::blank::is_missing;
+use crate::blank::leg_of;
+use crate::blank::no_instant;
+use crate::blank::no_part;
+use crate::blank::no_period;
+use crate::blank::no_view;
+use crate::blank::no_wind;
+use aerodrome::judge::judge_station;
+use aerodrome::judge::judge_time;
+use record::aerodrome::Change;
+use record::aerodrome::Changes;
+use record::aerodrome::Instant;
+use record::aerodrome::Leg;
+use record::aerodrome::Opening;
+use record::aerodrome::Period;
+use record::aerodrome::Phenomena;
+use record::aerodrome::Taf;
+use record::aerodrome::Weather;
+use record::aerodrome::Weathers;
+use record::values::Number;
+use sky::judge::judge_sky;
+use sky::read::is_layers;
+use taf::kinds::Part;
+use text::judge::and_then;
+use text::judge::judge as judge_pair;
+use text::kinds::Judged;
+use weather_write::judge::judge_weathers;
+use wind::judge::judge_visibility;
+use wind::judge::judge_wind;
+use wind::read::is_cavok;
+ghost use mathlib.Core.Path.{_≡_};
+ghost use mathlib.Core.Bool.{true, cond};
+ghost use Prim.Native.Nat.{_≤_};
+ghost use lib.ListN.{take};
+ghost use lib.Dec.{leb};
+ghost use Rattle.text.specs.declared.kinds.Judged.the-variants as judged;
+ghost use Rattle.text.specs.Judge.{judge, andThen};
+ghost use Rattle.elements.specs.Weather.{isMissingWeather};
+ghost use Rattle.aerodrome.specs.Head.{isDay, present};
+ghost use Rattle.taf.specs.declared.kinds.Part.the-variants as part;
+ghost use Rattle.taf.specs.Row.{isMain, isWhole};
+ghost use Rattle.taf.specs.Read.{hasElement};
+ghost use Rattle.taf.specs.Write.{unlessAbsent, nswAgrees, threeFit, judgeForecast, judgePart, isHourOf, periodFits, instantFits, openingFits, partOf, judgeChange, judgeEach, judgeChanges, noChanges, foreignBlank, judgeOf};
+
+// ---- a part
+
+fn is_main(w: Part) -> bool
+    ensures { λ r. ⌜ r ≡ isMain w ⌝ }
+{
+    match w {
+        Part::Main => true,
+        Part::Changing => false,
+        Part::From => false,
+    }
+}
+
+fn is_whole(w: Part) -> bool
+    ensures { λ r. ⌜ r ≡ isWhole w ⌝ }
+{
+    match w {
+        Part::Main => true,
+        Part::Changing => false,
+        Part::From => true,
+    }
+}
+
+// A wind or visibility that a change group may leave out.
+fn unless_absent(w: Part, absent: bool, j: Judged) -> Judged
+    ensures { λ r. ⌜ r ≡ unlessAbsent w absent j ⌝ }
+{
+    if !is_whole(w) & absent {
+        Judged::Fine
+    } else {
+        j
+    }
+}
+
+fn lacks(w: Weather) -> bool
+    ensures { λ r. ⌜ r ≡ isMissingWeather (w .is) ⌝ }
+{
+    let is = w.is;
+    match is {
+        Phenomena::Missing => true,
+        Phenomena::Is { .. } => false,
+    }
+}
+
+// The count of weathers, and what stands past it.
+fn three_fit(ws: Weathers) -> bool
+    ensures { λ r. ⌜ r ≡ threeFit ws ⌝ }
+{
+    let items = ws.items;
+    let count = ws.count;
+    (count <= 3)
+        & ((0 < count) | lacks(items[0]))
+        & ((1 < count) | lacks(items[1]))
+        & ((2 < count) | lacks(items[2]))
+}
+
+// NSW stands only in change bodies, and not beside CAVOK.
+fn nsw_agrees(w: Part, r: Leg) -> bool
+    ensures { λ b. ⌜ b ≡ nswAgrees w r ⌝ }
+{
+    let visibility = r.visibility;
+    !r.nsw | (!is_main(w) & !is_cavok(visibility))
+}
+
+fn judge_forecast(w: Part, r: Leg) -> Judged
+    ensures { λ j. ⌜ j ≡ judgeForecast w r ⌝ }
+{
+    let visibility = r.visibility;
+    let weathers = r.weathers;
+    let nsw = r.nsw;
+    if nsw_agrees(w, r) {
+        judge_weathers(true, false, is_cavok(visibility) | nsw, weathers)
+    } else {
+        judge_pair(three_fit(weathers), false)
+    }
+}
+
+fn has_element(r: Leg) -> bool
+    ensures { λ b. ⌜ b ≡ hasElement r ⌝ }
+{
+    let wind = r.wind;
+    let unit = wind.unit;
+    let visibility = r.visibility;
+    let view = visibility.is;
+    let weathers = r.weathers;
+    let sky = r.sky;
+    let cover = sky.cover;
+    let groups = weathers.count;
+    let layers = sky.count;
+    let nsw = r.nsw;
+    let told = has_unit(unit) | !no_view(view) | (0 < groups) | nsw;
+    told | !is_layers(cover) | (0 < layers)
+}
+
+fn judge_part(w: Part, r: Leg) -> Judged
+    ensures { λ j. ⌜ j ≡ judgePart w r ⌝ }
+{
+    let wind = r.wind;
+    let visibility = r.visibility;
+    let view = visibility.is;
+    let sky = r.sky;
+    let cavok = is_cavok(visibility);
+    let told = judge_pair(is_main(w) | has_element(r), true);
+    let from_sky = and_then(judge_sky(true, cavok, sky), told);
+    let from_weather = and_then(judge_forecast(w, r), from_sky);
+    let seen = unless_absent(w, no_view(view), judge_visibility(true, visibility));
+    let blown = unless_absent(w, no_wind(wind), judge_wind(true, wind));
+    and_then(blown, and_then(seen, from_weather))
+}
+
+// ---- periods and what opens a change
+
+fn is_day(n: Number) -> bool
+    ensures { λ r. ⌜ r ≡ present isDay n ⌝ }
+{
+    match n {
+        Number::Missing => false,
+        Number::Is(d) => (1 <= d) & (d <= 31),
+    }
+}
+
+// A number that has to be there, up to the most.
+fn is_up_to(n: Number, most: u32) -> bool
+    ensures { λ r. ⌜ r ≡ present (λ v. leb v most) n ⌝ }
+{
+    match n {
+        Number::Missing => false,
+        Number::Is(v) => v <= most,
+    }
+}
+
+// A day and an hour up to the last, without minutes.
+fn is_hour(t: Instant, last: u32) -> bool
+    ensures { λ r. ⌜ r ≡ isHourOf (λ h. leb h last) t ⌝ }
+{
+    let day = t.day;
+    let hour = t.hour;
+    let minute = t.minute;
+    is_day(day) & is_up_to(hour, last) & is_missing(minute)
+}
+
+fn period_fits(p: Period) -> bool
+    ensures { λ r. ⌜ r ≡ periodFits p ⌝ }
+{
+    let from = p.from;
+    let to = p.to;
+    is_hour(from, 23) & is_hour(to, 24)
+}
+
+fn instant_fits(t: Instant) -> bool
+    ensures { λ r. ⌜ r ≡ instantFits t ⌝ }
+{
+    let day = t.day;
+    let hour = t.hour;
+    let minute = t.minute;
+    is_day(day) & is_up_to(hour, 23) & is_up_to(minute, 59)
+}
+
+fn opening_fits(o: Opening, p: Period) -> bool
+    ensures { λ r. ⌜ r ≡ openingFits o p ⌝ }
+{
+    let from = p.from;
+    let to = p.to;
+    match o {
+        Opening::None => false,
+        Opening::Becoming => period_fits(p),
+        Opening::Temporary => period_fits(p),
+        Opening::Probable(n) => ((n == 30) | (n == 40)) & period_fits(p),
+        Opening::ProbablyTemporary(n) => ((n == 30) | (n == 40)) & period_fits(p),
+        Opening::From => instant_fits(from) & no_instant(to),
+    }
+}
+
+pub fn part_of(o: Opening) -> Part
+    ensures { λ r. ⌜ r ≡ partOf o ⌝ }
+{
+    match o {
+        Opening::None => Part::Changing,
+        Opening::Becoming => Part::Changing,
+        Opening::Temporary => Part::Changing,
+        Opening::Probable(_) => Part::Changing,
+        Opening::ProbablyTemporary(_) => Part::Changing,
+        Opening::From => Part::From,
+    }
+}
+
+// ---- changes
+
+fn judge_change(c: Change) -> Judged
+    ensures { λ r. ⌜ r ≡ judgeChange c ⌝ }
+{
+    let opening = c.opening;
+    let period = c.period;
+    let opened = judge_pair(opening_fits(opening, period), true);
+    and_then(opened, judge_part(part_of(opening), leg_of(c)))
+}
+
+// The first `count`.
+fn judge_each(items: [Change; 16], count: usize) -> Judged
+    requires { ⌜ count ≤ 16 ⌝ }
+    ensures { λ r. ⌜ r ≡ judgeEach (take count items) ⌝ }
+{
+    let mut i = 0;
+    while i < count {
+        let judged = judge_change(items[i]);
+        if let Judged::Refused(refusal) = judged {
+            return Judged::Refused(refusal);
+        }
+        i += 1;
+    }
+    Judged::Fine
+}
+
+fn judge_changes(cs: Changes) -> Judged
+    ensures { λ r. ⌜ r ≡ judgeChanges cs ⌝ }
+{
+    let items = cs.items;
+    let count = cs.count;
+    if count <= 16 {
+        let past = judge_pair(blank_from(items, count), true);
+        and_then(past, judge_each(items, count))
+    } else {
+        judge_pair(false, true)
+    }
+}
+
+fn no_changes(cs: Changes) -> bool
+    ensures { λ r. ⌜ r ≡ noChanges cs ⌝ }
+{
+    let items = cs.items;
+    (cs.count == 0) & blank_from(items, 0)
+}
+
+// ---- the whole
+
+// A NIL report has nothing after its time, a cancelled one nothing after its period.
+fn foreign_blank(t: Taf) -> bool
+    ensures { λ b. ⌜ b ≡ foreignBlank t ⌝ }
+{
+    let leg = t.leg;
+    let period = leg.period;
+    let nil = leg.nil;
+    let cancelled = leg.cancelled;
+    let changes = t.changes;
+    let timed = !nil | (no_period(period) & !cancelled);
+    timed & (!(nil | cancelled) | (no_part(leg) & no_changes(changes)))
+}
+
+fn judge_main(r: Leg) -> Judged
+    ensures { λ j. ⌜ j ≡ judgePart part.Main r ⌝ }
+{
+    let main = Part::Main;
+    judge_part(main, r)
+}
+
+// What follows the period: a cancelled report has nothing more to judge.
+fn judge_body(t: Taf) -> Judged
+    ensures { λ j. ⌜ j ≡ cond (t .leg .cancelled) judged.Fine (andThen (judgePart part.Main (t .leg)) (judgeChanges (t .changes))) ⌝ }
+{
+    let leg = t.leg;
+    let changes = t.changes;
+    if leg.cancelled {
+        Judged::Fine
+    } else {
+        and_then(judge_main(leg), judge_changes(changes))
+    }
+}
+
+// What follows the time: a NIL report has nothing more to judge.
+fn judge_rest(t: Taf) -> Judged
+    ensures { λ j. ⌜ j ≡ cond (t .leg .nil) judged.Fine (andThen (judge (periodFits (t .leg .period)) true) (cond (t .leg .cancelled) judged.Fine (andThen (judgePart part.Main (t .leg)) (judgeChanges (t .changes))))) ⌝ }
+{
+    let leg = t.leg;
+    let period = leg.period;
+    if leg.nil {
+        Judged::Fine
+    } else {
+        and_then(judge_pair(period_fits(period), true), judge_body(t))
+    }
+}
+
+pub fn judge(t: Taf) -> Judged
+    ensures { λ j. ⌜ j ≡ judgeOf t ⌝ }
+{
+    let leg = t.leg;
+    let station = leg.station;
+    let time = leg.time;
+    let foreign = judge_pair(foreign_blank(t), true);
+    let from_time = and_then(judge_time(time), judge_rest(t));
+    and_then(foreign, and_then(judge_station(station), from_time))
+}

@@ -1,0 +1,243 @@
+-- What the round trip promises of a TAF, in document 01's words: each exact field comes back as it was, each rounded number as the reading of its class, near
+-- its value and never above it where the scale rounds down, in the main part and in each change; and of two values on one scale the greater never reads
+-- smaller.
+-- Assumes nothing.
+use Prim.Native.Nat.{ℕ, zero, suc}
+use mathlib.Core.Path.{_≡_, refl, sym, ap, _∙_}
+use mathlib.Core.Bool.{Bool, true, false, _||_}
+use mathlib.Core.List.{List, [], _∷_, _++_, map}
+use lib.ListN.{length, getD, take, drop, replicate, List·getD-map}
+use Rattle.text.specs.declared.kinds.Judged.the-variants as judged
+use Rattle.text.specs.declared.kinds.Verdict.the-variants as verdict
+use Rattle.text.proofs.Judging.{fine, and-then}
+use Rattle.shapes.proofs.Patterns.{neither}
+use Rattle.record.specs.declared.values.Number.{Number}
+use Rattle.record.specs.declared.values.Number.the-variants as number
+use Rattle.record.specs.declared.aerodrome.Wind.{Wind}
+use Rattle.record.specs.declared.aerodrome.Visibility.{Visibility}
+use Rattle.record.specs.declared.aerodrome.Layer.{Layer}
+use Rattle.record.specs.declared.aerodrome.Cover.{Cover}
+use Rattle.record.specs.declared.aerodrome.Cover.the-variants as cover
+use Rattle.record.specs.declared.aerodrome.Sky.{Sky}
+use Rattle.record.specs.declared.aerodrome.Leg.{Leg}
+use Rattle.record.specs.declared.aerodrome.Change.{Change}
+use Rattle.record.specs.declared.aerodrome.Taf.{Taf}
+use Rattle.record.specs.Metar.{blankLayer}
+use Rattle.record.specs.Taf.{blankChange}
+use Rattle.elements.specs.Wind.{judgeWind, classWind, isBlankWind}
+use Rattle.elements.specs.Visibility.{viewFits, judgeVisibility, classView, noView}
+use Rattle.elements.specs.Sky.{classCover, classLayer, classSky, writtenHeight}
+use Rattle.wind.proofs.Promises.{DirectionNear, no-direction, wind-near, ViewRead, visibility-read, ViewOrder, visibility-order}
+use Rattle.sky.proofs.Promises.{SkyBack, sky-read, HeightOrder, height-order}
+use Rattle.taf.specs.declared.kinds.Part.{Part}
+use Rattle.taf.specs.declared.kinds.Part.the-variants as part
+use Rattle.taf.specs.Row.{row}
+use Rattle.taf.specs.Read.{readOf}
+use Rattle.taf.specs.Write.{unlessAbsent, legOf, judgeChange, judgeEach, judgeOf, canonicalOf, classChange, classedOf}
+use Rattle.taf_laws.proofs.Blanks.{Arrays, Bare, wind-blank, visibility-blank}
+use Rattle.taf_laws.proofs.Places.{there-judged}
+use Rattle.taf_laws.proofs.Parts.{FairPart, fair-part, FairChange, fair-change, Fair, fair, over-bare}
+use Rattle.taf_laws.proofs.Changes.{Listed, listed}
+use Rattle.taf_laws.proofs.Classes.{classPart, change-is}
+use Rattle.taf_laws.proofs.Canonical.{read-canonical, taken, dropped}
+
+-- ---- the record that is read back
+
+-- "The numbers scaled here are the rounded ones; all else in a record, missing, calm, variable and trace too, is carried exactly."
+pub record PartRead (r q : Leg) : Type 0 where
+  pub direction : DirectionNear (r .wind .direction) (q .wind .direction)
+  pub speed : q .wind .speed ≡ r .wind .speed
+  pub gust : q .wind .gust ≡ r .wind .gust
+  pub unit : q .wind .unit ≡ r .wind .unit
+  pub visibility : ViewRead (r .visibility .is) (q .visibility .is)
+  pub weathers : q .weathers ≡ r .weathers
+  pub nsw : q .nsw ≡ r .nsw
+  pub sky : SkyBack (r .sky) (q .sky)
+
+pub record ChangeRead (c d : Change) : Type 0 where
+  pub opening : d .opening ≡ c .opening
+  pub period : d .period ≡ c .period
+  pub part : PartRead (legOf c) (legOf d)
+
+pub data EachRead : List Change → List Change → Type 0 where
+  none : EachRead [] []
+  more : {c d : Change} {cs ds : List Change} → ChangeRead c d → EachRead cs ds → EachRead (c ∷ cs) (d ∷ ds)
+
+-- the head, the main part, the changes up to the count; what stands past it is as it was
+pub record RecordRead (t q : Taf) : Type 0 where
+  pub correction : q .leg .correction ≡ t .leg .correction
+  pub station : q .leg .station ≡ t .leg .station
+  pub time : q .leg .time ≡ t .leg .time
+  pub nil : q .leg .nil ≡ t .leg .nil
+  pub period : q .leg .period ≡ t .leg .period
+  pub cancelled : q .leg .cancelled ≡ t .leg .cancelled
+  pub part : PartRead (t .leg) (q .leg)
+  pub count : q .changes .count ≡ t .changes .count
+  pub changes : EachRead (take (t .changes .count) (t .changes .items)) (take (t .changes .count) (q .changes .items))
+  pub past : drop (t .changes .count) (q .changes .items) ≡ drop (t .changes .count) (t .changes .items)
+
+-- ---- a part
+
+-- a wind and a visibility that are judged fine, or not there
+wind-kept : (w : Part) (x : Wind) → unlessAbsent w (isBlankWind x) (judgeWind true x) ≡ judged.Fine → DirectionNear (x .direction) (classWind x .direction)
+wind-kept w x e = go (isBlankWind x) refl
+  where
+    go : (b : Bool) → isBlankWind x ≡ b → DirectionNear (x .direction) (classWind x .direction)
+    go true z = rw (wind-blank x z) no-direction
+    go false z = wind-near true x (there-judged w (judgeWind true x) (rw z at e))
+
+view-kept : (w : Part) (x : Visibility) → unlessAbsent w (noView (x .is)) (judgeVisibility true x) ≡ judged.Fine → ViewRead (x .is) (classView (x .is))
+unfolding judgeVisibility
+view-kept w x e = go (noView (x .is)) refl
+  where
+    go : (b : Bool) → noView (x .is) ≡ b → ViewRead (x .is) (classView (x .is))
+    go true z = visibility-read false (x .is) (rw (visibility-blank x z))
+    go false z = visibility-read true (x .is) (fine (viewFits true (x .is)) true (there-judged w (judgeVisibility true x) (rw z at e)) .0)
+
+part-of : (r : Leg) → DirectionNear (r .wind .direction) (classWind (r .wind) .direction) → ViewRead (r .visibility .is) (classView (r .visibility .is))
+    → PartRead r (classPart r)
+part-of r d v =
+    record { direction = d; speed = refl; gust = refl; unit = refl; visibility = v; weathers = refl; nsw = refl; sky = sky-read (r .sky) }
+
+part-read : (w : Part) (r : Leg) → FairPart w r → PartRead r (classPart r)
+part-read w r f = part-of r (wind-kept w (r .wind) (f .wind)) (view-kept w (r .visibility) (f .visibility))
+
+bare-read : (r : Leg) → Bare r → PartRead r (classPart r)
+bare-read r b = part-of r (rw (b .wind) no-direction) (visibility-read false (r .visibility .is) (rw (b .visibility)))
+
+main-read : (t : Taf) → Arrays t → Fair t → PartRead (t .leg) (classPart (t .leg))
+main-read t arrays f = go (t .leg .nil || t .leg .cancelled) refl
+  where
+    go : (b : Bool) → (t .leg .nil || t .leg .cancelled) ≡ b → PartRead (t .leg) (classPart (t .leg))
+    go true o = bare-read (t .leg) (over-bare t arrays f o)
+    go false o =
+        let n = neither (t .leg .nil) (t .leg .cancelled) (rw o) in
+        part-read part.Main (t .leg) (fair-part part.Main (t .leg) (f .part (n .0) (n .1)))
+
+-- ---- the changes
+
+change-read : (c : Change) → FairChange c → ChangeRead c (classChange c)
+change-read c f = rw (change-is c (f .opens)) (record { opening = refl; period = refl; part = part-read _ (legOf c) (f .part) })
+
+each-read : (cs : List Change) → judgeEach cs ≡ judged.Fine → EachRead cs (map classChange cs)
+each-read [] e = none
+each-read (c ∷ cs) e = let j = and-then (judgeChange c) (judgeEach cs) e in more (change-read c (fair-change c (j .0))) (each-read cs (j .1))
+
+record-read : (t : Taf) → Arrays t → judgeOf t ≡ judged.Fine → RecordRead t (classedOf t)
+unfolding classedOf row
+record-read t arrays e =
+    let f = fair t e in
+    let l = listed t arrays f in
+    record {
+      correction = refl;
+      station = refl;
+      time = refl;
+      nil = refl;
+      period = refl;
+      cancelled = refl;
+      part = main-read t arrays f;
+      count = refl;
+      changes = rw (taken t l) (each-read (take (t .changes .count) (t .changes .items)) (l .fine));
+      past = dropped t l;
+    }
+
+-- WHAT IS WRITTEN OF A RECORD THAT THE WRITER ACCEPTS IS READ, to the text's end, as a record that says the same.
+pub promise : (t : Taf) → Arrays t → judgeOf t ≡ judged.Fine
+    → (readOf (canonicalOf t) .verdict ≡ verdict.Accepted (length (canonicalOf t))) × RecordRead t (readOf (canonicalOf t) .report)
+promise t arrays e = rw (read-canonical t arrays e) (refl, record-read t arrays e)
+
+-- ---- the order
+
+-- the main part, or a change's
+pub data Where : Type 0 where
+  main : Where
+  change : ℕ → Where
+
+abbrev pub partAt : Taf → Where → Leg
+partAt t main = t .leg
+partAt t (change i) = legOf (getD (t .changes .items) i blankChange)
+
+-- the height of a layer, or the vertical visibility, on the same scale
+pub data Level : Type 0 where
+  layer : ℕ → Level
+  vertical : Level
+
+abbrev pub verticalOf : Cover → Number
+verticalOf cover.Layers = number.Missing
+verticalOf cover.Clear = number.Missing
+verticalOf cover.NoneSignificant = number.Missing
+verticalOf cover.NoneDetected = number.Missing
+verticalOf (cover.Vertical h) = h
+
+abbrev pub heightAt : Sky → Level → Number
+heightAt s (layer i) = getD (s .layers) i blankLayer .height
+heightAt s vertical = verticalOf (s .cover)
+
+vertical-class : (c : Cover) → verticalOf (classCover c) ≡ writtenHeight (verticalOf c)
+vertical-class cover.Layers = refl
+vertical-class cover.Clear = refl
+vertical-class cover.NoneSignificant = refl
+vertical-class cover.NoneDetected = refl
+vertical-class (cover.Vertical h) = refl
+
+height-class : (s : Sky) (l : Level) → heightAt (classSky s) l ≡ writtenHeight (heightAt s l)
+height-class s (layer i) = ap (λ (l : Layer). l .height) (List·getD-map classLayer (s .layers) i blankLayer)
+height-class s vertical = vertical-class (s .cover)
+
+-- a blank change is read back as it was, and so are those past the count
+blank-classed : classChange blankChange ≡ blankChange
+unfolding classChange row
+blank-classed = refl
+
+blanks-classed : (n k : ℕ) → map classChange (drop n (replicate k blankChange)) ≡ drop n (replicate k blankChange)
+blanks-classed zero zero = refl
+blanks-classed zero (suc k) = rw (blank-classed, blanks-classed zero k)
+blanks-classed (suc n) zero = refl
+blanks-classed (suc n) (suc k) = blanks-classed n k
+
+map-parts : (n : ℕ) (cs : List Change) → map classChange (take n cs) ++ map classChange (drop n cs) ≡ map classChange cs
+map-parts zero cs = refl
+map-parts (suc n) [] = refl
+map-parts (suc n) (c ∷ cs) = ap (λ (l : List Change). classChange c ∷ l) (map-parts n cs)
+
+items-classed : (t : Taf) → Listed t → classedOf t .changes .items ≡ map classChange (t .changes .items)
+unfolding classedOf
+items-classed t l =
+    ap (λ (q : List Change). map classChange (take (t .changes .count) (t .changes .items)) ++ q)
+    (sym (l .blank) ∙ sym (blanks-classed (t .changes .count) 16) ∙ ap (map classChange) (l .blank))
+    ∙ map-parts (t .changes .count) (t .changes .items)
+
+change-at : (t : Taf) → Listed t → (i : ℕ) → getD (classedOf t .changes .items) i blankChange ≡ classChange (getD (t .changes .items) i blankChange)
+change-at t l i = rw (items-classed t l) (ap (getD (map classChange (t .changes .items)) i) (sym blank-classed) ∙ List·getD-map classChange (t .changes .items) i blankChange)
+
+-- each part's visibility and sky are read back as their classes
+view-class : (t : Taf) → Listed t → (a : Where) → partAt (classedOf t) a .visibility .is ≡ classView (partAt t a .visibility .is)
+unfolding classedOf classChange row
+view-class t l main = refl
+view-class t l (change i) = ap (λ (c : Change). c .visibility .is) (change-at t l i)
+
+sky-class : (t : Taf) → Listed t → (a : Where) → partAt (classedOf t) a .sky ≡ classSky (partAt t a .sky)
+unfolding classedOf classChange row
+sky-class t l main = refl
+sky-class t l (change i) = ap (λ (c : Change). c .sky) (change-at t l i)
+
+-- Of the values of t and of q the greater does not come back smaller: which part or layer it stands in makes no difference.
+pub record Ordered (t q back-t back-q : Taf) : Type 0 where
+  pub visibility : (a b : Where) → ViewOrder (partAt t a .visibility .is) (partAt q b .visibility .is)
+      → ViewOrder (partAt back-t a .visibility .is) (partAt back-q b .visibility .is)
+  pub heights : (a b : Where) (i j : Level) → HeightOrder (heightAt (partAt t a .sky) i) (heightAt (partAt q b .sky) j)
+      → HeightOrder (heightAt (partAt back-t a .sky) i) (heightAt (partAt back-q b .sky) j)
+
+ordered : (t q : Taf) → Listed t → Listed q → Ordered t q (classedOf t) (classedOf q)
+ordered t q l m =
+    record {
+      visibility = λ a b h. rw (view-class t l a, view-class q m b) (visibility-order (partAt t a .visibility .is) (partAt q b .visibility .is) h);
+      heights = λ a b i j h.
+          rw (sky-class t l a, sky-class q m b, height-class (partAt t a .sky) i, height-class (partAt q b .sky) j)
+          (height-order (heightAt (partAt t a .sky) i) (heightAt (partAt q b .sky) j) h);
+    }
+
+-- OF TWO RECORDS THAT THE WRITER ACCEPTS, the greater value never reads smaller.
+pub order : (t q : Taf) → Arrays t → Arrays q → judgeOf t ≡ judged.Fine → judgeOf q ≡ judged.Fine
+    → Ordered t q (readOf (canonicalOf t) .report) (readOf (canonicalOf q) .report)
+order t q arrays arrays′ e f = rw (read-canonical t arrays e, read-canonical q arrays′ f) (ordered t q (listed t arrays (fair t e)) (listed q arrays′ (fair q f)))

@@ -1,0 +1,25 @@
+-- `taf_read::finish` meets its contract: by what follows the "=".
+-- Assumes nothing.
+use borrow.Author.Needs.{needs}
+use mathlib.Core.Path.{sym, ap, _∙_}
+use lib.ListN.{length}
+use Rattle.text.specs.declared.kinds.Tail.{Tail}
+use Rattle.taf.specs.Read.{finish, answer}
+use Rattle.taf_read.proofs.finish.Statement.{statement}
+use Rattle.taf_read.proofs.finish.Tie as tie
+
+returns : tie.Need-returns
+returns c =
+    let a = c .before .before .before .before .before .before .args in
+    c .refuse .ensures ∙ ap (λ (x : Tail). answer (finish (a .t) (a .s) x (length (a .text .now)))) (sym (c .before .before .tail2 .given .1) ∙ c .before .before .before .before .tail .ensures)
+
+returns-2 : tie.Need-returns-2
+returns-2 c =
+    let a = c .before .before .before .before .before .args in
+    c .close .ensures ∙ ap (λ (x : Tail). answer (finish (a .t) (a .s) x (length (a .text .now)))) (sym (c .before .enum-told .given .1) ∙ c .before .before .before .tail .ensures)
+
+pub finish-spec : {M : Type 1} → statement M
+finish-spec =
+    tie.close
+    (tie.spec
+    (λ c κs. search needs) (λ c. search needs) (λ c κs. search needs) (λ c. search needs) (λ c κs. search needs) returns returns-2)

@@ -1,0 +1,3 @@
+-- Laws that the proofs of the writer use.
+pub mod Lengths
+pub mod Writing

@@ -1,0 +1,21 @@
+-- `taf_write::write::write` meets its contract, by the verdict.
+-- Assumes nothing.
+use borrow.Author.Needs.{needs}
+use mathlib.Core.Path.{sym, _∙_}
+use Rattle.taf_write.proofs.Writing.{not-written}
+use Rattle.taf_write.proofs.write.write.Statement.{statement}
+use Rattle.taf_write.proofs.write.write.Tie as tie
+
+pub write-spec : {M : Type 1} → statement M
+write-spec =
+    tie.close
+    (tie.spec
+    (λ c κs. tt)
+    (λ c. search needs)
+    (λ c κs. sym (c .before .before .before .judge .ensures) ∙ c .before .enum-told .given .1)
+    (λ c. search needs)
+    (λ c. search needs)
+    (λ c. search needs)
+    (λ c.
+    let d = c .before .before .before .before .before in
+    not-written (d .args .t) _ (d .args .out .now) (sym (c .before .before .before .judge .ensures) ∙ c .before .verdict .given .1)))

@@ -1,0 +1,2 @@
+// The writer of TAF: a record written as its canonical text.
+pub mod write;

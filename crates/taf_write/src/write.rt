@@ -1,0 +1,301 @@
+// A TAF written as its canonical text, over a lent buffer: all of it, or nothing.
+use aerodrome::write::put_station;
+use aerodrome::write::put_time;
+use figures::kinds::Field;
+use figures::put::put_byte;
+use figures::put::put_field;
+use figures::put::put_number;
+use figures::put::put_text;
+use record::aerodrome::Change;
+use record::aerodrome::Correction;
+use record::aerodrome::Instant;
+use record::aerodrome::Leg;
+use record::aerodrome::Opening;
+use record::aerodrome::Period;
+use record::aerodrome::Taf;
+use record::aerodrome::Visibility;
+use record::aerodrome::Wind;
+use record::values::Number;
+use sky::write::put_sky;
+use taf::kinds::Part;
+use taf_judge::blank::leg_of;
+use taf_judge::blank::no_view;
+use taf_judge::blank::no_wind;
+use taf_judge::judge::judge;
+use taf_judge::judge::part_of;
+use text::kinds::Judged;
+use text::kinds::Written;
+use text::write::close_report;
+use text::write::deliver;
+use text::write::open_group;
+use text::write::put_group;
+use text::write::put_if;
+use weather_write::write::put_weathers;
+use wind::write::put_visibility;
+use wind::write::put_wind;
+ghost use mathlib.Core.Path.{_≡_};
+ghost use mathlib.Core.Bool.{cond};
+ghost use mathlib.Core.List.{_∷_, [], _++_};
+ghost use Prim.Native.Nat.{min};
+ghost use lib.ListN.{length, take, drop};
+ghost use Rattle.figures.specs.Figures.{fieldText};
+ghost use Rattle.figures.specs.Put.{Put};
+ghost use Rattle.figures.specs.Quote.{bytes};
+ghost use Rattle.text.specs.declared.kinds.Judged.the-variants as judged;
+ghost use Rattle.text.specs.Groups.{written};
+ghost use Rattle.places.specs.Engine.{written as groupsAt};
+ghost use Rattle.elements.specs.Wind.{showWind, isBlankWind};
+ghost use Rattle.elements.specs.Visibility.{showVisibility, noView};
+ghost use Rattle.aerodrome.specs.Head.{fieldOf};
+ghost use Rattle.taf.specs.declared.kinds.Part.the-variants as part;
+ghost use Rattle.taf.specs.Row.{showCorrection, showHour, showPeriod, showForecast, row};
+ghost use Rattle.taf.specs.Write.{judgeOf, showChance, showFrom, showOpening, showChange, showEach, groupsOf, writtenOf, bufferOf};
+
+// ---- the head
+
+fn put_correction(out: &mut [u8], at: usize, c: Correction) -> usize
+    ensures { λ n. ⌜ Put (now (out .entry)) at (written at (showCorrection c)) n (now (out .exit)) ⌝ }
+{
+    match c {
+        Correction::None => at,
+        Correction::Amended => put_group(out, at, b"AMD"),
+        Correction::Corrected => put_group(out, at, b"COR"),
+    }
+}
+
+fn field_of(n: Number) -> Field
+    ensures { λ r. ⌜ r ≡ fieldOf n ⌝ }
+{
+    match n {
+        Number::Missing => Field::Missing,
+        Number::Is(v) => Field::Number(v),
+    }
+}
+
+fn put_two(out: &mut [u8], at: usize, n: Number) -> usize
+    ensures { λ r. ⌜ Put (now (out .entry)) at (fieldText 2 (fieldOf n)) r (now (out .exit)) ⌝ }
+{
+    put_field(out, at, 2, field_of(n))
+}
+
+// YYGG
+fn put_hour(out: &mut [u8], at: usize, t: Instant) -> usize
+    ensures { λ r. ⌜ Put (now (out .entry)) at (showHour t) r (now (out .exit)) ⌝ }
+{
+    let day = t.day;
+    let hour = t.hour;
+    let dated = put_two(out, at, day);
+    put_two(out, dated, hour)
+}
+
+// YYGG/YYGG
+fn put_period(out: &mut [u8], at: usize, p: Period) -> usize
+    ensures { λ r. ⌜ Put (now (out .entry)) at (written at (showPeriod p ∷ [])) r (now (out .exit)) ⌝ }
+{
+    let from = p.from;
+    let to = p.to;
+    let opened = open_group(out, at);
+    let begun = put_hour(out, opened, from);
+    let parted = put_byte(out, begun, b'/');
+    put_hour(out, parted, to)
+}
+
+// The period that the forecast is valid for; a NIL report has none.
+fn put_valid(out: &mut [u8], at: usize, nil: bool, p: Period) -> usize
+    ensures { λ r. ⌜ Put (now (out .entry)) at (written at (cond nil [] (showPeriod p ∷ []))) r (now (out .exit)) ⌝ }
+{
+    if nil { at } else { put_period(out, at, p) }
+}
+
+// TAF, AMD or COR, CCCC, YYGGggZ, NIL, YYGG/YYGG, CNL: the first seven places of the main part.
+fn put_main(out: &mut [u8], at: usize, r: Leg) -> usize
+    ensures { λ n. ⌜ Put (now (out .entry)) at (written at (groupsAt (take 7 (row part.Main)) r)) n (now (out .exit)) ⌝ }
+{
+    let correction = r.correction;
+    let station = r.station;
+    let time = r.time;
+    let nil = r.nil;
+    let period = r.period;
+    let cancelled = r.cancelled;
+    let named = put_group(out, at, b"TAF");
+    let marked = put_correction(out, named, correction);
+    let sited = put_station(out, marked, station);
+    let timed = put_time(out, sited, time);
+    let ended = put_if(out, timed, nil, b"NIL");
+    let valid = put_valid(out, ended, nil, period);
+    put_if(out, valid, cancelled, b"CNL")
+}
+
+// Of these a change group's part has the period alone, and none under FM.
+fn put_head(out: &mut [u8], at: usize, w: Part, r: Leg) -> usize
+    ensures { λ n. ⌜ Put (now (out .entry)) at (written at (groupsAt (take 7 (row w)) r)) n (now (out .exit)) ⌝ }
+{
+    let nil = r.nil;
+    let period = r.period;
+    match w {
+        Part::Main => put_main(out, at, r),
+        Part::Changing => put_valid(out, at, nil, period),
+        Part::From => at,
+    }
+}
+
+// ---- a part: a wind or a visibility that is left out is not written
+
+fn put_any_wind(out: &mut [u8], at: usize, w: Wind) -> usize
+    ensures { λ n. ⌜ Put (now (out .entry)) at (written at (cond (isBlankWind w) [] (showWind w ∷ []))) n (now (out .exit)) ⌝ }
+{
+    if no_wind(w) { at } else { put_wind(out, at, w) }
+}
+
+fn put_any_visibility(out: &mut [u8], at: usize, v: Visibility) -> usize
+    ensures { λ n. ⌜ Put (now (out .entry)) at (written at (cond (noView (v .is)) [] (showVisibility v ∷ []))) n (now (out .exit)) ⌝ }
+{
+    let view = v.is;
+    if no_view(view) {
+        at
+    } else {
+        put_visibility(out, at, v)
+    }
+}
+
+// NSW, and the weathers.
+fn put_forecast(out: &mut [u8], at: usize, r: Leg) -> usize
+    ensures { λ n. ⌜ Put (now (out .entry)) at (written at (showForecast r)) n (now (out .exit)) ⌝ }
+{
+    let nsw = r.nsw;
+    let weathers = r.weathers;
+    let cleared = put_if(out, at, nsw, b"NSW");
+    put_weathers(out, cleared, weathers)
+}
+
+// Wind, visibility, weather and sky: the last four places.
+fn put_body(out: &mut [u8], at: usize, w: Part, r: Leg) -> usize
+    ensures { λ n. ⌜ Put (now (out .entry)) at (written at (groupsAt (drop 7 (row w)) r)) n (now (out .exit)) ⌝ }
+{
+    let wind = r.wind;
+    let visibility = r.visibility;
+    let sky = r.sky;
+    let blown = put_any_wind(out, at, wind);
+    let seen = put_any_visibility(out, blown, visibility);
+    let weathered = put_forecast(out, seen, r);
+    put_sky(out, weathered, sky)
+}
+
+// The head and then the body.
+fn put_part(out: &mut [u8], at: usize, w: Part, r: Leg) -> usize
+    ensures { λ n. ⌜ Put (now (out .entry)) at (written at (groupsAt (row w) r)) n (now (out .exit)) ⌝ }
+{
+    let headed = put_head(out, at, w, r);
+    put_body(out, headed, w, r)
+}
+
+// ---- changes
+
+// PROB30, PROB40
+fn put_chance(out: &mut [u8], at: usize, chance: u32) -> usize
+    ensures { λ n. ⌜ Put (now (out .entry)) at (written at (showChance chance ∷ [])) n (now (out .exit)) ⌝ }
+{
+    let opened = open_group(out, at);
+    let begun = put_text(out, opened, b"PROB");
+    put_number(out, begun, 2, chance)
+}
+
+// FMYYGGgg
+fn put_from(out: &mut [u8], at: usize, t: Instant) -> usize
+    ensures { λ n. ⌜ Put (now (out .entry)) at (written at (showFrom t ∷ [])) n (now (out .exit)) ⌝ }
+{
+    let day = t.day;
+    let hour = t.hour;
+    let minute = t.minute;
+    let opened = open_group(out, at);
+    let begun = put_text(out, opened, b"FM");
+    let dated = put_two(out, begun, day);
+    let timed = put_two(out, dated, hour);
+    put_two(out, timed, minute)
+}
+
+// PROB30 TEMPO, PROB40 TEMPO
+fn put_chances(out: &mut [u8], at: usize, chance: u32) -> usize
+    ensures { λ n. ⌜ Put (now (out .entry)) at (written at (showChance chance ∷ bytes "TEMPO" ∷ [])) n (now (out .exit)) ⌝ }
+{
+    let likely = put_chance(out, at, chance);
+    put_group(out, likely, b"TEMPO")
+}
+
+fn put_opening(out: &mut [u8], at: usize, o: Opening, p: Period) -> usize
+    ensures { λ n. ⌜ Put (now (out .entry)) at (written at (showOpening o p)) n (now (out .exit)) ⌝ }
+{
+    let from = p.from;
+    match o {
+        Opening::None => at,
+        Opening::Becoming => put_group(out, at, b"BECMG"),
+        Opening::Temporary => put_group(out, at, b"TEMPO"),
+        Opening::Probable(chance) => put_chance(out, at, chance),
+        Opening::ProbablyTemporary(chance) => put_chances(out, at, chance),
+        Opening::From => put_from(out, at, from),
+    }
+}
+
+fn put_change(out: &mut [u8], at: usize, c: Change) -> usize
+    ensures { λ n. ⌜ Put (now (out .entry)) at (written at (showChange c)) n (now (out .exit)) ⌝ }
+{
+    let opening = c.opening;
+    let period = c.period;
+    let opened = put_opening(out, at, opening, period);
+    put_part(out, opened, part_of(opening), leg_of(c))
+}
+
+fn at_most_sixteen(count: usize) -> usize
+    ensures { λ r. ⌜ r ≡ min count 16 ⌝ }
+{
+    if count <= 16 { count } else { 16 }
+}
+
+// The first `count` changes; all where the count is too large.
+fn put_each(out: &mut [u8], at: usize, items: [Change; 16], count: usize) -> usize
+    ensures { λ r. ⌜ Put (now (out .entry)) at (written at (showEach (take count items))) r (now (out .exit)) ⌝ }
+{
+    let end = at_most_sixteen(count);
+    let mut next = at;
+    let mut i = 0;
+    while i < end {
+        next = put_change(out, next, items[i]);
+        i += 1;
+    }
+    next
+}
+
+// ---- the whole
+
+// The whole report, its "=" too.
+fn put_report(out: &mut [u8], t: Taf) -> usize
+    ensures { λ n. ⌜ Put (now (out .entry)) 0 (written 0 (groupsOf t) ++ (61 ∷ [])) n (now (out .exit)) ⌝ }
+{
+    let leg = t.leg;
+    let changes = t.changes;
+    let items = changes.items;
+    let count = changes.count;
+    let main = put_part(out, 0, Part::Main, leg);
+    let told = put_each(out, main, items, count);
+    close_report(out, told)
+}
+
+// A record that is judged fine: its text, at most 2,048 bytes, is made first, so that its length is known before the lent buffer is touched.
+fn write_fine(t: Taf, out: &mut [u8]) -> Written
+    requires { ⌜ judgeOf t ≡ judged.Fine ⌝ }
+    ensures { λ w. ⌜ (w ≡ writtenOf t (length (now (out .entry)))) × (now (out .exit) ≡ bufferOf t (now (out .entry))) ⌝ }
+{
+    let mut text = [0u8; 2048];
+    let end = put_report(&mut text, t);
+    deliver(&text[..end], out)
+}
+
+pub fn write(t: Taf, out: &mut [u8]) -> Written
+    ensures { λ w. ⌜ (w ≡ writtenOf t (length (now (out .entry)))) × (now (out .exit) ≡ bufferOf t (now (out .entry))) ⌝ }
+{
+    let verdict = judge(t);
+    match verdict {
+        Judged::Fine => write_fine(t, out),
+        Judged::Refused(refusal) => Written::Refused(refusal),
+    }
+}

@@ -1,0 +1,2174 @@
+//! An independent reader and writer of weather report texts.
+//!
+//! Built from the papers alone. "The paper" is document 01, "ruling n" is point n of the
+//! rulings on it. The order of the file is the order of a reading: the record, the cutting of
+//! the text, the walk over the places, the groups one by one, the three families of reports,
+//! then the writer and the program.
+
+use std::io::{Read, Write};
+
+/// A refusal: its number in the paper's table and its place in the text.
+pub type Refusal = (u8, usize);
+
+/// The longest text: "A text has 1 to 2,048 bytes."
+pub const LONGEST_TEXT: usize = 2048;
+
+// ---------------------------------------------------------------------------------------------
+// The record
+// ---------------------------------------------------------------------------------------------
+
+/// A report that was read.
+#[derive(Debug, Clone, PartialEq)]
+pub struct Report {
+    pub content: Content,
+    /// Where the unread rest begins: at the stop word, or the text's length where there is none.
+    pub rest: usize,
+}
+
+#[derive(Debug, Clone, PartialEq)]
+pub enum Content {
+    Synoptic(Synoptic),
+    Observation(Observation),
+    Forecast(Forecast),
+}
+
+/// SYNOP or SHIP.
+#[derive(Debug, Clone, PartialEq)]
+pub struct Synoptic {
+    pub origin: Origin,
+    pub day: u32,
+    pub hour: u32,
+    /// iw: 0, 1 metres a second, 3, 4 knots.
+    pub wind_indicator: u32,
+    /// None in a land report that ended with NIL.
+    pub section: Option<Section>,
+}
+
+#[derive(Debug, Clone, PartialEq)]
+pub enum Origin {
+    Land {
+        station: u32,
+    },
+    /// Latitude and longitude in tenths of a degree, north and east positive.
+    Sea {
+        call_sign: String,
+        latitude: i32,
+        longitude: i32,
+    },
+}
+
+/// Section 1 of SYNOP and SHIP.
+#[derive(Debug, Clone, Default, PartialEq)]
+pub struct Section {
+    /// iR, 0 to 4.
+    pub rain_indicator: u32,
+    /// ix, 1 to 7.
+    pub weather_indicator: u32,
+    /// h in metres.
+    pub cloud_base: Option<u32>,
+    /// VV: its scale of table 4377 and metres.
+    pub visibility: Option<(Scale, u32)>,
+    /// N.
+    pub cloud_cover: Option<u32>,
+    pub wind: Option<(Direction, u32)>,
+    /// Tenths of a degree.
+    pub temperature: Option<i32>,
+    pub humidity: Option<Humidity>,
+    /// Tenths of a hectopascal.
+    pub station_pressure: Option<u32>,
+    pub level: Option<Level>,
+    /// The characteristic a, and the signed change in tenths of a hectopascal.
+    pub tendency: Option<(u32, i32)>,
+    pub rain: Option<Rain>,
+    /// t of the rain.
+    pub rain_period: Option<u32>,
+    /// ww.
+    pub present_weather: Option<u32>,
+    /// W and W.
+    pub past_weather: [Option<u32>; 2],
+    /// N, C, C and C of the 8 group.
+    pub clouds: [Option<u32>; 4],
+    /// Hour and minute of the 9 group.
+    pub observed: Option<(u32, u32)>,
+}
+
+/// The two scales of table 4377.
+#[derive(Debug, Clone, Copy, PartialEq)]
+pub enum Scale {
+    Land,
+    Sea,
+}
+
+/// "A record's direction is calm, variable, missing or 0-359"; missing is a None around it.
+#[derive(Debug, Clone, Copy, PartialEq)]
+pub enum Direction {
+    Calm,
+    Variable,
+    Degrees(u32),
+}
+
+/// The 2 group: a dew point in tenths of a degree, or "29UUU instead".
+#[derive(Debug, Clone, Copy, PartialEq)]
+pub enum Humidity {
+    DewPoint(i32),
+    Relative(u32),
+}
+
+/// The 4 group: sea level pressure in tenths of a hectopascal, or a surface and its hhh.
+#[derive(Debug, Clone, Copy, PartialEq)]
+pub enum Level {
+    SeaPressure(u32),
+    Height { surface: u32, height: u32 },
+}
+
+/// "rain is trace or 0.1 to 9,999.9 mm", in tenths of a millimetre.
+#[derive(Debug, Clone, Copy, PartialEq)]
+pub enum Rain {
+    Trace,
+    Tenths(u32),
+}
+
+/// METAR or SPECI.
+#[derive(Debug, Clone, Default, PartialEq)]
+pub struct Observation {
+    pub special: bool,
+    pub corrected: bool,
+    /// CCCC.
+    pub location: String,
+    pub time: Time,
+    pub nil: bool,
+    pub automatic: bool,
+    pub elements: Elements,
+    /// dddVddd.
+    pub varying: Option<(u32, u32)>,
+    pub runways: Vec<Runway>,
+    /// Tenths of a degree.
+    pub temperature: Option<i32>,
+    pub dew_point: Option<i32>,
+    /// Tenths of a hectopascal.
+    pub pressure: Option<u32>,
+    pub recent: Vec<Weather>,
+}
+
+/// TAF.
+#[derive(Debug, Clone, Default, PartialEq)]
+pub struct Forecast {
+    /// AMD or COR.
+    pub correction: Option<&'static str>,
+    /// CCCC.
+    pub location: String,
+    pub time: Time,
+    pub nil: bool,
+    pub period: Period,
+    pub cancelled: bool,
+    pub elements: Elements,
+    pub changes: Vec<Change>,
+}
+
+/// Day, hour and minute.
+#[derive(Debug, Clone, Copy, Default, PartialEq)]
+pub struct Time {
+    pub day: u32,
+    pub hour: u32,
+    pub minute: u32,
+}
+
+/// YYGG/YYGG.
+#[derive(Debug, Clone, Copy, Default, PartialEq)]
+pub struct Period {
+    pub from_day: u32,
+    pub from_hour: u32,
+    pub to_day: u32,
+    pub to_hour: u32,
+}
+
+/// What an observation and a body of a forecast have in common.
+#[derive(Debug, Clone, Default, PartialEq)]
+pub struct Elements {
+    pub wind: Option<Wind>,
+    pub visibility: Option<Visibility>,
+    pub weather: Vec<Weather>,
+    pub clouds: Vec<Cloud>,
+}
+
+/// A wind; flow is None in the form of slashes and a unit.
+#[derive(Debug, Clone, Copy, PartialEq)]
+pub struct Wind {
+    pub flow: Option<(Direction, u32)>,
+    pub gust: Option<u32>,
+    /// KT, MPS or KMH.
+    pub unit: &'static str,
+}
+
+#[derive(Debug, Clone, Copy, PartialEq)]
+pub enum Visibility {
+    Missing,
+    Metres(u32),
+    Cavok,
+}
+
+#[derive(Debug, Clone, PartialEq)]
+pub struct Runway {
+    pub number: u32,
+    /// L, C or R.
+    pub side: Option<u8>,
+    /// Metres; None where it was slashes.
+    pub range: Option<u32>,
+    /// U, D or N.
+    pub tendency: Option<u8>,
+}
+
+/// A weather group: //, NSW or codes of table 4678.
+#[derive(Debug, Clone, PartialEq)]
+pub enum Weather {
+    Missing,
+    NoneSignificant,
+    Codes {
+        /// + or -.
+        sign: Option<u8>,
+        vicinity: bool,
+        descriptor: Option<&'static str>,
+        phenomena: Vec<&'static str>,
+    },
+}
+
+/// A cloud group; heights in metres.
+#[derive(Debug, Clone, PartialEq)]
+pub enum Cloud {
+    /// SKC, NSC or NCD.
+    Clear(&'static str),
+    Vertical(Option<u32>),
+    Layer {
+        amount: &'static str,
+        height: Option<u32>,
+        /// CB, TCU or nothing.
+        close: &'static str,
+    },
+}
+
+/// A change group and the body it opens.
+#[derive(Debug, Clone, PartialEq)]
+pub struct Change {
+    pub opening: Opening,
+    pub elements: Elements,
+}
+
+#[derive(Debug, Clone, Copy, PartialEq)]
+pub enum Opening {
+    Becoming(Period),
+    Temporary(Period),
+    Probable {
+        percent: u32,
+        temporary: bool,
+        period: Period,
+    },
+    From(Time),
+}
+
+// ---------------------------------------------------------------------------------------------
+// How a text is cut: refusals 1, 2 and 3
+// ---------------------------------------------------------------------------------------------
+
+/// A group and its place.
+struct Group<'a> {
+    bytes: &'a [u8],
+    at: usize,
+}
+
+/// A text cut into the groups before the first "=".
+struct Cut<'a> {
+    groups: Vec<Group<'a>>,
+    /// The first byte after "=" that is no parting byte (ruling 3).
+    after_end: Option<usize>,
+    /// The text's length, "the place of an absence at the end" (ruling 7).
+    length: usize,
+}
+
+impl Cut<'_> {
+    /// The reading's end without a stop word: what follows "=" is 4. The answer is where the
+    /// unread rest begins, the text's length.
+    fn end(&self) -> Result<usize, Refusal> {
+        match self.after_end {
+            Some(at) => Err((4, at)),
+            None => Ok(self.length),
+        }
+    }
+
+    /// The refusal of a reading that ends too early: what follows "=" goes before the absence
+    /// (ruling 2).
+    fn absence(&self) -> Refusal {
+        match self.end() {
+            Err(refusal) => refusal,
+            Ok(length) => (8, length),
+        }
+    }
+}
+
+/// "Groups are parted by one or more of space, CR, LF."
+fn is_parting(byte: u8) -> bool {
+    matches!(byte, b' ' | b'\r' | b'\n')
+}
+
+/// Refusal 2: "a byte that is not A-Z, 0-9, / + - = space CR LF".
+fn is_allowed(byte: u8) -> bool {
+    byte.is_ascii_uppercase()
+        || byte.is_ascii_digit()
+        || matches!(byte, b'/' | b'+' | b'-' | b'=')
+        || is_parting(byte)
+}
+
+/// Refusals 1 and 2, "judged over the whole text in that order".
+fn judge_bytes(text: &[u8]) -> Result<(), Refusal> {
+    if text.is_empty() || text.len() > LONGEST_TEXT {
+        return Err((1, 0));
+    }
+    match text.iter().position(|&byte| !is_allowed(byte)) {
+        Some(at) => Err((2, at)),
+        None => Ok(()),
+    }
+}
+
+fn cut(text: &[u8]) -> Cut<'_> {
+    let end = text.iter().position(|&byte| byte == b'=');
+    let report = &text[..end.unwrap_or(text.len())];
+    let mut groups = Vec::new();
+    let mut at = 0;
+    for bytes in report.split(|&byte| is_parting(byte)) {
+        if !bytes.is_empty() {
+            groups.push(Group { bytes, at });
+        }
+        at += bytes.len() + 1;
+    }
+    let after_end = end.and_then(|end| {
+        let found = text[end + 1..].iter().position(|&byte| !is_parting(byte));
+        found.map(|distance| end + 1 + distance)
+    });
+    Cut {
+        groups,
+        after_end,
+        length: text.len(),
+    }
+}
+
+/// Reads a text into its record, or refuses it.
+pub fn read(text: &[u8]) -> Result<Report, Refusal> {
+    judge_bytes(text)?;
+    let cut = cut(text);
+    // Refusal 3: "its place, 0 if no group stands before an "=" or the end".
+    let name = cut.groups.first().ok_or((3, 0))?;
+    match name.bytes {
+        b"AAXX" => read_land(&cut),
+        b"BBXX" => read_ship(&cut),
+        b"METAR" => read_observation(&cut, false),
+        b"SPECI" => read_observation(&cut, true),
+        b"TAF" => read_forecast(&cut),
+        _ => Err((3, name.at)),
+    }
+}
+
+// ---------------------------------------------------------------------------------------------
+// Shapes: "the fixed characters, with any figures or slashes where figures go"
+// ---------------------------------------------------------------------------------------------
+
+fn is_figure(byte: u8) -> bool {
+    byte.is_ascii_digit() || byte == b'/'
+}
+
+fn all_figures(bytes: &[u8]) -> bool {
+    bytes.iter().all(|&byte| is_figure(byte))
+}
+
+fn all_slashes(bytes: &[u8]) -> bool {
+    bytes.iter().all(|&byte| byte == b'/')
+}
+
+/// Whether a group fits a pattern: # is a figure or slash, @ a letter, the rest is fixed.
+fn fits(pattern: &str, group: &[u8]) -> bool {
+    pattern.len() == group.len()
+        && pattern
+            .bytes()
+            .zip(group)
+            .all(|(wanted, &byte)| match wanted {
+                b'#' => is_figure(byte),
+                b'@' => byte.is_ascii_uppercase(),
+                fixed => fixed == byte,
+            })
+}
+
+fn is_five_figures(group: &[u8]) -> bool {
+    fits("#####", group)
+}
+
+/// The call sign: letters and figures, no slash (ruling 14).
+fn is_call_sign(group: &[u8]) -> bool {
+    (3..=9).contains(&group.len())
+        && group
+            .iter()
+            .all(|byte| byte.is_ascii_uppercase() || byte.is_ascii_digit())
+}
+
+/// The 99 is fixed (ruling 13).
+fn is_latitude(group: &[u8]) -> bool {
+    fits("99###", group)
+}
+
+fn take_letter<'a>(bytes: &'a [u8], letters: &[u8]) -> (Option<u8>, &'a [u8]) {
+    match bytes.split_first() {
+        Some((first, rest)) if letters.contains(first) => (Some(*first), rest),
+        _ => (None, bytes),
+    }
+}
+
+const UNITS: [&str; 3] = ["KT", "MPS", "KMH"];
+
+struct WindParts<'a> {
+    direction: &'a [u8],
+    speed: &'a [u8],
+    gust: Option<&'a [u8]>,
+    unit: &'static str,
+}
+
+/// Two or three figures of speed are the shape, of the gust too (ruling 32).
+fn is_speed(bytes: &[u8]) -> bool {
+    (bytes.len() == 2 || bytes.len() == 3) && all_figures(bytes)
+}
+
+fn split_wind(group: &[u8]) -> Option<WindParts<'_>> {
+    let mut units = UNITS.iter().copied();
+    let unit = units.find(|unit| group.ends_with(unit.as_bytes()))?;
+    let front = &group[..group.len() - unit.len()];
+    let (mean, gust) = match front.iter().position(|&byte| byte == b'G') {
+        Some(at) => (&front[..at], Some(&front[at + 1..])),
+        None => (front, None),
+    };
+    let (direction, speed) = mean.split_at_checked(3)?;
+    let right = (direction == b"VRB" || all_figures(direction))
+        && is_speed(speed)
+        && gust.is_none_or(is_speed);
+    right.then_some(WindParts {
+        direction,
+        speed,
+        gust,
+        unit,
+    })
+}
+
+struct RunwayParts<'a> {
+    number: &'a [u8],
+    side: Option<u8>,
+    bound: Option<u8>,
+    range: &'a [u8],
+    tendency: Option<u8>,
+}
+
+/// "R, runway 01-36 with or without L, C or R, a stroke, the range or ////, and U, D, N or
+/// nothing"; M and P are fixed characters that figures follow (ruling 35).
+fn split_runway(group: &[u8]) -> Option<RunwayParts<'_>> {
+    let rest = group.strip_prefix(b"R")?;
+    let (number, rest) = rest.split_at_checked(2)?;
+    let (side, rest) = take_letter(rest, b"LCR");
+    let rest = rest.strip_prefix(b"/")?;
+    let (bound, rest) = take_letter(rest, b"MP");
+    let (range, rest) = rest.split_at_checked(4)?;
+    let (tendency, rest) = take_letter(rest, b"UDN");
+    let right = rest.is_empty() && all_figures(number) && all_figures(range);
+    right.then_some(RunwayParts {
+        number,
+        side,
+        bound,
+        range,
+        tendency,
+    })
+}
+
+/// One temperature: whether M stands before it, and its two figures.
+type TemperatureParts<'a> = (bool, &'a [u8]);
+
+fn split_temperatures(group: &[u8]) -> Option<(TemperatureParts<'_>, TemperatureParts<'_>)> {
+    let (first_minus, rest) = take_letter(group, b"M");
+    let (first, rest) = rest.split_at_checked(2)?;
+    let rest = rest.strip_prefix(b"/")?;
+    let (second_minus, second) = take_letter(rest, b"M");
+    let right = second.len() == 2 && all_figures(first) && all_figures(second);
+    right.then_some((
+        (first_minus.is_some(), first),
+        (second_minus.is_some(), second),
+    ))
+}
+
+/// Table 4678: VC, the descriptors, the precipitations, and the other phenomena.
+const VICINITY: [&str; 1] = ["VC"];
+const DESCRIPTORS: [&str; 8] = ["MI", "BC", "PR", "DR", "BL", "SH", "TS", "FZ"];
+const PRECIPITATIONS: [&str; 9] = ["DZ", "RA", "SN", "SG", "IC", "PL", "GR", "GS", "UP"];
+const OTHER_PHENOMENA: [&str; 12] = [
+    "BR", "FG", "FU", "VA", "DU", "SA", "HZ", "PO", "SQ", "FC", "SS", "DS",
+];
+
+fn table_code(bytes: &[u8]) -> Option<&'static str> {
+    let columns: [&[&'static str]; 4] =
+        [&VICINITY, &DESCRIPTORS, &PRECIPITATIONS, &OTHER_PHENOMENA];
+    columns.iter().find_map(|column| word_of(column, bytes))
+}
+
+/// "an optional sign, then any number of two-letter codes of table 4678, VC being one of them,
+/// in any order" (ruling 24); a sign elsewhere or alone is no shape (ruling 25).
+fn split_weather(group: &[u8]) -> Option<(Option<u8>, Vec<&'static str>)> {
+    let (sign, rest) = take_letter(group, b"+-");
+    if rest.is_empty() {
+        return None;
+    }
+    let codes: Option<Vec<_>> = rest.chunks(2).map(table_code).collect();
+    codes.map(|codes| (sign, codes))
+}
+
+/// RE and the shape of weather; RE// is no shape (ruling 29).
+fn split_recent(group: &[u8]) -> Option<(Option<u8>, Vec<&'static str>)> {
+    group.strip_prefix(b"RE").and_then(split_weather)
+}
+
+const CLEAR_WORDS: [&str; 3] = ["SKC", "NSC", "NCD"];
+const AMOUNTS: [&str; 4] = ["FEW", "SCT", "BKN", "OVC"];
+const CLOSES: [&str; 3] = ["", "CB", "TCU"];
+
+fn word_of(words: &[&'static str], bytes: &[u8]) -> Option<&'static str> {
+    words.iter().copied().find(|word| word.as_bytes() == bytes)
+}
+
+enum CloudParts<'a> {
+    Clear(&'static str),
+    Vertical(&'a [u8]),
+    Layer(&'static str, &'a [u8], &'static str),
+}
+
+/// "A layer is FEW, SCT, BKN or OVC with hhh and may close with CB or TCU", also after slashes
+/// (ruling 37); or SKC, NSC, NCD or VVhhh.
+fn split_cloud(group: &[u8]) -> Option<CloudParts<'_>> {
+    if let Some(word) = word_of(&CLEAR_WORDS, group) {
+        return Some(CloudParts::Clear(word));
+    }
+    if fits("VV###", group) {
+        return Some(CloudParts::Vertical(&group[2..]));
+    }
+    let (amount, rest) = group.split_at_checked(3)?;
+    let (height, close) = rest.split_at_checked(3)?;
+    let (amount, close) = (word_of(&AMOUNTS, amount)?, word_of(&CLOSES, close)?);
+    all_figures(height).then_some(CloudParts::Layer(amount, height, close))
+}
+
+/// PROB is fixed and figures follow (ruling 42).
+fn is_change(group: &[u8]) -> bool {
+    group == b"BECMG" || group == b"TEMPO" || fits("PROB##", group) || fits("FM######", group)
+}
+
+// ---------------------------------------------------------------------------------------------
+// The places: refusals 4, 6, 8 and 9
+// ---------------------------------------------------------------------------------------------
+
+/// What may stand at a place.
+#[derive(Clone, Copy, PartialEq)]
+enum Slot {
+    HighSpeed,
+    /// A group of section 1, by its first figure.
+    Numbered(u8),
+    ObservationName,
+    ForecastName,
+    Corrected,
+    AmendedOrCorrected,
+    Location,
+    IssueTime,
+    Nil,
+    Automatic,
+    Wind,
+    Varying,
+    Visibility,
+    RunwayRange,
+    Weather,
+    ForecastWeather,
+    Cloud,
+    Temperatures,
+    Pressure,
+    Recent,
+    Period,
+    Cancelled,
+    Change,
+    Temporary,
+}
+
+fn has_shape(slot: Slot, group: &[u8]) -> bool {
+    match slot {
+        Slot::HighSpeed => fits("00###", group),
+        Slot::Numbered(figure) => is_five_figures(group) && group[0] == figure,
+        // The name a second time has a shape, SPECI in a METAR too (ruling 9).
+        Slot::ObservationName => group == b"METAR" || group == b"SPECI",
+        Slot::ForecastName => group == b"TAF",
+        Slot::Corrected => group == b"COR",
+        Slot::AmendedOrCorrected => group == b"AMD" || group == b"COR",
+        // Any four letters (ruling 11).
+        Slot::Location => fits("@@@@", group),
+        Slot::IssueTime => fits("######Z", group),
+        Slot::Nil => group == b"NIL",
+        Slot::Automatic => group == b"AUTO",
+        Slot::Wind => split_wind(group).is_some(),
+        Slot::Varying => fits("###V###", group),
+        Slot::Visibility => group == b"CAVOK" || fits("####", group),
+        Slot::RunwayRange => split_runway(group).is_some(),
+        // NSW has no shape in a METAR (ruling 30).
+        Slot::Weather => group == b"//" || split_weather(group).is_some(),
+        Slot::ForecastWeather => group == b"NSW" || has_shape(Slot::Weather, group),
+        Slot::Cloud => split_cloud(group).is_some(),
+        Slot::Temperatures => split_temperatures(group).is_some(),
+        Slot::Pressure => fits("Q####", group),
+        Slot::Recent => split_recent(group).is_some(),
+        Slot::Period => fits("####/####", group),
+        Slot::Cancelled => group == b"CNL",
+        Slot::Change => is_change(group),
+        Slot::Temporary => group == b"TEMPO",
+    }
+}
+
+struct Place {
+    slot: Slot,
+    required: bool,
+    limit: usize,
+    taken: usize,
+}
+
+fn one(slot: Slot, required: bool) -> Place {
+    Place {
+        slot,
+        required,
+        limit: 1,
+        taken: 0,
+    }
+}
+
+fn up_to(limit: usize, slot: Slot) -> Place {
+    Place {
+        slot,
+        required: false,
+        limit,
+        taken: 0,
+    }
+}
+
+/// The walk over the places of a report: "taken at the first place still open whose shape it
+/// has".
+struct Walk {
+    places: Vec<Place>,
+    /// The first place still open; the places before it are closed.
+    open: usize,
+    /// NIL or CNL has stood.
+    ended: bool,
+    /// A change body that has no element yet: "A change body needs one element".
+    element_due: bool,
+}
+
+impl Walk {
+    fn over(places: Vec<Place>, open: usize) -> Walk {
+        Walk {
+            places,
+            open,
+            ended: false,
+            element_due: false,
+        }
+    }
+
+    /// Takes a group at its place, or says 4, 6, 8 or 9, in the table's order.
+    fn take(&mut self, group: &[u8]) -> Result<Slot, u8> {
+        if self.ended {
+            return Err(4);
+        }
+        let fitting = |place: &Place| has_shape(place.slot, group);
+        let Some(distance) = self.places[self.open..].iter().position(fitting) else {
+            let known = self.places.iter().any(fitting);
+            return Err(if known { 6 } else { 4 });
+        };
+        let index = self.open + distance;
+        let slot = self.places[index].slot;
+        // An empty change body is refused at the next change word (ruling 45).
+        if self.required_before(index) || (slot == Slot::Change && self.element_due) {
+            return Err(8);
+        }
+        let place = &mut self.places[index];
+        if place.taken == place.limit {
+            return Err(9);
+        }
+        place.taken += 1;
+        // A place that repeats stays open, also when full (ruling 10).
+        self.open = if place.limit > 1 { index } else { index + 1 };
+        self.follow(slot, index, group);
+        Ok(slot)
+    }
+
+    /// What a taken group does to the places after it.
+    fn follow(&mut self, slot: Slot, index: usize, group: &[u8]) {
+        match slot {
+            Slot::Nil | Slot::Cancelled => self.ended = true,
+            Slot::Wind | Slot::Visibility | Slot::ForecastWeather | Slot::Cloud => {
+                self.element_due = false;
+            }
+            Slot::Change => self.open_change(index, group),
+            _ => {}
+        }
+    }
+
+    /// "A change group opens a body and a body runs to the next change group." The 16 are of
+    /// the report, each body has its own 3 and 4 (ruling 48).
+    fn open_change(&mut self, index: usize, word: &[u8]) {
+        let from = word.starts_with(b"FM");
+        let changes = self.places[index].taken;
+        if word.starts_with(b"PROB") {
+            self.places.push(one(Slot::Temporary, false));
+        }
+        if !from {
+            self.places.push(one(Slot::Period, true));
+        }
+        // "under FM wind and visibility"
+        self.places.push(one(Slot::Wind, from));
+        self.places.push(one(Slot::Visibility, from));
+        self.places.push(up_to(3, Slot::ForecastWeather));
+        self.places.push(up_to(4, Slot::Cloud));
+        self.places.push(Place {
+            taken: changes,
+            ..up_to(16, Slot::Change)
+        });
+        self.open = index + 1;
+        self.element_due = true;
+    }
+
+    fn required_before(&self, index: usize) -> bool {
+        let passed = &self.places[self.open..index];
+        passed.iter().any(|place| place.required)
+    }
+
+    /// Whether the reading may not end here.
+    fn absent(&self) -> bool {
+        !self.ended && (self.required_before(self.places.len()) || self.element_due)
+    }
+}
+
+/// "METAR or SPECI, [COR], CCCC, YYGGggZ, then NIL (end) or [AUTO], wind, [dddVddd], visibility,
+/// up to 4 runway ranges, 3 weather groups, 4 cloud groups, T/Td, Q, up to 3 RE groups."
+fn observation_places() -> Vec<Place> {
+    vec![
+        one(Slot::ObservationName, true),
+        one(Slot::Corrected, false),
+        one(Slot::Location, true),
+        one(Slot::IssueTime, true),
+        one(Slot::Nil, false),
+        one(Slot::Automatic, false),
+        one(Slot::Wind, true),
+        one(Slot::Varying, false),
+        one(Slot::Visibility, true),
+        up_to(4, Slot::RunwayRange),
+        up_to(3, Slot::Weather),
+        up_to(4, Slot::Cloud),
+        one(Slot::Temperatures, true),
+        one(Slot::Pressure, true),
+        up_to(3, Slot::Recent),
+    ]
+}
+
+/// "TAF, [AMD or COR], CCCC, YYGGggZ, NIL (end) or YYGG/YYGG, CNL (end) or wind, visibility or
+/// CAVOK, up to 3 weather, 4 cloud and 16 change groups".
+fn forecast_places() -> Vec<Place> {
+    vec![
+        one(Slot::ForecastName, true),
+        one(Slot::AmendedOrCorrected, false),
+        one(Slot::Location, true),
+        one(Slot::IssueTime, true),
+        one(Slot::Nil, false),
+        one(Slot::Period, true),
+        one(Slot::Cancelled, false),
+        one(Slot::Wind, true),
+        one(Slot::Visibility, true),
+        up_to(3, Slot::ForecastWeather),
+        up_to(4, Slot::Cloud),
+        up_to(16, Slot::Change),
+    ]
+}
+
+/// Section 1 after Nddff: 00fff at once, then the groups "by rising first figure". The groups
+/// through Nddff lend no shape (ruling 15).
+fn section_places(section: &Section) -> Vec<Place> {
+    // "ff 99 without it is 8", at the group that comes instead (ruling 17).
+    let high_speed = matches!(section.wind, Some((_, 99)));
+    let mut places = vec![one(Slot::HighSpeed, high_speed)];
+    for figure in b'1'..=b'9' {
+        let required = match figure {
+            b'6' => wants_rain(section),
+            b'7' => wants_weather(section),
+            _ => false,
+        };
+        places.push(one(Slot::Numbered(figure), required));
+    }
+    places
+}
+
+/// "iR 0 or 1 requires the 6 group".
+fn wants_rain(section: &Section) -> bool {
+    section.rain_indicator <= 1
+}
+
+/// "ix 1, 4 or 7 the 7 group".
+fn wants_weather(section: &Section) -> bool {
+    matches!(section.weather_indicator, 1 | 4 | 7)
+}
+
+/// Walks the groups from an index on, "left to right and the first at fault answers". The
+/// answer is where the unread rest begins.
+fn walk_groups(
+    cut: &Cut,
+    from: usize,
+    walk: &mut Walk,
+    stops: fn(&[u8]) -> bool,
+    take: &mut dyn FnMut(Slot, &[u8]) -> Result<(), u8>,
+) -> Result<usize, Refusal> {
+    for group in cut.groups.get(from..).unwrap_or_default() {
+        // After NIL or CNL a stop word is 4 too.
+        if !walk.ended && stops(group.bytes) {
+            let absent = walk.absent();
+            return if absent {
+                Err((8, group.at))
+            } else {
+                Ok(group.at)
+            };
+        }
+        let placed = walk.take(group.bytes);
+        let read = placed.and_then(|slot| take(slot, group.bytes));
+        read.map_err(|number| (number, group.at))?;
+    }
+    if walk.absent() {
+        return Err(cut.absence());
+    }
+    cut.end()
+}
+
+/// "222 with two more characters, 333, 444 or 555" (ruling 6).
+fn stops_synoptic(group: &[u8]) -> bool {
+    matches!(group, b"333" | b"444" | b"555") || (group.len() == 5 && group.starts_with(b"222"))
+}
+
+/// "NOSIG, BECMG, TEMPO, WS or RMK", from the second group on (ruling 5).
+fn stops_observation(group: &[u8]) -> bool {
+    matches!(group, b"NOSIG" | b"BECMG" | b"TEMPO" | b"WS" | b"RMK")
+}
+
+/// A TAF has no stop words.
+fn never_stops(_group: &[u8]) -> bool {
+    false
+}
+
+// ---------------------------------------------------------------------------------------------
+// Figures: refusal 5
+// ---------------------------------------------------------------------------------------------
+
+/// A part that may be missing: "Missing is slashes, as many as letters"; a mixture is 5.
+fn optional(bytes: &[u8]) -> Result<Option<u32>, u8> {
+    if all_slashes(bytes) {
+        return Ok(None);
+    }
+    required(bytes).map(Some)
+}
+
+/// A part that is never missing.
+fn required(bytes: &[u8]) -> Result<u32, u8> {
+    let mut value = 0;
+    for byte in bytes {
+        if !byte.is_ascii_digit() {
+            return Err(5);
+        }
+        value = value * 10 + u32::from(byte - b'0');
+    }
+    Ok(value)
+}
+
+fn within(bytes: &[u8], least: u32, most: u32) -> Result<u32, u8> {
+    let value = required(bytes)?;
+    if (least..=most).contains(&value) {
+        Ok(value)
+    } else {
+        Err(5)
+    }
+}
+
+// ---------------------------------------------------------------------------------------------
+// The scales: each a list of codes and the feet of their classes, rising
+// ---------------------------------------------------------------------------------------------
+
+type Classes = Vec<(u32, u32)>;
+
+/// 4377 land: 51 to 55 none; 89 is read 70,001.
+fn land_classes() -> Classes {
+    let mut classes: Classes = (0..=50).map(|code| (code, code * 100)).collect();
+    classes.extend((56..=80).map(|code| (code, (code - 50) * 1000)));
+    classes.extend((81..=88).map(|code| (code, 30_000 + (code - 80) * 5000)));
+    classes.push((89, 70_001));
+    classes
+}
+
+/// 4377 sea.
+fn sea_classes() -> Classes {
+    let feet = [0, 50, 200, 500, 1000, 2000, 4000, 10_000, 20_000, 50_000];
+    (90..).zip(feet).collect()
+}
+
+fn classes_of(scale: Scale) -> Classes {
+    match scale {
+        Scale::Land => land_classes(),
+        Scale::Sea => sea_classes(),
+    }
+}
+
+/// 1600.
+fn base_classes() -> Classes {
+    let feet = [0, 50, 100, 200, 300, 600, 1000, 1500, 2000, 2500];
+    (0..).zip(feet).collect()
+}
+
+/// VVVV.
+fn visibility_classes() -> Classes {
+    let mut classes: Classes = (0..=800).step_by(50).map(|foot| (foot, foot)).collect();
+    classes.extend((900..=5000).step_by(100).map(|foot| (foot, foot)));
+    classes.extend((6000..=9000).step_by(1000).map(|foot| (foot, foot)));
+    classes.push((9999, 10_000));
+    classes
+}
+
+/// RVR without M0050 and P2000.
+fn runway_classes() -> Classes {
+    let mut classes: Classes = (50..=400).step_by(25).map(|foot| (foot, foot)).collect();
+    classes.extend((450..=800).step_by(50).map(|foot| (foot, foot)));
+    classes.extend((900..=2000).step_by(100).map(|foot| (foot, foot)));
+    classes
+}
+
+/// 1690: 110 is 3,300 m, not eleven steps of 30 m.
+fn height_classes() -> Classes {
+    let mut classes: Classes = (0..=100).map(|code| (code, code * 30)).collect();
+    classes.extend((110..=990).step_by(10).map(|code| (code, code * 30)));
+    classes.push((999, 30_000));
+    classes
+}
+
+/// "read as the foot"; a code that is not in the table is 5.
+fn foot_of(classes: &Classes, code: u32) -> Result<u32, u8> {
+    let found = classes.iter().find(|class| class.0 == code);
+    found.map(|class| class.1).ok_or(5)
+}
+
+/// "A value's class has the greatest foot not above it".
+fn code_of(classes: &Classes, value: u32) -> u32 {
+    let feet = classes.iter().take_while(|class| class.1 <= value);
+    feet.last().map_or(classes[0].0, |class| class.0)
+}
+
+// ---------------------------------------------------------------------------------------------
+// SYNOP and SHIP
+// ---------------------------------------------------------------------------------------------
+
+/// Reads the group at an index "by position alone (another shape: 4)".
+fn at_position<T>(
+    cut: &Cut,
+    index: usize,
+    shape: fn(&[u8]) -> bool,
+    reading: fn(&[u8]) -> Result<T, u8>,
+) -> Result<T, Refusal> {
+    let group = cut.groups.get(index).ok_or(cut.absence())?;
+    if !shape(group.bytes) {
+        return Err((4, group.at));
+    }
+    reading(group.bytes).map_err(|number| (number, group.at))
+}
+
+/// AAXX YYGGiw IIiii, then NIL or section 1.
+fn read_land(cut: &Cut) -> Result<Report, Refusal> {
+    let (day, hour, wind_indicator) = at_position(cut, 1, is_five_figures, read_date)?;
+    let station = at_position(cut, 2, is_five_figures, required)?;
+    let nil = cut.groups.get(3).is_some_and(|group| group.bytes == b"NIL");
+    let (section, rest) = if nil {
+        // "a group .. after NIL or CNL, a stop word too" is 4.
+        if let Some(group) = cut.groups.get(4) {
+            return Err((4, group.at));
+        }
+        (None, cut.end()?)
+    } else {
+        let (section, rest) = read_section(cut, 3)?;
+        (Some(section), rest)
+    };
+    let content = Content::Synoptic(Synoptic {
+        origin: Origin::Land { station },
+        day,
+        hour,
+        wind_indicator,
+        section,
+    });
+    Ok(Report { content, rest })
+}
+
+/// BBXX, a call sign, YYGGiw, 99LaLaLa, QcLoLoLoLo, then section 1; NIL is of a land report
+/// only (ruling 8).
+fn read_ship(cut: &Cut) -> Result<Report, Refusal> {
+    let call_sign = at_position(cut, 1, is_call_sign, read_letters)?;
+    let (day, hour, wind_indicator) = at_position(cut, 2, is_five_figures, read_date)?;
+    let latitude = at_position(cut, 3, is_latitude, read_latitude)?;
+    let (south, west, longitude) = at_position(cut, 4, is_five_figures, read_longitude)?;
+    let (section, rest) = read_section(cut, 5)?;
+    let origin = Origin::Sea {
+        call_sign,
+        latitude: if south { -latitude } else { latitude },
+        // "180.0 W is read as 180.0 E"
+        longitude: if west && longitude != 1800 {
+            -longitude
+        } else {
+            longitude
+        },
+    };
+    let content = Content::Synoptic(Synoptic {
+        origin,
+        day,
+        hour,
+        wind_indicator,
+        section: Some(section),
+    });
+    Ok(Report { content, rest })
+}
+
+fn read_letters(group: &[u8]) -> Result<String, u8> {
+    Ok(group.iter().map(|&byte| char::from(byte)).collect())
+}
+
+/// YYGGiw: "YY 01-31, GG 00-23, iw 0, 1 (m/s), 3, 4 (knots)".
+fn read_date(group: &[u8]) -> Result<(u32, u32, u32), u8> {
+    let day = within(&group[..2], 1, 31)?;
+    let hour = within(&group[2..4], 0, 23)?;
+    let wind_indicator = within(&group[4..], 0, 4)?;
+    if wind_indicator == 2 {
+        return Err(5);
+    }
+    Ok((day, hour, wind_indicator))
+}
+
+/// 99LaLaLa: "Latitude 000-900 .. in tenths".
+fn read_latitude(group: &[u8]) -> Result<i32, u8> {
+    within(&group[2..], 0, 900).map(|tenths| tenths as i32)
+}
+
+/// QcLoLoLoLo: whether it is south, whether it is west, and the tenths.
+fn read_longitude(group: &[u8]) -> Result<(bool, bool, i32), u8> {
+    let (south, west) = match group[0] {
+        b'1' => (false, false),
+        b'3' => (true, false),
+        b'5' => (true, true),
+        b'7' => (false, true),
+        _ => return Err(5),
+    };
+    let tenths = within(&group[1..], 0, 1800)?;
+    Ok((south, west, tenths as i32))
+}
+
+/// Section 1, from the index of iRixhVV on.
+fn read_section(cut: &Cut, index: usize) -> Result<(Section, usize), Refusal> {
+    let mut section = at_position(cut, index, is_five_figures, read_indicators)?;
+    let (cover, wind) = at_position(cut, index + 1, is_five_figures, read_cover_and_wind)?;
+    section.cloud_cover = cover;
+    section.wind = wind;
+    let mut walk = Walk::over(section_places(&section), 0);
+    let mut take = |slot, group: &[u8]| take_in_section(&mut section, slot, group);
+    let rest = walk_groups(cut, index + 2, &mut walk, stops_synoptic, &mut take)?;
+    Ok((section, rest))
+}
+
+/// iRixhVV: "iR 0-4, ix 1-7"; either scale of 4377 in either report (ruling 21).
+fn read_indicators(group: &[u8]) -> Result<Section, u8> {
+    let rain_indicator = within(&group[..1], 0, 4)?;
+    let weather_indicator = within(&group[1..2], 1, 7)?;
+    let cloud_base = match optional(&group[2..3])? {
+        Some(code) => Some(foot_of(&base_classes(), code)?),
+        None => None,
+    };
+    let visibility = match optional(&group[3..])? {
+        Some(code) if code >= 90 => Some((Scale::Sea, foot_of(&sea_classes(), code)?)),
+        Some(code) => Some((Scale::Land, foot_of(&land_classes(), code)?)),
+        None => None,
+    };
+    Ok(Section {
+        rain_indicator,
+        weather_indicator,
+        cloud_base,
+        visibility,
+        ..Section::default()
+    })
+}
+
+type CoverAndWind = (Option<u32>, Option<(Direction, u32)>);
+
+/// Nddff: "dd 00 with ff 00 is calm, 01-36 tens of degrees, 99 variable"; "dd and ff are missing
+/// together". dd 00 with ff 99 is 7 at once (ruling 19).
+fn read_cover_and_wind(group: &[u8]) -> Result<CoverAndWind, u8> {
+    let cover = optional(&group[..1])?;
+    let (tens, speed) = match (optional(&group[1..3])?, optional(&group[3..])?) {
+        (None, None) => return Ok((cover, None)),
+        (Some(tens), Some(speed)) => (tens, speed),
+        _ => return Err(5),
+    };
+    let direction = match tens {
+        0 => Direction::Calm,
+        1..=36 => Direction::Degrees(tens * 10 % 360),
+        99 => Direction::Variable,
+        _ => return Err(5),
+    };
+    agree_on_calm(direction, speed)?;
+    Ok((cover, Some((direction, speed))))
+}
+
+/// "A zero speed with dd not 00, or the reverse, is 7"; of the aerodrome's wind likewise.
+fn agree_on_calm(direction: Direction, speed: u32) -> Result<(), u8> {
+    if (direction == Direction::Calm) == (speed == 0) {
+        Ok(())
+    } else {
+        Err(7)
+    }
+}
+
+fn take_in_section(section: &mut Section, slot: Slot, group: &[u8]) -> Result<(), u8> {
+    let Slot::Numbered(figure) = slot else {
+        return take_high_speed(section, group);
+    };
+    match figure {
+        b'6' => return take_rain(section, group),
+        b'7' => return take_weather(section, group),
+        b'9' => return take_observed(section, group),
+        // "a group all of slashes after its first figure reads as absent", yet it has stood
+        // (ruling 1).
+        _ if all_slashes(&group[1..]) => return Ok(()),
+        _ => {}
+    }
+    match figure {
+        b'1' => section.temperature = Some(read_signed(group)?),
+        b'2' => section.humidity = Some(read_humidity(group)?),
+        b'3' => section.station_pressure = Some(read_pressure(group)?),
+        b'4' => section.level = Some(read_level(group)?),
+        b'5' => section.tendency = Some(read_tendency(group)?),
+        _ => {
+            for (part, byte) in section.clouds.iter_mut().zip(&group[1..]) {
+                *part = optional(&[*byte])?;
+            }
+        }
+    }
+    Ok(())
+}
+
+/// 00fff: "fff 099-999"; "after any other ff is 7", a missing one too (ruling 18). The speed is
+/// still the ff of Nddff here, as the group stands once.
+fn take_high_speed(section: &mut Section, group: &[u8]) -> Result<(), u8> {
+    let speed = within(&group[2..], 99, 999)?;
+    match &mut section.wind {
+        Some((_, ff)) if *ff == 99 => *ff = speed,
+        _ => return Err(7),
+    }
+    Ok(())
+}
+
+/// sTTT: "s 0 or 1; s 1 with 000 is 5".
+fn read_signed(group: &[u8]) -> Result<i32, u8> {
+    let sign = within(&group[1..2], 0, 1)?;
+    let tenths = required(&group[2..])? as i32;
+    match (sign, tenths) {
+        (1, 0) => Err(5),
+        (1, _) => Ok(-tenths),
+        _ => Ok(tenths),
+    }
+}
+
+/// 2sTTT, or "29UUU instead is humidity 000-100"; 29/// is 5 (ruling 16).
+fn read_humidity(group: &[u8]) -> Result<Humidity, u8> {
+    if group[1] == b'9' {
+        return within(&group[2..], 0, 100).map(Humidity::Relative);
+    }
+    read_signed(group).map(Humidity::DewPoint)
+}
+
+/// PPPP: "0000-0999 means 1000.0-1099.9, the rest as read from 100.0".
+fn read_pressure(group: &[u8]) -> Result<u32, u8> {
+    let tenths = required(&group[1..])?;
+    Ok(if tenths < 1000 {
+        tenths + 10_000
+    } else {
+        tenths
+    })
+}
+
+/// 4PPPP "with first figure 0 or 9; 4ahhh with a 1, 2, 5, 7, 8"; "Other first figures: 5".
+fn read_level(group: &[u8]) -> Result<Level, u8> {
+    match group[1] {
+        b'0' | b'9' => read_pressure(group).map(Level::SeaPressure),
+        b'1' | b'2' | b'5' | b'7' | b'8' => Ok(Level::Height {
+            surface: required(&group[1..2])?,
+            height: required(&group[2..])?,
+        }),
+        _ => Err(5),
+    }
+}
+
+/// 5appp: "a 0-3 rise or no change, 4 requires 000 (else 5), 5-8 fall or no change".
+fn read_tendency(group: &[u8]) -> Result<(u32, i32), u8> {
+    let characteristic = within(&group[1..2], 0, 8)?;
+    let tenths = required(&group[2..])? as i32;
+    match characteristic {
+        4 if tenths != 0 => Err(5),
+        5..=8 => Ok((characteristic, -tenths)),
+        _ => Ok((characteristic, tenths)),
+    }
+}
+
+/// 6RRRt: "RRR and t are missing together only, but t alone may be missing"; 5 before 7
+/// (ruling 20), and forbidden even as slashes.
+fn take_rain(section: &mut Section, group: &[u8]) -> Result<(), u8> {
+    let amount = optional(&group[1..4])?;
+    let period = optional(&group[4..])?;
+    let rain = match amount {
+        None if period.is_some() => return Err(5),
+        None => None,
+        Some(0) => return Err(5),
+        Some(990) => Some(Rain::Trace),
+        Some(tenths @ 991..) => Some(Rain::Tenths(tenths - 990)),
+        Some(millimetres) => Some(Rain::Tenths(millimetres * 10)),
+    };
+    if !wants_rain(section) {
+        return Err(7);
+    }
+    section.rain = rain;
+    section.rain_period = period;
+    Ok(())
+}
+
+/// 7wwWW: "figures, each part may be missing"; forbidden even as slashes.
+fn take_weather(section: &mut Section, group: &[u8]) -> Result<(), u8> {
+    let present = optional(&group[1..3])?;
+    let past = [optional(&group[3..4])?, optional(&group[4..])?];
+    if !wants_weather(section) {
+        return Err(7);
+    }
+    section.present_weather = present;
+    section.past_weather = past;
+    Ok(())
+}
+
+/// "9GGgg 00-23, 00-59; 9//// is 5."
+fn take_observed(section: &mut Section, group: &[u8]) -> Result<(), u8> {
+    let hour = within(&group[1..3], 0, 23)?;
+    let minute = within(&group[3..], 0, 59)?;
+    section.observed = Some((hour, minute));
+    Ok(())
+}
+
+// ---------------------------------------------------------------------------------------------
+// The elements of METAR, SPECI and TAF: refusals 5 and 7
+// ---------------------------------------------------------------------------------------------
+
+/// Where an element stands.
+struct Setting {
+    /// In a TAF the missing forms are 5.
+    forecast: bool,
+    /// "NSW, the sole weather, only in change bodies".
+    change_body: bool,
+    /// "UP without AUTO is 7."
+    automatic: bool,
+}
+
+/// Reads an element into its body; other slots are the caller's.
+fn take_element(
+    elements: &mut Elements,
+    setting: &Setting,
+    slot: Slot,
+    group: &[u8],
+) -> Result<(), u8> {
+    match slot {
+        Slot::Wind => elements.wind = Some(read_wind(setting, group)?),
+        Slot::Visibility => elements.visibility = Some(read_visibility(setting, group)?),
+        Slot::Weather | Slot::ForecastWeather => {
+            let weather = read_weather(setting, group)?;
+            agree_on_weather(elements, setting, &weather)?;
+            elements.weather.push(weather);
+        }
+        Slot::Cloud => {
+            let cloud = read_cloud(setting, group)?;
+            agree_on_clouds(elements, &cloud)?;
+            elements.clouds.push(cloud);
+        }
+        _ => {}
+    }
+    Ok(())
+}
+
+/// Wind: "ddd 010-360 by tens or VRB, two speed figures below 100 and three for 100-199, G and
+/// gust, KT, MPS or KMH; 00000 calm".
+fn read_wind(setting: &Setting, group: &[u8]) -> Result<Wind, u8> {
+    let parts = split_wind(group).ok_or(4)?;
+    let unit = parts.unit;
+    // "///// and unit" alone is a missing form (ruling 33).
+    if all_slashes(parts.direction) && parts.speed == b"//" && parts.gust.is_none() {
+        let wind = Wind {
+            flow: None,
+            gust: None,
+            unit,
+        };
+        return if setting.forecast { Err(5) } else { Ok(wind) };
+    }
+    let direction = match parts.direction {
+        b"VRB" => Direction::Variable,
+        b"000" => Direction::Calm,
+        figures => Direction::Degrees(read_direction(figures)?),
+    };
+    let speed = read_speed(parts.speed)?;
+    let gust = parts.gust.map(read_speed).transpose()?;
+    agree_on_calm(direction, speed)?;
+    // "A gust not above the mean or with calm" is 7.
+    if gust.is_some_and(|gust| gust <= speed || direction == Direction::Calm) {
+        return Err(7);
+    }
+    Ok(Wind {
+        flow: Some((direction, speed)),
+        gust,
+        unit,
+    })
+}
+
+/// "010-360 by tens"; 360 is read as 0.
+fn read_direction(bytes: &[u8]) -> Result<u32, u8> {
+    let degrees = within(bytes, 10, 360)?;
+    if degrees % 10 != 0 {
+        return Err(5);
+    }
+    Ok(degrees % 360)
+}
+
+/// "two speed figures below 100 and three for 100-199"; the wrong width is 5 (ruling 32).
+fn read_speed(bytes: &[u8]) -> Result<u32, u8> {
+    match bytes.len() {
+        2 => within(bytes, 0, 99),
+        _ => within(bytes, 100, 199),
+    }
+}
+
+/// VVVV or CAVOK.
+fn read_visibility(setting: &Setting, group: &[u8]) -> Result<Visibility, u8> {
+    if group == b"CAVOK" {
+        return Ok(Visibility::Cavok);
+    }
+    match optional(group)? {
+        Some(code) => foot_of(&visibility_classes(), code).map(Visibility::Metres),
+        None if setting.forecast => Err(5),
+        None => Ok(Visibility::Missing),
+    }
+}
+
+fn read_weather(setting: &Setting, group: &[u8]) -> Result<Weather, u8> {
+    match group {
+        b"NSW" => Ok(Weather::NoneSignificant),
+        b"//" if setting.forecast => Err(5),
+        b"//" => Ok(Weather::Missing),
+        _ => {
+            let (sign, codes) = split_weather(group).ok_or(4)?;
+            read_codes(sign, &codes)
+        }
+    }
+}
+
+/// "sign or VC, at most one descriptor, one phenomenon or one to three different
+/// precipitations"; "A sign and table codes wrongly joined are 5."
+fn read_codes(sign: Option<u8>, codes: &[&'static str]) -> Result<Weather, u8> {
+    let (vicinity, rest) = match codes.split_first() {
+        Some((&"VC", rest)) => (true, rest),
+        _ => (false, codes),
+    };
+    let (descriptor, phenomena) = match rest.split_first() {
+        Some((first, others)) if DESCRIPTORS.contains(first) => (Some(*first), others),
+        _ => (None, rest),
+    };
+    let joined = if vicinity {
+        sign.is_none() && suits_vicinity(rest)
+    } else {
+        suits_descriptor(descriptor, phenomena) && suits_sign(sign, descriptor, phenomena)
+    };
+    if !joined {
+        return Err(5);
+    }
+    Ok(Weather::Codes {
+        sign,
+        vicinity,
+        descriptor,
+        phenomena: phenomena.to_vec(),
+    })
+}
+
+/// "VC stands before only DS SS FG FC SH TS PO BLDU BLSA BLSN VA."
+fn suits_vicinity(codes: &[&str]) -> bool {
+    match codes {
+        [single] => ["DS", "SS", "FG", "FC", "SH", "TS", "PO", "VA"].contains(single),
+        ["BL", blown] => ["DU", "SA", "SN"].contains(blown),
+        _ => false,
+    }
+}
+
+/// One to three different precipitations.
+fn are_precipitations(phenomena: &[&str]) -> bool {
+    let different = (1..phenomena.len()).all(|n| !phenomena[..n].contains(&phenomena[n]));
+    (1..=3).contains(&phenomena.len())
+        && different
+        && phenomena.iter().all(|code| PRECIPITATIONS.contains(code))
+}
+
+/// "Every precipitation in a group must suit its descriptor." TS alone is 5 (ruling 26), the
+/// lists of SH and TS are the paper's (ruling 27).
+fn suits_descriptor(descriptor: Option<&str>, phenomena: &[&str]) -> bool {
+    let all_of = |list: &[&str]| {
+        are_precipitations(phenomena) && phenomena.iter().all(|code| list.contains(code))
+    };
+    match descriptor {
+        None => {
+            are_precipitations(phenomena)
+                || matches!(phenomena, [single] if OTHER_PHENOMENA.contains(single))
+        }
+        Some("MI" | "BC" | "PR") => phenomena == ["FG"],
+        Some("DR" | "BL") => matches!(phenomena, ["DU" | "SA" | "SN"]),
+        Some("SH" | "TS") => all_of(&["RA", "SN", "PL", "GS", "GR"]),
+        _ => phenomena == ["FG"] || all_of(&["DZ", "RA"]),
+    }
+}
+
+/// "A sign only with precipitation not under DR or BL, with DS or SS, and + also with FC and
+/// PO."
+fn suits_sign(sign: Option<u8>, descriptor: Option<&str>, phenomena: &[&str]) -> bool {
+    let Some(sign) = sign else {
+        return true;
+    };
+    match phenomena {
+        ["DS" | "SS"] => true,
+        ["FC" | "PO"] => sign == b'+',
+        _ => are_precipitations(phenomena) && !matches!(descriptor, Some("DR" | "BL")),
+    }
+}
+
+/// "UP without AUTO is 7", of every weather group (ruling 28).
+fn agree_on_unknown(automatic: bool, weather: &Weather) -> Result<(), u8> {
+    match weather {
+        Weather::Codes { phenomena, .. } if phenomena.contains(&"UP") && !automatic => Err(7),
+        _ => Ok(()),
+    }
+}
+
+/// "weather or clouds beside it are 7", // too (ruling 31); NSW is the sole weather, in change
+/// bodies only (ruling 46).
+fn agree_on_weather(elements: &Elements, setting: &Setting, weather: &Weather) -> Result<(), u8> {
+    agree_on_unknown(setting.automatic, weather)?;
+    let beside_cavok = elements.visibility == Some(Visibility::Cavok);
+    let after_none = elements.weather.contains(&Weather::NoneSignificant);
+    let misplaced_none = *weather == Weather::NoneSignificant
+        && (!setting.change_body || !elements.weather.is_empty());
+    if beside_cavok || after_none || misplaced_none {
+        return Err(7);
+    }
+    Ok(())
+}
+
+/// hhh of table 1690; slashes are 5 in a TAF.
+fn read_height(setting: &Setting, bytes: &[u8]) -> Result<Option<u32>, u8> {
+    match optional(bytes)? {
+        Some(code) => foot_of(&height_classes(), code).map(Some),
+        None if setting.forecast => Err(5),
+        None => Ok(None),
+    }
+}
+
+fn read_cloud(setting: &Setting, group: &[u8]) -> Result<Cloud, u8> {
+    match split_cloud(group).ok_or(4)? {
+        CloudParts::Clear(word) => Ok(Cloud::Clear(word)),
+        CloudParts::Vertical(figures) => read_height(setting, figures).map(Cloud::Vertical),
+        CloudParts::Layer(amount, figures, close) => Ok(Cloud::Layer {
+            amount,
+            height: read_height(setting, figures)?,
+            close,
+        }),
+    }
+}
+
+/// "heights equal or rising, missing ones passed over (else 7)"; "SKC, NSC, NCD or VVhhh stands
+/// alone (else 7)" (ruling 39).
+fn agree_on_clouds(elements: &Elements, cloud: &Cloud) -> Result<(), u8> {
+    if elements.visibility == Some(Visibility::Cavok) {
+        return Err(7);
+    }
+    let is_layer = |cloud: &Cloud| matches!(cloud, Cloud::Layer { .. });
+    let alone = elements.clouds.is_empty();
+    if !alone && !(is_layer(cloud) && elements.clouds.iter().all(is_layer)) {
+        return Err(7);
+    }
+    let height_of = |cloud: &Cloud| match cloud {
+        Cloud::Layer { height, .. } => *height,
+        _ => None,
+    };
+    let last = elements.clouds.iter().rev().find_map(height_of);
+    match (last, height_of(cloud)) {
+        (Some(below), Some(height)) if height < below => Err(7),
+        _ => Ok(()),
+    }
+}
+
+/// YYGGgg: "Days 01-31, minutes 00-59, end hours 00-24, others 00-23."
+fn read_time(figures: &[u8]) -> Result<Time, u8> {
+    Ok(Time {
+        day: within(&figures[..2], 1, 31)?,
+        hour: within(&figures[2..4], 0, 23)?,
+        minute: within(&figures[4..6], 0, 59)?,
+    })
+}
+
+/// YYGG/YYGG; its two times need not fit each other (ruling 47).
+fn read_period(group: &[u8]) -> Result<Period, u8> {
+    Ok(Period {
+        from_day: within(&group[..2], 1, 31)?,
+        from_hour: within(&group[2..4], 0, 23)?,
+        to_day: within(&group[5..7], 1, 31)?,
+        to_hour: within(&group[7..], 0, 24)?,
+    })
+}
+
+// ---------------------------------------------------------------------------------------------
+// METAR and SPECI
+// ---------------------------------------------------------------------------------------------
+
+fn read_observation(cut: &Cut, special: bool) -> Result<Report, Refusal> {
+    let mut observation = Observation {
+        special,
+        ..Observation::default()
+    };
+    // The name has stood: its place is closed.
+    let mut walk = Walk::over(observation_places(), 1);
+    let mut take = |slot, group: &[u8]| take_in_observation(&mut observation, slot, group);
+    let rest = walk_groups(cut, 1, &mut walk, stops_observation, &mut take)?;
+    let content = Content::Observation(observation);
+    Ok(Report { content, rest })
+}
+
+fn take_in_observation(observation: &mut Observation, slot: Slot, group: &[u8]) -> Result<(), u8> {
+    match slot {
+        Slot::Corrected => observation.corrected = true,
+        Slot::Location => observation.location = read_letters(group)?,
+        Slot::IssueTime => observation.time = read_time(group)?,
+        Slot::Nil => observation.nil = true,
+        Slot::Automatic => observation.automatic = true,
+        Slot::Varying => observation.varying = Some(read_varying(group)?),
+        Slot::RunwayRange => observation.runways.push(read_runway(group)?),
+        Slot::Temperatures => {
+            let (temperature, dew_point) = split_temperatures(group).ok_or(4)?;
+            observation.temperature = read_temperature(temperature)?;
+            observation.dew_point = read_temperature(dew_point)?;
+        }
+        // Q: whole hectopascals, "0000-9999", or Q////.
+        Slot::Pressure => observation.pressure = optional(&group[1..])?.map(|whole| whole * 10),
+        Slot::Recent => observation.recent.push(read_recent(observation, group)?),
+        _ => {
+            let setting = Setting {
+                forecast: false,
+                change_body: false,
+                automatic: observation.automatic,
+            };
+            take_element(&mut observation.elements, &setting, slot, group)?;
+        }
+    }
+    Ok(())
+}
+
+/// dddVddd: 000 is 5 (ruling 34), "equal directions in dddVddd: 7".
+fn read_varying(group: &[u8]) -> Result<(u32, u32), u8> {
+    let from = read_direction(&group[..3])?;
+    let to = read_direction(&group[4..])?;
+    if from == to {
+        return Err(7);
+    }
+    Ok((from, to))
+}
+
+/// "M0050 below 50, read 0"; "P2000 over 2,000, read 2,001"; M or P with other figures is 5
+/// (ruling 35).
+fn read_runway(group: &[u8]) -> Result<Runway, u8> {
+    let parts = split_runway(group).ok_or(4)?;
+    let number = within(parts.number, 1, 36)?;
+    let range = match (parts.bound, optional(parts.range)?) {
+        (None, None) => None,
+        (None, Some(code)) => Some(foot_of(&runway_classes(), code)?),
+        (Some(b'M'), Some(50)) => Some(0),
+        (Some(b'P'), Some(2000)) => Some(2001),
+        _ => return Err(5),
+    };
+    Ok(Runway {
+        number,
+        side: parts.side,
+        range,
+        tendency: parts.tendency,
+    })
+}
+
+/// "// for each temperature"; "M00 is 5", and so is M before slashes.
+fn read_temperature((minus, figures): TemperatureParts) -> Result<Option<i32>, u8> {
+    match (minus, optional(figures)?) {
+        (true, None | Some(0)) => Err(5),
+        (true, Some(degrees)) => Ok(Some(-10 * degrees as i32)),
+        (false, degrees) => Ok(degrees.map(|degrees| 10 * degrees as i32)),
+    }
+}
+
+/// "RE groups carry no sign and no VC (5)."
+fn read_recent(observation: &Observation, group: &[u8]) -> Result<Weather, u8> {
+    let (sign, codes) = split_recent(group).ok_or(4)?;
+    let weather = read_codes(sign, &codes)?;
+    if sign.is_some() || codes.first() == Some(&"VC") {
+        return Err(5);
+    }
+    agree_on_unknown(observation.automatic, &weather)?;
+    Ok(weather)
+}
+
+// ---------------------------------------------------------------------------------------------
+// TAF
+// ---------------------------------------------------------------------------------------------
+
+fn read_forecast(cut: &Cut) -> Result<Report, Refusal> {
+    let mut forecast = Forecast::default();
+    // The name has stood: its place is closed.
+    let mut walk = Walk::over(forecast_places(), 1);
+    let mut take = |slot, group: &[u8]| take_in_forecast(&mut forecast, slot, group);
+    let rest = walk_groups(cut, 1, &mut walk, never_stops, &mut take)?;
+    let content = Content::Forecast(forecast);
+    Ok(Report { content, rest })
+}
+
+fn take_in_forecast(forecast: &mut Forecast, slot: Slot, group: &[u8]) -> Result<(), u8> {
+    match slot {
+        Slot::AmendedOrCorrected => forecast.correction = word_of(&["AMD", "COR"], group),
+        Slot::Location => forecast.location = read_letters(group)?,
+        Slot::IssueTime => forecast.time = read_time(group)?,
+        Slot::Nil => forecast.nil = true,
+        Slot::Cancelled => forecast.cancelled = true,
+        Slot::Change => forecast.changes.push(Change {
+            opening: read_opening(group)?,
+            elements: Elements::default(),
+        }),
+        Slot::Temporary => set_temporary(forecast),
+        Slot::Period => set_period(forecast, read_period(group)?),
+        _ => {
+            let change_body = !forecast.changes.is_empty();
+            let setting = Setting {
+                forecast: true,
+                change_body,
+                automatic: false,
+            };
+            let elements = match forecast.changes.last_mut() {
+                Some(change) => &mut change.elements,
+                None => &mut forecast.elements,
+            };
+            take_element(elements, &setting, slot, group)?;
+        }
+    }
+    Ok(())
+}
+
+/// The word of a change group; its period follows as a group of its own.
+fn read_opening(group: &[u8]) -> Result<Opening, u8> {
+    let period = Period::default();
+    match group {
+        b"BECMG" => Ok(Opening::Becoming(period)),
+        b"TEMPO" => Ok(Opening::Temporary(period)),
+        [b'F', b'M', figures @ ..] => read_time(figures).map(Opening::From),
+        _ => match required(&group[4..])? {
+            percent @ (30 | 40) => Ok(Opening::Probable {
+                percent,
+                temporary: false,
+                period,
+            }),
+            _ => Err(5),
+        },
+    }
+}
+
+/// "PROB TEMPO": the TEMPO after PROB30 or PROB40.
+fn set_temporary(forecast: &mut Forecast) {
+    if let Some(change) = forecast.changes.last_mut() {
+        if let Opening::Probable { temporary, .. } = &mut change.opening {
+            *temporary = true;
+        }
+    }
+}
+
+/// The report's own period, or that of the change group that stands last.
+fn set_period(forecast: &mut Forecast, read: Period) {
+    match forecast
+        .changes
+        .last_mut()
+        .map(|change| &mut change.opening)
+    {
+        None => forecast.period = read,
+        Some(Opening::Becoming(period) | Opening::Temporary(period)) => *period = read,
+        Some(Opening::Probable { period, .. }) => *period = read,
+        Some(Opening::From(_)) => {}
+    }
+}
+
+// ---------------------------------------------------------------------------------------------
+// The writer
+// ---------------------------------------------------------------------------------------------
+
+/// Writes a record's canonical text: "single spaces, no leading blank, "=" at once after the
+/// last group, no unread rest". The record is one that the reader gives, or one like it whose
+/// values lie between the feet of their classes.
+pub fn write(report: &Report) -> Vec<u8> {
+    let mut groups = Vec::new();
+    match &report.content {
+        Content::Synoptic(synoptic) => write_synoptic(&mut groups, synoptic),
+        Content::Observation(observation) => write_observation(&mut groups, observation),
+        Content::Forecast(forecast) => write_forecast(&mut groups, forecast),
+    }
+    let mut text = groups.join(" ").into_bytes();
+    text.push(b'=');
+    text
+}
+
+/// A number of a width with leading zeros, or slashes, "as many as letters".
+fn figures(value: Option<u32>, width: usize) -> String {
+    match value {
+        Some(value) => format!("{value:0width$}"),
+        None => "/".repeat(width),
+    }
+}
+
+fn write_synoptic(groups: &mut Vec<String>, synoptic: &Synoptic) {
+    let date = format!(
+        "{:02}{:02}{}",
+        synoptic.day, synoptic.hour, synoptic.wind_indicator
+    );
+    match &synoptic.origin {
+        Origin::Land { station } => {
+            groups.extend(["AAXX".to_string(), date, format!("{station:05}")]);
+        }
+        Origin::Sea {
+            call_sign,
+            latitude,
+            longitude,
+        } => {
+            groups.extend(["BBXX".to_string(), call_sign.clone(), date]);
+            write_position(groups, *latitude, *longitude);
+        }
+    }
+    match &synoptic.section {
+        Some(section) => write_section(groups, section),
+        None => groups.push("NIL".to_string()),
+    }
+}
+
+/// "Qc 1 NE, 3 SE, 5 SW, 7 NW. Zero counts as north or east".
+fn write_position(groups: &mut Vec<String>, latitude: i32, longitude: i32) {
+    let quadrant = match (latitude < 0, longitude < 0) {
+        (false, false) => 1,
+        (true, false) => 3,
+        (true, true) => 5,
+        (false, true) => 7,
+    };
+    groups.push(format!("99{:03}", latitude.abs()));
+    groups.push(format!("{quadrant}{:04}", longitude.abs()));
+}
+
+fn write_section(groups: &mut Vec<String>, section: &Section) {
+    let base = section
+        .cloud_base
+        .map(|base| code_of(&base_classes(), base));
+    let visibility = section.visibility;
+    let visibility = visibility.map(|(scale, metres)| code_of(&classes_of(scale), metres));
+    groups.push(format!(
+        "{}{}{}{}",
+        section.rain_indicator,
+        section.weather_indicator,
+        figures(base, 1),
+        figures(visibility, 2)
+    ));
+    write_cover_and_wind(groups, section);
+    if let Some(tenths) = section.temperature {
+        groups.push(format!("1{}", signed(tenths)));
+    }
+    match section.humidity {
+        Some(Humidity::DewPoint(tenths)) => groups.push(format!("2{}", signed(tenths))),
+        Some(Humidity::Relative(percent)) => groups.push(format!("29{percent:03}")),
+        None => {}
+    }
+    if let Some(tenths) = section.station_pressure {
+        groups.push(format!("3{:04}", tenths % 10_000));
+    }
+    match section.level {
+        Some(Level::SeaPressure(tenths)) => groups.push(format!("4{:04}", tenths % 10_000)),
+        Some(Level::Height { surface, height }) => groups.push(format!("4{surface}{height:03}")),
+        None => {}
+    }
+    if let Some((characteristic, change)) = section.tendency {
+        groups.push(format!("5{characteristic}{:03}", change.abs()));
+    }
+    write_section_end(groups, section);
+}
+
+/// The groups 6 to 9: "a required 6 or 7 group is written with slashes", another group all of
+/// slashes is omitted.
+fn write_section_end(groups: &mut Vec<String>, section: &Section) {
+    if wants_rain(section) {
+        let amount = figures(section.rain.map(rain_code), 3);
+        groups.push(format!("6{amount}{}", figures(section.rain_period, 1)));
+    }
+    if wants_weather(section) {
+        let present = figures(section.present_weather, 2);
+        let past = section.past_weather.map(|part| figures(part, 1)).concat();
+        groups.push(format!("7{present}{past}"));
+    }
+    if section.clouds.iter().any(Option::is_some) {
+        let parts = section.clouds.map(|part| figures(part, 1)).concat();
+        groups.push(format!("8{parts}"));
+    }
+    if let Some((hour, minute)) = section.observed {
+        groups.push(format!("9{hour:02}{minute:02}"));
+    }
+}
+
+/// Nddff and 00fff: "A speed of 99 units or more is ff 99 and at once 00fff".
+fn write_cover_and_wind(groups: &mut Vec<String>, section: &Section) {
+    let cover = figures(section.cloud_cover, 1);
+    let Some((direction, speed)) = section.wind else {
+        groups.push(format!("{cover}////"));
+        return;
+    };
+    let tens = match direction {
+        Direction::Calm => 0,
+        Direction::Variable => 99,
+        Direction::Degrees(degrees) => tens_of(degrees),
+    };
+    groups.push(format!("{cover}{tens:02}{:02}", speed.min(99)));
+    if speed >= 99 {
+        groups.push(format!("00{speed:03}"));
+    }
+}
+
+/// "rounds to tens, halves up, 0 written as 36 or 360 and read as 0".
+fn tens_of(degrees: u32) -> u32 {
+    match (degrees + 5) / 10 % 36 {
+        0 => 36,
+        tens => tens,
+    }
+}
+
+/// sTTT.
+fn signed(tenths: i32) -> String {
+    format!("{}{:03}", u8::from(tenths < 0), tenths.abs())
+}
+
+/// RRR: "from 1.0 mm written to the nearest mm, halves up"; "989 that or more".
+fn rain_code(rain: Rain) -> u32 {
+    match rain {
+        Rain::Trace => 990,
+        Rain::Tenths(tenths) if tenths < 10 => 990 + tenths,
+        Rain::Tenths(tenths) => ((tenths + 5) / 10).min(989),
+    }
+}
+
+fn write_time(time: Time) -> String {
+    format!("{:02}{:02}{:02}", time.day, time.hour, time.minute)
+}
+
+fn write_period(period: Period) -> String {
+    format!(
+        "{:02}{:02}/{:02}{:02}",
+        period.from_day, period.from_hour, period.to_day, period.to_hour
+    )
+}
+
+fn write_observation(groups: &mut Vec<String>, observation: &Observation) {
+    let name = if observation.special {
+        "SPECI"
+    } else {
+        "METAR"
+    };
+    groups.push(name.to_string());
+    if observation.corrected {
+        groups.push("COR".to_string());
+    }
+    groups.push(observation.location.clone());
+    groups.push(format!("{}Z", write_time(observation.time)));
+    if observation.nil {
+        groups.push("NIL".to_string());
+        return;
+    }
+    if observation.automatic {
+        groups.push("AUTO".to_string());
+    }
+    let elements = &observation.elements;
+    groups.extend(elements.wind.as_ref().map(write_wind));
+    if let Some((from, to)) = observation.varying {
+        groups.push(format!("{:02}0V{:02}0", tens_of(from), tens_of(to)));
+    }
+    groups.extend(elements.visibility.map(write_visibility));
+    groups.extend(observation.runways.iter().map(write_runway));
+    groups.extend(elements.weather.iter().map(write_weather));
+    groups.extend(elements.clouds.iter().map(write_cloud));
+    groups.push(format!(
+        "{}/{}",
+        write_temperature(observation.temperature),
+        write_temperature(observation.dew_point)
+    ));
+    // "Q is rounded down to a whole hPa"
+    let pressure = observation.pressure.map(|tenths| tenths / 10);
+    groups.push(format!("Q{}", figures(pressure, 4)));
+    let recent = observation.recent.iter().map(write_weather);
+    groups.extend(recent.map(|weather| format!("RE{weather}")));
+}
+
+fn write_wind(wind: &Wind) -> String {
+    let gust = wind
+        .gust
+        .map_or(String::new(), |gust| format!("G{gust:02}"));
+    let unit = wind.unit;
+    match wind.flow {
+        None => format!("/////{unit}"),
+        Some((Direction::Calm, speed)) => format!("000{speed:02}{gust}{unit}"),
+        Some((Direction::Variable, speed)) => format!("VRB{speed:02}{gust}{unit}"),
+        Some((Direction::Degrees(degrees), speed)) => {
+            format!("{:02}0{speed:02}{gust}{unit}", tens_of(degrees))
+        }
+    }
+}
+
+fn write_visibility(visibility: Visibility) -> String {
+    match visibility {
+        Visibility::Cavok => "CAVOK".to_string(),
+        Visibility::Missing => figures(None, 4),
+        Visibility::Metres(metres) => figures(Some(code_of(&visibility_classes(), metres)), 4),
+    }
+}
+
+fn write_runway(runway: &Runway) -> String {
+    let letter = |letter: Option<u8>| letter.map(char::from).map_or(String::new(), String::from);
+    let range = match runway.range {
+        None => figures(None, 4),
+        Some(metres) if metres < 50 => "M0050".to_string(),
+        Some(metres) if metres > 2000 => "P2000".to_string(),
+        Some(metres) => figures(Some(code_of(&runway_classes(), metres)), 4),
+    };
+    format!(
+        "R{:02}{}/{range}{}",
+        runway.number,
+        letter(runway.side),
+        letter(runway.tendency)
+    )
+}
+
+fn write_weather(weather: &Weather) -> String {
+    match weather {
+        Weather::Missing => "//".to_string(),
+        Weather::NoneSignificant => "NSW".to_string(),
+        Weather::Codes {
+            sign,
+            vicinity,
+            descriptor,
+            phenomena,
+        } => {
+            let sign = sign.map(char::from).map_or(String::new(), String::from);
+            let vicinity = if *vicinity { "VC" } else { "" };
+            let descriptor = descriptor.unwrap_or("");
+            format!("{sign}{vicinity}{descriptor}{}", phenomena.concat())
+        }
+    }
+}
+
+fn write_height(height: Option<u32>) -> String {
+    figures(height.map(|metres| code_of(&height_classes(), metres)), 3)
+}
+
+fn write_cloud(cloud: &Cloud) -> String {
+    match cloud {
+        Cloud::Clear(word) => word.to_string(),
+        Cloud::Vertical(height) => format!("VV{}", write_height(*height)),
+        Cloud::Layer {
+            amount,
+            height,
+            close,
+        } => format!("{amount}{}{close}", write_height(*height)),
+    }
+}
+
+/// "written as whole degrees, -99 to 99, halves up"; "M goes by the rounded value".
+fn write_temperature(tenths: Option<i32>) -> String {
+    match tenths.map(|tenths| (tenths + 5).div_euclid(10)) {
+        None => figures(None, 2),
+        Some(degrees) if degrees < 0 => format!("M{:02}", -degrees),
+        Some(degrees) => format!("{degrees:02}"),
+    }
+}
+
+fn write_forecast(groups: &mut Vec<String>, forecast: &Forecast) {
+    groups.push("TAF".to_string());
+    groups.extend(forecast.correction.map(String::from));
+    groups.push(forecast.location.clone());
+    groups.push(format!("{}Z", write_time(forecast.time)));
+    if forecast.nil {
+        groups.push("NIL".to_string());
+        return;
+    }
+    groups.push(write_period(forecast.period));
+    if forecast.cancelled {
+        groups.push("CNL".to_string());
+        return;
+    }
+    write_elements(groups, &forecast.elements);
+    for change in &forecast.changes {
+        write_opening(groups, &change.opening);
+        write_elements(groups, &change.elements);
+    }
+}
+
+fn write_elements(groups: &mut Vec<String>, elements: &Elements) {
+    groups.extend(elements.wind.as_ref().map(write_wind));
+    groups.extend(elements.visibility.map(write_visibility));
+    groups.extend(elements.weather.iter().map(write_weather));
+    groups.extend(elements.clouds.iter().map(write_cloud));
+}
+
+fn write_opening(groups: &mut Vec<String>, opening: &Opening) {
+    match opening {
+        Opening::Becoming(period) => {
+            groups.extend(["BECMG".to_string(), write_period(*period)]);
+        }
+        Opening::Temporary(period) => {
+            groups.extend(["TEMPO".to_string(), write_period(*period)]);
+        }
+        Opening::Probable {
+            percent,
+            temporary,
+            period,
+        } => {
+            groups.push(format!("PROB{percent}"));
+            groups.extend(temporary.then(|| "TEMPO".to_string()));
+            groups.push(write_period(*period));
+        }
+        Opening::From(time) => groups.push(format!("FM{}", write_time(*time))),
+    }
+}
+
+// ---------------------------------------------------------------------------------------------
+// The program
+// ---------------------------------------------------------------------------------------------
+
+/// What the program prints for a text, without the line end: "its canonical text or "refused N
+/// at P"".
+pub fn answer(text: &[u8]) -> Vec<u8> {
+    match read(text) {
+        Ok(report) => write(&report),
+        Err((number, place)) => format!("refused {number} at {place}").into_bytes(),
+    }
+}
+
+/// The bytes of a line of hexadecimal figures, two to a byte; None where the line is not such.
+fn bytes_of_line(line: &[u8]) -> Option<Vec<u8>> {
+    let figure = |byte: u8| char::from(byte).to_digit(16);
+    let pair = |pair: &[u8]| match pair {
+        [high, low] => Some((figure(*high)? * 16 + figure(*low)?) as u8),
+        _ => None,
+    };
+    line.chunks(2).map(pair).collect()
+}
+
+/// The answers to lines of hexadecimal bytes, one a line.
+fn answer_lines(input: &[u8]) -> Vec<u8> {
+    let mut output = Vec::new();
+    for line in input.split_inclusive(|&byte| byte == b'\n') {
+        let line = line.strip_suffix(b"\n").unwrap_or(line);
+        let line = line.strip_suffix(b"\r").unwrap_or(line);
+        match bytes_of_line(line) {
+            Some(text) => output.extend(answer(&text)),
+            None => output.extend(b"not a line of hexadecimal bytes"),
+        }
+        output.push(b'\n');
+    }
+    output
+}
+
+fn main() -> std::io::Result<()> {
+    let lines = std::env::args()
+        .nth(1)
+        .is_some_and(|argument| argument == "--lines");
+    let mut input = Vec::new();
+    std::io::stdin().lock().read_to_end(&mut input)?;
+    let output = if lines {
+        answer_lines(&input)
+    } else {
+        let mut line = answer(&input);
+        line.push(b'\n');
+        line
+    };
+    std::io::stdout().lock().write_all(&output)
+}
+
+// ---------------------------------------------------------------------------------------------
+// "Lines that settle arguments", which reading alone does not reach
+// ---------------------------------------------------------------------------------------------
+
+#[cfg(test)]
+mod tests {
+    use super::*;
+
+    fn codes(classes: Classes, values: &[u32]) -> Vec<u32> {
+        values
+            .iter()
+            .map(|&value| code_of(&classes, value))
+            .collect()
+    }
+
+    #[test]
+    fn scales_round_down() {
+        assert_eq!(codes(land_classes(), &[5999, 6000]), [50, 56]);
+        assert_eq!(codes(land_classes(), &[70_000, 70_001]), [88, 89]);
+        assert_eq!(codes(land_classes(), &[99, 34_999, 99_999]), [0, 80, 89]);
+        assert_eq!(codes(sea_classes(), &[49, 50, 99_999]), [90, 91, 99]);
+        assert_eq!(codes(base_classes(), &[599, 600]), [4, 5]);
+        let visibility = codes(visibility_classes(), &[370, 799, 5700, 9999, 10_000]);
+        assert_eq!(visibility, [350, 750, 5000, 9000, 9999]);
+        assert_eq!(
+            codes(height_classes(), &[3299, 3300, 29_999]),
+            [100, 110, 990]
+        );
+        let runway = |range| {
+            write_runway(&Runway {
+                number: 1,
+                side: None,
+                range: Some(range),
+                tendency: None,
+            })
+        };
+        assert_eq!(runway(399), "R01/0375");
+        assert_eq!(runway(2001), "R01/P2000");
+        assert_eq!(runway(2000), "R01/2000");
+        assert_eq!(runway(49), "R01/M0050");
+    }
+
+    #[test]
+    fn the_others_round_to_the_nearest() {
+        let written: Vec<_> = [25, -15, -4, -5, -6, -995, 994]
+            .map(|tenths| write_temperature(Some(tenths)))
+            .into();
+        assert_eq!(written, ["03", "M01", "00", "00", "M01", "M99", "99"]);
+        assert_eq!([4, 5, 355, 354, 0].map(tens_of), [36, 1, 36, 35, 36]);
+        let rain = [9, 10, 9885, 9884, 99_999].map(|tenths| rain_code(Rain::Tenths(tenths)));
+        assert_eq!(rain, [999, 1, 989, 988, 989]);
+        assert_eq!(rain_code(Rain::Trace), 990);
+    }
+
+    #[test]
+    fn not_in_the_table() {
+        assert_eq!(read_signed(b"11000"), Err(5));
+        assert_eq!(foot_of(&land_classes(), 55), Err(5));
+    }
+}
