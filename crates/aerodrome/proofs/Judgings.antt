@@ -14,7 +14,8 @@ use Rattle.text.specs.declared.kinds.Judged.the-variants as judged
 use Rattle.text.specs.Judge.{judge}
 use Rattle.record.specs.declared.aerodrome.Runway.{Runway}
 use Rattle.record.specs.Metar.{blankRunway}
-use Rattle.aerodrome.specs.Runway.{isMissing, noSide, noCourse, allBlank, judgeEachRunway}
+use Rattle.elements.specs.Judge.{isMissing}
+use Rattle.aerodrome.specs.Runway.{noSide, noCourse, allBlank, judgeEachRunway}
 use Rattle.aerodrome.proofs.RunwayBack.{runwayFits}
 
 -- the four letters of a station

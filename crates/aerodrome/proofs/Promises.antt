@@ -1,9 +1,9 @@
 -- What the round trip promises of these groups, in document 01's words: each exact field comes back as it was, each rounded number as the reading of
--- its class, near its value and never above it where the scale rounds down; and of two values on one scale the greater never reads smaller.
+-- its class, near its value and never above it where the scale rounds down.
 -- Assumes nothing.
-use Prim.Native.Nat.{ℕ, _+_, _≤_, _<_}
+use Prim.Native.Nat.{ℕ, _+_, _≤_}
 use mathlib.Core.Path.{_≡_, refl}
-use mathlib.Core.Bool.{Bool, true}
+use mathlib.Core.Bool.{true}
 use mathlib.Core.List.{List, [], _∷_, map}
 use lib.IntN.{ℤ, pos, _+ℤ_}
 use lib.Signed.{leZ}
@@ -12,7 +12,7 @@ use Rattle.scales.specs.Degrees.{roundedDegrees}
 use Rattle.scales.specs.Rounded.{roundedPressure}
 use Rattle.scales.proofs.Down.{Down, down}
 use Rattle.scales.proofs.MetresLaws.{runway-laws}
-use Rattle.scales.proofs.DegreesLaws.{degrees-near, degrees-order}
+use Rattle.scales.proofs.DegreesLaws.{degrees-near}
 use Rattle.scales.proofs.PressureLaws as scale
 use Rattle.record.specs.declared.values.Number.{Number}
 use Rattle.record.specs.declared.values.Number.the-variants as number
@@ -95,26 +95,3 @@ temperatures-kept t = record { air = tenths-kept (t .air); dew = tenths-kept (t 
 
 pub qnh-kept : (q : Qnh) → QnhKept q (classQnh q)
 qnh-kept q = record { is = pressure-kept (q .is) }
-
--- ---- the order
-
--- a is not above b, both on one scale
-pub data RangeOrder : Number → Number → Type 0 where
-  ranges : {m n : ℕ} → m ≤ n → RangeOrder (number.Is m) (number.Is n)
-
-pub data TenthsOrder : Tenths → Tenths → Type 0 where
-  in-tenths : {t u : ℤ} → leZ t u ≡ true → TenthsOrder (tenths.Is t) (tenths.Is u)
-
-pub data PressureOrder : Number → Number → Type 0 where
-  pressures : {p q : ℕ} → p ≤ q → PressureOrder (number.Is p) (number.Is q)
-
-pub range-order : (a b : Number) → RangeOrder a b → RangeOrder (classRange a) (classRange b)
-range-order _ _ (ranges {m} {n} h) = ranges (runway-laws .order m n h)
-
-pub tenths-order : (a b : Tenths) → TenthsOrder a b → TenthsOrder (classTenths a) (classTenths b)
-unfolding roundedDegrees
-tenths-order _ _ (in-tenths {t} {u} h) = in-tenths (degrees-order t u h)
-
-pub pressure-order : (a b : Number) → PressureOrder a b → PressureOrder (classPressure a) (classPressure b)
-unfolding roundedPressure
-pressure-order _ _ (pressures {p} {q} h) = pressures (scale.pressure-order p q h)

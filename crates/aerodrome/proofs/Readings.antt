@@ -1,15 +1,12 @@
 -- What a number field that the code looked at makes of a reading, and numbers as the code hands them on.
 -- Assumes nothing.
-use Prim.Native.Nat.{ℕ, zero, suc, _<_}
+use Prim.Native.Nat.{ℕ, _<_}
 use mathlib.Core.Path.{_≡_, refl, ap, _∙_}
-use mathlib.Core.Bool.{Bool, true, false, cond}
 use mathlib.Core.List.{List, [], _∷_, _++_}
 use lib.IntN.{ℤ}
-use lib.Dec.{leb}
-use lib.ListN.{length, getD, take, replicate, length-append, length-replicate}
+use lib.ListN.{getD, take, replicate}
 use lib.Signed.{mag}
 use borrow.Author.Needs.{sfits-of}
-use borrow.Author.Tests.{leb-true}
 use mir.Syntax.{w32}
 use mir.Val.{toZ, ofZ}
 use mir.Facts.{toZ-ofZ}
@@ -21,11 +18,12 @@ use Rattle.figures.specs.declared.kinds.Field.{Field}
 use Rattle.figures.specs.declared.kinds.Field.the-variants as field
 use Rattle.shapes.specs.declared.kinds.Value.{Value}
 use Rattle.shapes.specs.declared.kinds.Scan.{Scan}
-use Rattle.shapes.specs.Shape.{Values, Says, Unlike, partsOf, scanParts, padded, misfit, answered, scanOf, blankValue}
+use Rattle.shapes.specs.Shape.{answered, scanOf}
 use Rattle.text.specs.declared.kinds.Refusal.{Refusal}
 use Rattle.places.specs.Engine.{Read, Good, Bad}
 use Rattle.record.specs.declared.values.Number.{Number}
 use Rattle.record.specs.declared.values.Tenths.{Tenths}
+use Rattle.elements.proofs.Scanned.{value-is}
 use Rattle.elements.specs.Parts.{wrong, figured, valueAt}
 use Rattle.aerodrome.specs.declared.read.RangeRead.the-variants as range
 use Rattle.aerodrome.specs.declared.read.DegreesRead.the-variants as degrees
@@ -71,30 +69,9 @@ four-bytes (a ∷ b ∷ []) = refl
 four-bytes (a ∷ b ∷ c ∷ []) = refl
 four-bytes (a ∷ b ∷ c ∷ d ∷ g) = refl
 
--- an element of a list is the same whatever stands for one past its end
-getD-any : {A : Type 0} (l : List A) (i : ℕ) (d e : A) → i < length l → getD l i d ≡ getD l i e
-getD-any [] i d e h = absurd (omega arith)
-getD-any (x ∷ l) zero d e h = refl
-getD-any (x ∷ l) (suc i) d e h = getD-any l i d e (omega arith)
-
 -- the values that the code takes from a scan are those of the group; past the eight it would have zeros
 abbrev pub zeroValue : Value
 zeroValue = record { which = 0; field = field.Number 0 }
 
--- a scan has eight values
-eight : (shape g : List ℕ) → length (scanOf shape g .values) ≡ 8
-unfolding scanOf answered
-eight shape g = by (scanParts (partsOf shape) g)
-  where
-    few : (vs : List Value) (b : Bool) → leb (length vs) 8 ≡ b → length (cond b (record { fits = true; values = padded vs }) misfit .values) ≡ 8
-    few vs true e = simp (length-append, length-replicate) (omega (arith, leb-true (length vs) 8 e))
-    few vs false e = refl
-
-    by : (x : Values) → length (answered x .values) ≡ 8
-    by (Says vs) = few vs (leb (length vs) 8) refl
-    by Unlike = refl
-
 pub scanned : (shape g : List ℕ) (x : Scan) → x ≡ scanOf shape g → (i : ℕ) → i < 8 → getD (x .values) i zeroValue ≡ valueAt shape g i
-scanned shape g x e i h =
-    ap (λ (y : Scan). getD (y .values) i zeroValue) e
-    ∙ getD-any (scanOf shape g .values) i zeroValue blankValue (omega (arith, eight shape g))
+scanned shape g x e i h = ap (λ (y : Scan). getD (y .values) i zeroValue) e ∙ value-is shape g i zeroValue h

@@ -27,7 +27,8 @@ use Rattle.record.specs.declared.aerodrome.Runway.{Runway}
 use Rattle.record.specs.declared.aerodrome.Runways.{Runways}
 use Rattle.record.specs.Metar.{blankRunway, blankRunways}
 use Rattle.elements.specs.Parts.{then}
-use Rattle.aerodrome.specs.Runway.{runwayShape, readRunway, withRunway, showRunway, showRunways, isMissing, noSide, noCourse, allBlank, judgeEachRunway, judgeRunways, classRunway, classRunways}
+use Rattle.elements.specs.Judge.{isMissing}
+use Rattle.aerodrome.specs.Runway.{runwayShape, readRunway, withRunway, showRunway, showRunways, noSide, noCourse, allBlank, judgeEachRunway, judgeRunways, classRunway, classRunways}
 use Rattle.aerodrome.proofs.Printed.{Shaped}
 use Rattle.aerodrome.proofs.RunwayBack.{runwayFits, runway-shaped, runway-back, runway-again, runway-classed}
 

@@ -25,7 +25,7 @@ use Rattle.record.specs.declared.aerodrome.Course.{Course}
 use Rattle.record.specs.declared.aerodrome.Course.the-variants as course
 use Rattle.record.specs.declared.aerodrome.Runway.{Runway}
 use Rattle.record.specs.declared.aerodrome.Runways.{Runways}
-use Rattle.elements.specs.Judge.{metresFit}
+use Rattle.elements.specs.Judge.{isMissing, metresFit}
 use Rattle.elements.specs.Parts.{figured, mayMiss, used, provided, then, valueAt}
 use Rattle.elements.specs.Wind.{chosen, numbered}
 use Rattle.aerodrome.specs.Head.{fieldOf}
@@ -105,10 +105,6 @@ showRunways rs = map showRunway (take (rs .count) (rs .items))
 
 -- ---- judging: "a count over its limit, a slot past its count .. that is not blank", then each in turn
 
-abbrev pub isMissing : Number → Bool
-isMissing number.Missing = true
-isMissing (number.Is n) = false
-
 abbrev pub noSide : Side → Bool
 noSide side.None = true
 noSide side.Left = false
@@ -124,6 +120,10 @@ noCourse course.NoChange = false
 abbrev pub allBlank : List Runway → Bool
 allBlank [] = true
 allBlank (w ∷ ws) = isMissing (w .number) && noSide (w .side) && isMissing (w .range) && noCourse (w .course) && allBlank ws
+
+-- nothing is said of them
+abbrev pub noRunways : Runways → Bool
+noRunways rs = eqb (rs .count) 0 && allBlank (rs .items)
 
 abbrev pub isRunway : Number → Bool
 isRunway number.Missing = false

@@ -92,6 +92,14 @@ abbrev pub tenthsFit : Signed → Bool
 tenthsFit signed.Missing = true
 tenthsFit (signed.Is t) = leZ (negsuc 994) t && leZ t (pos 994)
 
+-- nothing is said of them
+abbrev pub noTenths : Signed → Bool
+noTenths signed.Missing = true
+noTenths (signed.Is t) = false
+
+abbrev pub noTemperatures : Temperatures → Bool
+noTemperatures t = noTenths (t .air) && noTenths (t .dew)
+
 unfoldable pub judgeTemperatures : Temperatures → Judged
 judgeTemperatures t = judge (tenthsFit (t .air) && tenthsFit (t .dew)) true
 

@@ -1,4 +1,6 @@
 // What the writer judges of each group before it writes anything: its ranges, refusal 11. None of them can disagree with itself.
+use elements::judge::is_missing;
+use elements::judge::metres_fit;
 use figures::is_letter;
 use record::aerodrome::Course;
 use record::aerodrome::Instant;
@@ -16,11 +18,11 @@ use text::kinds::Judged;
 ghost use mathlib.Core.Path.{_≡_};
 ghost use mathlib.Core.Bool.{false, _&&_};
 ghost use Prim.Native.Nat.{_≤_};
-ghost use lib.Dec.{leb, eqb};
+ghost use lib.Dec.{leb};
 ghost use lib.ListN.{take, drop};
-ghost use Rattle.elements.specs.Judge.{metresFit};
+ghost use Rattle.elements.specs.Judge.{isMissing, metresFit};
 ghost use Rattle.aerodrome.specs.Head.{isDay, present, judgeStation, judgeTime};
-ghost use Rattle.aerodrome.specs.Runway.{isMissing, noSide, noCourse, allBlank, isRunway, judgeEachRunway, judgeRunways};
+ghost use Rattle.aerodrome.specs.Runway.{noSide, noCourse, allBlank, noRunways, isRunway, judgeEachRunway, judgeRunways};
 ghost use Rattle.aerodrome.specs.Temperatures.{tenthsFit, judgeTemperatures, judgeQnh};
 
 pub fn judge_station(s: Station) -> Judged
@@ -32,7 +34,7 @@ pub fn judge_station(s: Station) -> Judged
     judge(first & last, true)
 }
 
-fn is_day(n: Number) -> bool
+pub fn is_day(n: Number) -> bool
     ensures { λ r. ⌜ r ≡ present isDay n ⌝ }
 {
     match n {
@@ -42,7 +44,7 @@ fn is_day(n: Number) -> bool
 }
 
 // A number that has to be there, up to the most.
-fn is_up_to(n: Number, most: u32) -> bool
+pub fn is_up_to(n: Number, most: u32) -> bool
     ensures { λ r. ⌜ r ≡ present (λ v. leb v most) n ⌝ }
 {
     match n {
@@ -64,15 +66,6 @@ pub fn judge_time(t: Instant) -> Judged
 }
 
 // ---- runway visual ranges
-
-fn is_missing(n: Number) -> bool
-    ensures { λ r. ⌜ r ≡ isMissing n ⌝ }
-{
-    match n {
-        Number::Missing => true,
-        Number::Is(_) => false,
-    }
-}
 
 fn no_side(s: Side) -> bool
     ensures { λ r. ⌜ r ≡ noSide s ⌝ }
@@ -122,20 +115,10 @@ fn blank_from(items: [Runway; 4], from: usize) -> bool
 }
 
 pub fn no_runways(rs: Runways) -> bool
-    ensures { λ r. ⌜ r ≡ (eqb (rs .count) 0 && allBlank (rs .items)) ⌝ }
+    ensures { λ r. ⌜ r ≡ noRunways rs ⌝ }
 {
     let items = rs.items;
     (rs.count == 0) & blank_from(items, 0)
-}
-
-// A number of metres, or of tenths of hPa, that may be missing.
-fn metres_fit(n: Number) -> bool
-    ensures { λ r. ⌜ r ≡ metresFit false n ⌝ }
-{
-    match n {
-        Number::Missing => true,
-        Number::Is(m) => m <= 99999,
-    }
 }
 
 fn is_runway(n: Number) -> bool
@@ -152,7 +135,7 @@ fn runway_fits(w: Runway) -> bool
 {
     let number = w.number;
     let range = w.range;
-    is_runway(number) & metres_fit(range)
+    is_runway(number) & metres_fit(false, range)
 }
 
 // The first `count` slots.
@@ -207,5 +190,5 @@ pub fn judge_qnh(q: Qnh) -> Judged
     ensures { λ r. ⌜ r ≡ judgeQnh q ⌝ }
 {
     let p = q.is;
-    judge(metres_fit(p), true)
+    judge(metres_fit(false, p), true)
 }

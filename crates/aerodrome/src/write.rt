@@ -46,7 +46,7 @@ pub fn put_station(out: &mut [u8], at: usize, s: Station) -> usize
     put_text(out, opened, &letters)
 }
 
-fn field_of(n: Number) -> Field
+pub fn field_of(n: Number) -> Field
     ensures { λ r. ⌜ r ≡ fieldOf n ⌝ }
 {
     match n {
@@ -55,7 +55,7 @@ fn field_of(n: Number) -> Field
     }
 }
 
-fn put_two(out: &mut [u8], at: usize, n: Number) -> usize
+pub fn put_two(out: &mut [u8], at: usize, n: Number) -> usize
     ensures { λ r. ⌜ Put (now (out .entry)) at (fieldText 2 (fieldOf n)) r (now (out .exit)) ⌝ }
 {
     put_field(out, at, 2, field_of(n))

@@ -10,8 +10,6 @@ use Rattle.record.specs.declared.aerodrome.Wind.{Wind}
 use Rattle.record.specs.declared.aerodrome.Variation.{Variation}
 use Rattle.record.specs.declared.aerodrome.Visibility.{Visibility}
 use Rattle.record.specs.declared.aerodrome.Weather.{Weather}
-use Rattle.record.specs.declared.aerodrome.Layer.{Layer}
-use Rattle.record.specs.declared.aerodrome.Cover.{Cover}
 use Rattle.record.specs.declared.aerodrome.Sky.{Sky}
 use Rattle.elements.specs.declared.kinds.WindRead.{WindRead}
 use Rattle.elements.specs.declared.kinds.WindRead.the-variants as wind
@@ -21,12 +19,8 @@ use Rattle.elements.specs.declared.kinds.VisibilityRead.{VisibilityRead}
 use Rattle.elements.specs.declared.kinds.VisibilityRead.the-variants as visibility
 use Rattle.elements.specs.declared.kinds.WeatherRead.{WeatherRead}
 use Rattle.elements.specs.declared.kinds.WeatherRead.the-variants as weather
-use Rattle.elements.specs.declared.kinds.LayerRead.{LayerRead}
-use Rattle.elements.specs.declared.kinds.LayerRead.the-variants as layer
-use Rattle.elements.specs.declared.kinds.CoverRead.{CoverRead}
-use Rattle.elements.specs.declared.kinds.CoverRead.the-variants as cover
 use Rattle.elements.specs.declared.kinds.SkyRead.{SkyRead}
-use Rattle.elements.specs.Answers.{asSky, asWind, asVariation, asVisibility, asWeather, asLayer, asCover}
+use Rattle.elements.specs.Answers.{asSky, asWind, asVariation, asVisibility, asWeather}
 
 abbrev pub fromWind : WindRead → Read Wind
 fromWind (wind.Good x) = Good x
@@ -59,22 +53,6 @@ fromWeather (weather.Bad f) = Bad f
 pub weather-is : {e : WeatherRead} (x : Read Weather) → e ≡ asWeather x → x ≡ fromWeather e
 weather-is (Good y) p = rw p
 weather-is (Bad f) p = rw p
-
-abbrev pub fromLayer : LayerRead → Read Layer
-fromLayer (layer.Good x) = Good x
-fromLayer (layer.Bad f) = Bad f
-
-pub layer-is : {e : LayerRead} (x : Read Layer) → e ≡ asLayer x → x ≡ fromLayer e
-layer-is (Good y) p = rw p
-layer-is (Bad f) p = rw p
-
-abbrev pub fromCover : CoverRead → Read Cover
-fromCover (cover.Good x) = Good x
-fromCover (cover.Bad f) = Bad f
-
-pub cover-is : {e : CoverRead} (x : Read Cover) → e ≡ asCover x → x ≡ fromCover e
-cover-is (Good y) p = rw p
-cover-is (Bad f) p = rw p
 
 -- a sky with one group more, or the group's refusal
 pub sky-good : (s : Sky) {e : SkyRead} (x : Read Sky) → e ≡ asSky s x → e .judged ≡ judged.Fine → x ≡ Good (e .sky)

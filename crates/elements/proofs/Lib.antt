@@ -1,2 +1,5 @@
 pub mod Answers
 pub mod Fills
+pub mod Scanned
+pub mod Blanks
+pub mod Classed

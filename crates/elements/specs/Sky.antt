@@ -203,3 +203,7 @@ classCover (cover.Vertical h) = cover.Vertical (writtenHeight h)
 
 abbrev pub classSky : Sky → Sky
 classSky s = record { cover = classCover (s .cover); layers = map classLayer (s .layers); count = s .count }
+
+-- nothing is said of it
+abbrev pub noSky : Sky → Bool
+noSky s = isLayers (s .cover) && eqb (s .count) 0 && allBlank (s .layers)

@@ -309,6 +309,12 @@ abbrev pub judgeEach : (Weather → Judged) → List Weather → Judged
 judgeEach test [] = judged.Fine
 judgeEach test (w ∷ ws) = andThen (test w) (judgeEach test ws)
 
+abbrev pub threeFit : Weathers → Bool
+threeFit ws = leb (ws .count) 3 && allMissing (drop (ws .count) (ws .items))
+
 unfoldable pub judgeWeathers : (Weather → Judged) → Weathers → Judged
-judgeWeathers test w =
-    andThen (judge (leb (w .count) 3 && allMissing (drop (w .count) (w .items))) true) (judgeEach test (take (w .count) (w .items)))
+judgeWeathers test ws = andThen (judge (threeFit ws) true) (judgeEach test (take (ws .count) (ws .items)))
+
+-- nothing is said of it
+abbrev pub noWeathers : Weathers → Bool
+noWeathers ws = eqb (ws .count) 0 && allMissing (ws .items)

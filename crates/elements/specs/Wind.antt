@@ -227,3 +227,8 @@ classExtremes (extremes.Between a b) = extremes.Between (readDegrees a) (readDeg
 
 abbrev pub classVariation : Variation → Variation
 classVariation v = record { is = classExtremes (v .is) }
+
+-- nothing is said of it
+abbrev pub noExtremes : Extremes → Bool
+noExtremes extremes.Missing = true
+noExtremes (extremes.Between a b) = false

@@ -26,9 +26,8 @@ use Rattle.metar.specs.Read.{fromFirst, readOf}
 use Rattle.aerodrome.specs.Head.{stationOf, readTime, showTime, judgeStation, judgeTime}
 use Rattle.aerodrome.specs.Runway.{readRunway, showRunway, showRunways, judgeRunways}
 use Rattle.aerodrome.specs.Temperatures.{readTemperatures, readQnh, showTemperatures, showQnh, judgeTemperatures, judgeQnh}
-use Rattle.metar.specs.Row.{row, stopWords}
+use Rattle.metar_row.specs.Row.{row, stopWords}
 use Rattle.metar.specs.Write.{judgeHead, noBody, judgeBody, judgeOf, canonicalOf, classedOf}
-use Rattle.figures.specs.Quote.{bytes}
 use Rattle.text.specs.Refusals.{numberOf}
 use Rattle.text.specs.Example.{Example, reads, refuses}
 use Rattle.text.specs.declared.kinds.Judged.the-variants as judged

@@ -1,4 +1,3 @@
--- The test that tells the groups apart, and worked examples.
-pub mod Sound
+-- The laws of reading, and worked examples.
 pub mod Examples
 pub mod Steps

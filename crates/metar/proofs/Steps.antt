@@ -3,29 +3,28 @@
 use Prim.Native.Nat.{ℕ, zero, suc, _+_, _≤_, _<_, zero-le}
 use native.Mathlib.Omega.{arith}
 use mathlib.Core.Path.{_≡_, refl, sym, ap, _∙_}
-use mathlib.Core.Bool.{Bool, true, false, not, cond, _&&_, _||_, or-false}
-use mathlib.Core.List.{List, [], _∷_, map}
+use mathlib.Core.Bool.{Bool, true, false, not, _&&_}
+use mathlib.Core.List.{List, [], _∷_}
 use lib.ListN.{length, drop, List·getD-eq-default}
-use lib.Dec.{leb, eqb}
+use lib.Dec.{leb}
 use borrow.Author.Tests.{leb-true}
 use types.Run.{OneOf, miss}
 use denote.Enum.Declared.{tagOf}
 use Rattle.text.specs.declared.kinds.Refusal.{Refusal}
 use Rattle.text.specs.declared.kinds.Refusal.the-variants as refusal
 use Rattle.text.specs.declared.kinds.Bytes.{Bytes}
-use Rattle.text.specs.declared.kinds.Tail.{Tail}
-use Rattle.text.specs.Groups.{Piece, groupsFrom, partOf}
+use Rattle.text.specs.Groups.{groupsFrom, partOf}
 use Rattle.text.proofs.Groups.{Follows}
 use Rattle.text.specs.Text.{bytesOf, tailOf}
 use Rattle.figures.specs.Quote.{bytes}
-use Rattle.shapes.specs.Pattern.{hasPattern, hasAny}
+use Rattle.shapes.specs.Pattern.{hasAny}
 use Rattle.shapes.proofs.Patterns.{both}
 use Rattle.places.specs.declared.kinds.Found.{Found}
 use Rattle.places.specs.declared.kinds.Found.the-variants.{Take, Skips, Full, Earlier, Unknown}
-use Rattle.places.specs.Seek.{stands, findOf, owed, refusalOf}
-use Rattle.places.specs.Engine.{Group, Read, Good, Bad, Place, nowhere, placeAt, standsOf, mustsOf, taken, judged, onward, Step, On, Halt, Stop, step, Outcome, finish, closed, over, run}
+use Rattle.places.specs.Seek.{findOf, owed, refusalOf}
+use Rattle.places.specs.Engine.{Group, Read, Good, Bad, Place, nowhere, placeAt, standsOf, mustsOf, taken, judged, onward, Step, On, Halt, Stop, step, finish, closed, over, run}
 use Rattle.places.specs.Answer.{afterBytes}
-use Rattle.places.proofs.Rows.{row-stands, taken-open, ends-at}
+use Rattle.places.proofs.Rows.{taken-open}
 use Rattle.places.proofs.Going.{closes, step-past, step-word, step-by, going, going-over, going-on, going-halt, going-fault}
 use Rattle.places.proofs.kinds.Found as found
 use Rattle.record.specs.declared.aerodrome.Weather.{Weather}
@@ -38,8 +37,8 @@ use Rattle.metar.specs.declared.kinds.Next.the-variants as next
 use Rattle.metar.specs.declared.kinds.Standing.{Standing}
 use Rattle.metar.specs.declared.kinds.Stepped.{Stepped}
 use Rattle.metar.specs.declared.kinds.Reading.{Reading}
-use Rattle.metar.specs.Row.{onto, besideCavok, isName, row, stopWords}
-use Rattle.metar.specs.Step.{toldOf, shapesOf, mostsOf, standing, stepped, arrived, stepOf}
+use Rattle.metar_row.specs.Row.{onto, besideCavok, isName, row, stopWords}
+use Rattle.metar.specs.Step.{toldOf, standing, stepped, arrived, stepOf}
 use Rattle.metar.specs.Read.{fromFirst, reading, refused, answer, readOf}
 
 -- ---- what a group adds
@@ -62,25 +61,6 @@ pub row-length : length row ≡ 15
 unfolding row
 row-length = refl
 
--- the three arrays say the row
-pub found-at : (g : Group) (c k : ℕ) {hs us : List Bool} {ms : List ℕ} → hs ≡ shapesOf g → ms ≡ mostsOf → us ≡ mustsOf row
-    → findOf (stands hs ms us) c k ≡ findOf (standsOf row g) c k
-unfolding shapesOf mostsOf
-found-at g c k p q r = rw (p, q, r, row-stands row g)
-
-any-of : (a b c d e : Bool) → ((((a || b) || c) || d) || e) ≡ (a || (b || (c || (d || (e || false)))))
-any-of true b c d e = refl
-any-of false true c d e = refl
-any-of false false true d e = refl
-any-of false false false true e = refl
-any-of false false false false e = sym (or-false e)
-
-pub stop-word : (g : Group) {a b c d e : Bool}
-    → a ≡ hasPattern g (bytes "NOSIG") → b ≡ hasPattern g (bytes "BECMG") → c ≡ hasPattern g (bytes "TEMPO") → d ≡ hasPattern g (bytes "WS") → e ≡ hasPattern g (bytes "RMK")
-    → ((((a || b) || c) || d) || e) ≡ hasAny stopWords g
-unfolding stopWords hasAny
-stop-word g {a} {b} {c} {d} {e} p q r s t = rw (← p, ← q, ← r, ← s, ← t) (any-of a b c d e)
-
 -- a place by its number
 pub read-place : (r : Metar) (g : Group) (k : ℕ) {i : ℕ} (j : ℕ) {t : Told} → i ≡ j → t ≡ toldOf r (placeAt row j .read k g r) → t ≡ toldOf r (placeAt row i .read k g r)
 read-place r g k j p e = rw p e
@@ -101,11 +81,6 @@ last-head i h a b c d e =
 pub past-body : (i : ℕ) → 6 ≤ i → (i ≡ 6 → ⊥) → (i ≡ 7 → ⊥) → (i ≡ 8 → ⊥) → (i ≡ 9 → ⊥) → (i ≡ 10 → ⊥) → (i ≡ 11 → ⊥) → (i ≡ 12 → ⊥) → (i ≡ 13 → ⊥) → (i ≡ 14 → ⊥) → 15 ≤ i
 past-body i h a b c d e f g j k =
     beyond 14 i (beyond 13 i (beyond 12 i (beyond 11 i (beyond 10 i (beyond 9 i (beyond 8 i (beyond 7 i (beyond 6 i h a) b) c) d) e) f) g) j) k
-
--- NIL ends the report
-pub past-nil : (i : ℕ) (b : Bool) → eqb i 4 ≡ b → cond b 15 i ≡ onward row i
-unfolding row
-past-nil i b e = ap (λ (x : Bool). cond x 15 i) (sym e ∙ ends-at row 4 i refl)
 
 -- ---- one group
 

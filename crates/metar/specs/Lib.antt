@@ -1,4 +1,3 @@
-pub mod Row
 pub mod Read
 pub mod Write
 pub mod Step

@@ -15,7 +15,7 @@ use Rattle.places.specs.Answer.{acceptedAs, refusedAs, answerOf, afterBytes}
 use Rattle.record.specs.declared.aerodrome.Metar.{Metar}
 use Rattle.record.specs.Metar.{blankMetar}
 use Rattle.metar.specs.declared.kinds.Reading.{Reading}
-use Rattle.metar.specs.Row.{isName, row, stopWords}
+use Rattle.metar_row.specs.Row.{isName, row, stopWords}
 
 -- refusal 3: here the first group is METAR or SPECI; it is the first place of the row
 unfoldable pub fromFirst : Tail → ℕ → List Piece → Outcome Metar

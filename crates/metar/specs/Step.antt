@@ -2,16 +2,14 @@
 -- Assumes nothing: these are definitions.
 use Prim.Native.Nat.{ℕ}
 use mathlib.Core.Path.{_≡_}
-use mathlib.Core.Bool.{Bool}
-use mathlib.Core.List.{List, [], _∷_, map}
 use Rattle.text.specs.declared.kinds.Judged.the-variants as judged
-use Rattle.places.specs.Engine.{Group, Read, Good, Bad, Place, placeAt, Step, On, Halt, Stop, step, onward}
+use Rattle.places.specs.Engine.{Group, Read, Good, Bad, placeAt, Step, On, Halt, Stop, step, onward}
 use Rattle.record.specs.declared.aerodrome.Metar.{Metar}
 use Rattle.metar.specs.declared.kinds.Told.{Told}
 use Rattle.metar.specs.declared.kinds.Next.the-variants as next
 use Rattle.metar.specs.declared.kinds.Standing.{Standing}
 use Rattle.metar.specs.declared.kinds.Stepped.{Stepped}
-use Rattle.metar.specs.Row.{row, stopWords}
+use Rattle.metar_row.specs.Row.{row, stopWords}
 
 -- the record with what the group says, or as it was beside the group's refusal
 abbrev pub toldOf : Metar → Read Metar → Told
@@ -21,13 +19,6 @@ toldOf r (Bad f) = record { judged = judged.Refused f; report = r }
 -- the group at place i, however many stand there
 abbrev pub ToldAt : ℕ → Group → Metar → Told → Type 0
 ToldAt i g r t = (k : ℕ) → t ≡ toldOf r (placeAt row i .read k g r)
-
--- which places of the row have the group's shape, how many groups may stand at each
-unfoldable pub shapesOf : Group → List Bool
-shapesOf g = map (λ (p : Place Metar). p .has g) row
-
-unfoldable pub mostsOf : List ℕ
-mostsOf = map (λ (p : Place Metar). p .most) row
 
 -- one group read: reading goes on, or as a step of the row says
 abbrev pub standing : ℕ → ℕ → Metar → Standing

@@ -3,7 +3,6 @@
 use Prim.Native.Nat.{ℕ}
 use mathlib.Core.Bool.{Bool, true, false, cond, not, _&&_, _||_}
 use mathlib.Core.List.{List}
-use lib.Dec.{eqb}
 use Rattle.text.specs.declared.kinds.Judged.{Judged}
 use Rattle.text.specs.declared.kinds.Judged.the-variants as judged
 use Rattle.text.specs.declared.kinds.Written.{Written}
@@ -11,45 +10,25 @@ use Rattle.text.specs.Judge.{judge, andThen}
 use Rattle.text.specs.Write.{answerBy, bufferBy}
 use Rattle.text.specs.Groups.{join}
 use Rattle.places.specs.Engine.{written, putAll}
-use Rattle.record.specs.declared.values.Tenths.{Tenths as Signed}
-use Rattle.record.specs.declared.values.Tenths.the-variants as signed
-use Rattle.record.specs.declared.aerodrome.Extremes.{Extremes}
-use Rattle.record.specs.declared.aerodrome.Extremes.the-variants as extremes
-use Rattle.record.specs.declared.aerodrome.Weathers.{Weathers}
 use Rattle.record.specs.declared.aerodrome.Metar.{Metar}
 use Rattle.record.specs.Metar.{blankMetar}
-use Rattle.elements.specs.Wind.{noDirection, hasUnit, noGust, judgeWind, judgeVariation}
+use Rattle.elements.specs.Judge.{isMissing}
+use Rattle.elements.specs.Wind.{isBlankWind, noExtremes, judgeWind, judgeVariation}
 use Rattle.elements.specs.Visibility.{isCavok, noView, judgeVisibility}
-use Rattle.elements.specs.Weather.{allMissing, judgeWeather, judgeRecent, judgeWeathers}
-use Rattle.elements.specs.Sky.{isLayers, allBlank, judgeSky}
+use Rattle.elements.specs.Weather.{noWeathers, judgeWeather, judgeRecent, judgeWeathers}
+use Rattle.elements.specs.Sky.{noSky, judgeSky}
 use Rattle.aerodrome.specs.Head.{judgeStation, judgeTime}
-use Rattle.aerodrome.specs.Runway.{isMissing, allBlank as noRunways, judgeRunways}
-use Rattle.aerodrome.specs.Temperatures.{judgeTemperatures, judgeQnh}
-use Rattle.metar.specs.Row.{row}
+use Rattle.aerodrome.specs.Runway.{noRunways, judgeRunways}
+use Rattle.aerodrome.specs.Temperatures.{noTemperatures, judgeTemperatures, judgeQnh}
+use Rattle.metar_row.specs.Row.{row}
 
 -- ---- foreign fields: a NIL report has nothing after its time
 
-abbrev pub noTenths : Signed → Bool
-noTenths signed.Missing = true
-noTenths (signed.Is t) = false
-
-abbrev pub noExtremes : Extremes → Bool
-noExtremes extremes.Missing = true
-noExtremes (extremes.Between a b) = false
-
-abbrev pub noWeathers : Weathers → Bool
-noWeathers w = eqb (w .count) 0 && allMissing (w .items)
-
 unfoldable pub noBody : Metar → Bool
 noBody r =
-    not (r .automatic)
-    && noDirection (r .wind .direction) && noGust (r .wind .speed) && noGust (r .wind .gust) && not (hasUnit (r .wind .unit))
-    && noExtremes (r .variation .is) && noView (r .visibility .is)
-    && eqb (r .runways .count) 0 && noRunways (r .runways .items)
-    && noWeathers (r .weathers)
-    && isLayers (r .sky .cover) && eqb (r .sky .count) 0 && allBlank (r .sky .layers)
-    && noTenths (r .temperatures .air) && noTenths (r .temperatures .dew) && isMissing (r .qnh .is)
-    && noWeathers (r .recents)
+    not (r .automatic) && isBlankWind (r .wind) && noExtremes (r .variation .is) && noView (r .visibility .is)
+    && noRunways (r .runways) && noWeathers (r .weathers) && noSky (r .sky)
+    && noTemperatures (r .temperatures) && isMissing (r .qnh .is) && noWeathers (r .recents)
 
 unfoldable pub judgeHead : Metar → Judged
 judgeHead r = andThen (judgeStation (r .station)) (judgeTime (r .time))

@@ -2,5 +2,5 @@
 pub mod answer;
 pub mod kinds;
 pub mod read;
-pub mod row;
+pub mod step;
 pub mod take;

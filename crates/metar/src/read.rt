@@ -3,9 +3,10 @@ use crate::answer;
 use crate::kinds::Next;
 use crate::kinds::Reading;
 use crate::kinds::Standing;
-use crate::row::is_name;
-use crate::row::musts;
-use crate::row::step;
+use crate::step::step;
+use metar_row::is_name;
+use metar_row::musts;
+use record::blank_aerodrome::blank_metar;
 use text::kinds::Bytes;
 use text::kinds::Cut;
 use text::kinds::Refusal;
@@ -16,7 +17,7 @@ ghost use Rattle.text.specs.Text.{tailOf};
 ghost use Rattle.text.specs.Groups.{groupsFrom};
 ghost use Rattle.places.specs.Engine.{closed, over, run};
 ghost use Rattle.record.specs.Metar.{blankMetar};
-ghost use Rattle.metar.specs.Row.{row, stopWords};
+ghost use Rattle.metar_row.specs.Row.{row, stopWords};
 ghost use Rattle.metar.specs.Read.{fromFirst, answer, readOf};
 
 // Reading ends at a position of the text: a required group is absent, or the unread rest begins there.
@@ -46,7 +47,7 @@ fn finish(text: &[u8], s: Standing) -> Reading
 fn read_row(text: &[u8]) -> Reading
     ensures { λ r. ⌜ r ≡ answer (run row stopWords (tailOf (now (text .entry))) (length (now (text .entry))) 0 0 blankMetar (groupsFrom (now (text .entry)) 0)) ⌝ }
 {
-    let report = answer::blank();
+    let report = blank_metar();
     let mut s = Standing {
         place: 0,
         count: 0,

@@ -35,7 +35,7 @@ ghost use Rattle.elements.specs.Sky.{readSky};
 ghost use Rattle.aerodrome.specs.Head.{readTime};
 ghost use Rattle.aerodrome.specs.Runway.{readRunway, withRunway};
 ghost use Rattle.aerodrome.specs.Temperatures.{readTemperatures, readQnh};
-ghost use Rattle.metar.specs.Row.{onto, besideCavok};
+ghost use Rattle.metar_row.specs.Row.{onto, besideCavok};
 ghost use Rattle.metar.specs.Step.{toldOf};
 
 pub fn keep(x: Metar) -> Told

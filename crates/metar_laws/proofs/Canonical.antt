@@ -31,13 +31,14 @@ use Rattle.sky.proofs.RoundTrip.{sky-again, sky-classed}
 use Rattle.aerodrome.proofs.RunwaysBack.{runways-again, runways-classed}
 use Rattle.aerodrome.proofs.TemperaturesBack.{temperatures-again, temperatures-classed, qnh-again, qnh-classed}
 use Rattle.metar.specs.declared.kinds.Reading.{Reading}
-use Rattle.metar.specs.Row.{row, stopWords}
+use Rattle.metar_row.specs.Row.{row, stopWords}
 use Rattle.metar.specs.Read.{fromFirst, accepted, readOf}
 use Rattle.metar.specs.Write.{judgeHead, judgeBody, judgeOf, canonicalOf, classedOf}
-use Rattle.metar.proofs.Sound.{row-sound}
+use Rattle.metar_row.proofs.Sound.{row-sound}
 use Rattle.metar_laws.proofs.Rows.{row-covered}
 use Rattle.metar_laws.proofs.Report.{fair, FairBody, fair-body, fair-bare, sizes, kept-row}
-use Rattle.metar_laws.proofs.Places.{name, name-named, cavok-classed}
+use Rattle.elements.proofs.Classed.{cavok-classed}
+use Rattle.metar_laws.proofs.Places.{name, name-named}
 use Rattle.metar_laws.proofs.Blanks.{Bare}
 pub use Rattle.metar_laws.proofs.Blanks.{Arrays}
 

@@ -1,7 +1,7 @@
 -- The places of METAR and SPECI one by one: what is written at each of a record that is judged fine has the place's shape, takes a known room, and is
 -- read back as what is put.
 -- Assumes nothing.
-use Prim.Native.Nat.{ℕ, _+_}
+use Prim.Native.Nat.{ℕ}
 use Prim.Native.String.{String}
 use native.Mathlib.Omega.{arith}
 use mathlib.Core.Path.{_≡_, refl}
@@ -18,12 +18,10 @@ use Rattle.places.proofs.Sizes.{measured, sized-any}
 use Rattle.places.proofs.Kept.{Kept, keep-one, keep-none}
 use Rattle.record.specs.declared.aerodrome.Extremes.{Extremes}
 use Rattle.record.specs.declared.aerodrome.Extremes.the-variants as extremes
-use Rattle.record.specs.declared.aerodrome.View.{View}
-use Rattle.record.specs.declared.aerodrome.View.the-variants as view
 use Rattle.record.specs.declared.aerodrome.Metar.{Metar}
 use Rattle.record.specs.Metar.{setCorrected, setNil, setAutomatic}
 use Rattle.elements.specs.Wind.{windShape, degreesText, variationShape, showWind, showVariation, judgeWind, judgeVariation}
-use Rattle.elements.specs.Visibility.{visibilityShapes, isCavok, showVisibility, judgeVisibility, classView}
+use Rattle.elements.specs.Visibility.{visibilityShapes, showVisibility, judgeVisibility}
 use Rattle.aerodrome.specs.Head.{stationShape, stationOf, timeShape, showTime, judgeStation, judgeTime}
 use Rattle.aerodrome.specs.Temperatures.{temperaturesShape, qnhShape, showTemperatures, showQnh, judgeTemperatures, judgeQnh}
 use Rattle.wind.proofs.RoundTripWind.{wind-shaped, wind-back}
@@ -31,7 +29,7 @@ use Rattle.wind.proofs.RoundTripVariation.{variation-shaped, variation-back}
 use Rattle.wind.proofs.RoundTripVisibility.{visibility-shaped, visibility-back}
 use Rattle.aerodrome.proofs.HeadBack.{station-shaped, station-whole, time-shaped, time-back}
 use Rattle.aerodrome.proofs.TemperaturesBack.{temperatures-shaped, temperatures-back, qnh-shaped, qnh-back}
-use Rattle.metar.specs.Row.{wordPlace, isName, row}
+use Rattle.metar_row.specs.Row.{wordPlace, isName, row}
 
 -- ---- the room of a group
 
@@ -113,11 +111,6 @@ module _ (r acc : Metar) where
   kept-automatic b = keep-word "AUTO" false (λ r. r .automatic) setAutomatic 4 r acc refl refl (rw (← b))
 
 -- ---- the body, where the report is not NIL
-
-pub cavok-classed : (v : View) → isCavok (record { is = classView v }) ≡ isCavok (record { is = v })
-cavok-classed view.Missing = refl
-cavok-classed view.Cavok = refl
-cavok-classed (view.Metres m) = refl
 
 module _ (r acc : Metar) (full : r .nil ≡ false) where
   pub kept-wind : judgeWind false (r .wind) ≡ judged.Fine → Kept (placeAt row 6) 13 r acc

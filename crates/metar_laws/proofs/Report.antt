@@ -19,10 +19,11 @@ use Rattle.elements.specs.Sky.{showSky, judgeSky}
 use Rattle.aerodrome.specs.Head.{judgeStation, judgeTime}
 use Rattle.aerodrome.specs.Runway.{showRunways, judgeRunways}
 use Rattle.aerodrome.specs.Temperatures.{judgeTemperatures, judgeQnh}
-use Rattle.metar.specs.Row.{row}
+use Rattle.metar_row.specs.Row.{row}
 use Rattle.metar.specs.Write.{noBody, judgeHead, judgeBody, judgeOf}
 use Rattle.metar_laws.proofs.Blanks.{Arrays, Bare, bare}
-use Rattle.metar_laws.proofs.Places.{cavok-classed, kept-name, kept-corrected, kept-station, kept-time, kept-nil, kept-automatic, kept-wind, kept-variation, kept-visibility, kept-temperatures, kept-qnh}
+use Rattle.elements.proofs.Classed.{cavok-classed}
+use Rattle.metar_laws.proofs.Places.{kept-name, kept-corrected, kept-station, kept-time, kept-nil, kept-automatic, kept-wind, kept-variation, kept-visibility, kept-temperatures, kept-qnh}
 use Rattle.metar_laws.proofs.Several.{kept-runways, kept-weathers, kept-sky, kept-recents}
 
 -- ---- what is judged fine

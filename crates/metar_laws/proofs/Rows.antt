@@ -1,13 +1,12 @@
 -- The row of METAR and SPECI: every group with a place's shape fits what covers it.
 -- Assumes nothing.
-use mathlib.Core.List.{[], _∷_}
 use Rattle.places.proofs.ReadBack.{one-pattern, two-patterns, Covered}
 use Rattle.wind.proofs.RoundTripWind.{wind-covered}
 use Rattle.weather.proofs.Covers.{weather-covered, recent-covered}
 use Rattle.sky.proofs.Groups.{sky-covered}
 use Rattle.aerodrome.proofs.RunwayBack.{runway-covered}
 use Rattle.aerodrome.proofs.TemperaturesBack.{temperatures-covered}
-use Rattle.metar.specs.Row.{row}
+use Rattle.metar_row.specs.Row.{row}
 
 -- WHAT HAS THE SHAPE OF A PLACE FITS THE PATTERNS THAT COVER IT.
 pub row-covered : Covered row

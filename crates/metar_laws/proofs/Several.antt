@@ -1,7 +1,6 @@
 -- The places of METAR and SPECI where several groups may stand: runway ranges, weather, clouds, recent weather. What is written there of a record that is
 -- judged fine is read back, group by group, as what is put.
 -- Assumes nothing.
-use Prim.Native.Nat.{_≤_}
 use mathlib.Core.Path.{_≡_, refl, sym, ap, _∙_}
 use mathlib.Core.Bool.{true, false, not, _&&_, _||_}
 use mathlib.Core.List.{[], _∷_, _++_}
@@ -14,7 +13,7 @@ use Rattle.shapes.specs.Pattern.{low, high, hasAny}
 use Rattle.shapes.specs.Shape.{leading, split, partsOf, spellings, hasShape}
 use Rattle.shapes.proofs.Patterns.{both}
 use Rattle.places.specs.Engine.{Group, Read, Good, Bad, placeAt}
-use Rattle.places.proofs.ReadBack.{All, fill}
+use Rattle.places.proofs.ReadBack.{fill}
 use Rattle.places.proofs.Sizes.{Sized, measured, sized-each}
 use Rattle.places.proofs.Kept.{Kept, keep-each}
 use Rattle.record.specs.declared.aerodrome.Weather.{Weather}
@@ -30,7 +29,7 @@ use Rattle.weather.proofs.RoundTrip.{weather-shaped, weather-back, weather-size
 use Rattle.weather.proofs.Lists.{addEach as addWeathers, weathers-back, weathers-all, weathers-three}
 use Rattle.sky.proofs.RoundTrip.{addEach as addSky, sky-shaped, sky-few, sky-back}
 use Rattle.aerodrome.proofs.RunwaysBack.{addEach as addRunways, runways-shaped, runways-few, runways-back}
-use Rattle.metar.specs.Row.{besideCavok, row}
+use Rattle.metar_row.specs.Row.{besideCavok, row}
 use Rattle.elements.proofs.Fills.{filled, filled-items}
 
 runway-measured : measured 11 (spellings (partsOf runwayShape)) ≡ true

@@ -14,23 +14,15 @@ use Rattle.text.specs.Groups.{join, written}
 use Rattle.text.specs.Write.{answerBy, bufferBy}
 use Rattle.text.proofs.Writes.{made-within, made-text}
 use Rattle.places.specs.Engine.{Group, Place, written as groupsAt}
+use Rattle.places.proofs.Rows.{groups-split}
 use Rattle.places.proofs.Sizes.{Sizes}
 use Rattle.record.specs.declared.aerodrome.Metar.{Metar}
 use Rattle.elements.specs.Weather.{showWeathers}
 use Rattle.elements.specs.Sky.{showSky}
-use Rattle.metar.specs.Row.{row}
+use Rattle.metar_row.specs.Row.{row}
 use Rattle.metar.specs.Write.{judgeOf, canonicalOf, writtenOf, bufferOf}
 
--- ---- a row in parts
-
-module _ {R : Type 0} (r : R) where
-  groups-append : (ps qs : List (Place R)) → groupsAt (ps ++ qs) r ≡ groupsAt ps r ++ groupsAt qs r
-  groups-append [] qs = refl
-  groups-append (p ∷ ps) qs =
-      ap (λ (gs : List Group). p .show r ++ gs) (groups-append ps qs) ∙ sym (append-assoc (p .show r) (groupsAt ps r) (groupsAt qs r))
-
-  pub groups-split : (n : ℕ) (ps : List (Place R)) → groupsAt ps r ≡ groupsAt (take n ps) r ++ groupsAt (drop n ps) r
-  groups-split n ps = ap (λ (l : List (Place R)). groupsAt l r) (sym (take-append-drop n ps)) ∙ groups-append (take n ps) (drop n ps)
+-- ---- the row in parts
 
 -- the row as the writer prints it
 pub row-in-parts : (r : Metar) → groupsAt row r ≡ groupsAt (take 6 row) r ++ (groupsAt (take 4 (drop 6 row)) r ++ (showWeathers (r .weathers) ++ (showSky (r .sky) ++ groupsAt (drop 12 row) r)))

@@ -5,15 +5,12 @@ use aerodrome::judge::judge_station;
 use aerodrome::judge::judge_temperatures;
 use aerodrome::judge::judge_time;
 use aerodrome::judge::no_runways;
-use record::aerodrome::Extremes;
+use elements::blank::no_extremes;
+use elements::blank::no_view;
+use elements::blank::no_wind;
+use elements::judge::is_missing;
 use record::aerodrome::Metar;
 use record::aerodrome::Temperatures;
-use record::aerodrome::Unit;
-use record::aerodrome::View;
-use record::aerodrome::Wind;
-use record::values::Direction;
-use record::values::Number;
-use record::values::Speed;
 use record::values::Tenths;
 use sky::judge::judge_sky;
 use sky::judge::no_sky;
@@ -28,12 +25,10 @@ use wind::judge::judge_visibility;
 use wind::judge::judge_wind;
 use wind::read::is_cavok;
 ghost use mathlib.Core.Path.{_≡_};
-ghost use mathlib.Core.Bool.{cond, not, _&&_};
+ghost use mathlib.Core.Bool.{cond};
 ghost use Rattle.text.specs.declared.kinds.Judged.the-variants as judged;
-ghost use Rattle.elements.specs.Wind.{noDirection, hasUnit, noGust};
-ghost use Rattle.elements.specs.Visibility.{noView};
-ghost use Rattle.aerodrome.specs.Runway.{isMissing};
-ghost use Rattle.metar.specs.Write.{noTenths, noExtremes, noBody, judgeHead, judgeBody, judgeOf};
+ghost use Rattle.aerodrome.specs.Temperatures.{noTenths, noTemperatures};
+ghost use Rattle.metar.specs.Write.{noBody, judgeHead, judgeBody, judgeOf};
 
 // ---- a NIL report: nothing after its time
 
@@ -46,84 +41,15 @@ fn no_tenths(t: Tenths) -> bool
     }
 }
 
-fn no_direction(d: Direction) -> bool
-    ensures { λ r. ⌜ r ≡ noDirection d ⌝ }
-{
-    match d {
-        Direction::Missing => true,
-        Direction::Calm => false,
-        Direction::Variable => false,
-        Direction::Degrees(_) => false,
-    }
-}
-
-fn no_speed(s: Speed) -> bool
-    ensures { λ r. ⌜ r ≡ noGust s ⌝ }
-{
-    match s {
-        Speed::Missing => true,
-        Speed::Is(_) => false,
-    }
-}
-
-fn no_unit(u: Unit) -> bool
-    ensures { λ r. ⌜ r ≡ not (hasUnit u) ⌝ }
-{
-    match u {
-        Unit::Missing => true,
-        Unit::Knots => false,
-        Unit::MetresPerSecond => false,
-        Unit::KilometresPerHour => false,
-    }
-}
-
-fn no_extremes(e: Extremes) -> bool
-    ensures { λ r. ⌜ r ≡ noExtremes e ⌝ }
-{
-    match e {
-        Extremes::Missing => true,
-        Extremes::Between { from: _, to: _ } => false,
-    }
-}
-
-fn no_view(v: View) -> bool
-    ensures { λ r. ⌜ r ≡ noView v ⌝ }
-{
-    match v {
-        View::Missing => true,
-        View::Cavok => false,
-        View::Metres(_) => false,
-    }
-}
-
-fn is_missing(n: Number) -> bool
-    ensures { λ r. ⌜ r ≡ isMissing n ⌝ }
-{
-    match n {
-        Number::Missing => true,
-        Number::Is(_) => false,
-    }
-}
-
-fn no_wind(w: Wind) -> bool
-    ensures { λ r. ⌜ r ≡ (noDirection (w .direction) && noGust (w .speed) && noGust (w .gust) && not (hasUnit (w .unit))) ⌝ }
-{
-    let direction = w.direction;
-    let speed = w.speed;
-    let gust = w.gust;
-    let unit = w.unit;
-    no_direction(direction) & no_speed(speed) & no_speed(gust) & no_unit(unit)
-}
-
 fn no_temperatures(t: Temperatures) -> bool
-    ensures { λ r. ⌜ r ≡ (noTenths (t .air) && noTenths (t .dew)) ⌝ }
+    ensures { λ r. ⌜ r ≡ noTemperatures t ⌝ }
 {
     let air = t.air;
     let dew = t.dew;
     no_tenths(air) & no_tenths(dew)
 }
 
-fn no_body(r: Metar) -> bool
+pub fn no_body(r: Metar) -> bool
     ensures { λ b. ⌜ b ≡ noBody r ⌝ }
 {
     let automatic = r.automatic;

@@ -27,7 +27,7 @@ ghost use Rattle.figures.specs.Quote.{bytes};
 ghost use Rattle.text.specs.declared.kinds.Judged.the-variants as judged;
 ghost use Rattle.text.specs.Groups.{written};
 ghost use Rattle.places.specs.Engine.{written as groupsAt};
-ghost use Rattle.metar.specs.Row.{row};
+ghost use Rattle.metar_row.specs.Row.{row};
 ghost use Rattle.metar.specs.Write.{judgeOf, writtenOf, bufferOf};
 
 fn put_name(out: &mut [u8], special: bool) -> usize

@@ -13,7 +13,7 @@ use Rattle.text.specs.Groups.{groupsFrom}
 use Rattle.text.specs.Text.{tailOf}
 use Rattle.shapes.specs.Pattern.{Pattern, hasAny}
 use Rattle.places.specs.Seek.{findOf, owed}
-use Rattle.places.specs.Engine.{Group, Good, Bad, Place, placeAt, standsOf, mustsOf, taken, onward, judged, On, Halt, Stop, step, Outcome, Fault, finish, closed, over, run}
+use Rattle.places.specs.Engine.{Group, Good, Place, placeAt, standsOf, mustsOf, taken, onward, judged, On, Halt, Stop, step, Outcome, Fault, finish, closed, over, run}
 use Rattle.places.specs.declared.kinds.Found.{Found}
 
 module _ {R : Type 0} (row : List (Place R)) where
@@ -22,9 +22,6 @@ module _ {R : Type 0} (row : List (Place R)) where
     pub taken-good : (acc′ : R) (b : Bool) → placeAt row i .ends ≡ b → placeAt row i .read n g acc ≡ Good acc′
         → taken (onward row i) (n + 1) (placeAt row i .read n g acc) ≡ On (cond b (length row) i) (n + 1) acc′
     taken-good acc′ b z e = rw (z, e)
-
-    pub taken-bad : (r : Refusal) → placeAt row i .read n g acc ≡ Bad r → taken (onward row i) (n + 1) (placeAt row i .read n g acc) ≡ Stop r
-    taken-bad r e = rw e
 
   -- reading ends at a position of the text
   pub closes : (at c k : ℕ) (acc : R) (b : Bool) → owed k (drop c (mustsOf row)) ≡ b → closed row at c k acc ≡ finish b at acc

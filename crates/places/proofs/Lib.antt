@@ -3,8 +3,6 @@ pub mod Seek
 pub mod Rows
 pub mod Going
 pub mod ReadBack
-pub mod Shelf
-pub mod Joined
 pub mod Examples
 pub mod Sizes
 pub mod Kept

@@ -5,12 +5,12 @@ use native.Mathlib.Omega.{arith}
 use native.Mathlib.Numerals.{add-one}
 use mathlib.Core.Path.{_≡_, refl, sym, ap, _∙_}
 use mathlib.Core.Bool.{Bool, true, false, _&&_, _||_, not, and-eq-true-iff, false≢true}
-use mathlib.Core.List.{List, [], _∷_, map}
-use lib.ListN.{length, getD, drop, length-map, List·getD-map}
+use mathlib.Core.List.{List, [], _∷_, _++_, map, append-assoc}
+use lib.ListN.{length, getD, take, drop, take-append-drop, length-map, List·getD-map}
 use lib.Dec.{ltb, eqb, eqb·zero-suc, eqb·suc-zero, eqb·suc-suc}
 use borrow.Author.Tests.{ltb-true, not-true}
 use Rattle.places.specs.Seek.{Stand, stands, seek, anywhere, orEarlier, findOf}
-use Rattle.places.specs.Engine.{Group, Place, nowhere, placeAt, standing, standsOf, mustsOf}
+use Rattle.places.specs.Engine.{Group, Place, nowhere, placeAt, standing, standsOf, mustsOf, written}
 use Rattle.places.specs.declared.kinds.Found.{Found}
 use Rattle.places.specs.declared.kinds.Found.the-variants.{Take, Skips, Full, Earlier, Unknown}
 
@@ -148,3 +148,13 @@ module _ {R : Type 0} where
   -- the place that ends the report, where there is one
   pub ends-at : (row : List (Place R)) (k i : ℕ) → onlyAt k (map (λ (p : Place R). p .ends) row) ≡ true → eqb i k ≡ placeAt row i .ends
   ends-at row k i e = only-at k (map (λ (p : Place R). p .ends) row) i e ∙ List·getD-map (λ (p : Place R). p .ends) row i nowhere
+
+-- ---- what a row writes, in two parts
+
+module _ {R : Type 0} (r : R) where
+  groups-append : (ps qs : List (Place R)) → written (ps ++ qs) r ≡ written ps r ++ written qs r
+  groups-append [] qs = refl
+  groups-append (p ∷ ps) qs = ap (λ (gs : List Group). p .show r ++ gs) (groups-append ps qs) ∙ sym (append-assoc (p .show r) (written ps r) (written qs r))
+
+  pub groups-split : (n : ℕ) (ps : List (Place R)) → written ps r ≡ written (take n ps) r ++ written (drop n ps) r
+  groups-split n ps = ap (λ (l : List (Place R)). written l r) (sym (take-append-drop n ps)) ∙ groups-append (take n ps) (drop n ps)

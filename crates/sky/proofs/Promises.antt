@@ -1,7 +1,7 @@
 -- What the round trip promises of a sky, in document 01's words: each height comes back as the reading of its class, near its value and never above
--- it, and all else as it was; and of two heights the greater never reads smaller.
+-- it, and all else as it was.
 -- Assumes nothing.
-use Prim.Native.Nat.{ℕ, _≤_}
+use Prim.Native.Nat.{ℕ}
 use mathlib.Core.Path.{_≡_, refl}
 use lib.Dec.{eqb}
 use mathlib.Core.List.{List, [], _∷_, map}
@@ -63,12 +63,3 @@ layers-read (l ∷ ls) = one-more (record { amount = refl; height = height-read 
 
 pub sky-read : (s : Sky) → SkyBack s (classSky s)
 sky-read s = record { cover = cover-read (s .cover); layers = layers-read (s .layers); count = refl }
-
--- ---- the order
-
--- a is not above b
-pub data HeightOrder : Number → Number → Type 0 where
-  heights : {m n : ℕ} → m ≤ n → HeightOrder (number.Is m) (number.Is n)
-
-pub height-order : (a b : Number) → HeightOrder a b → HeightOrder (writtenHeight a) (writtenHeight b)
-height-order _ _ (heights {m} {n} h) = heights (cloud-laws .order m n h)

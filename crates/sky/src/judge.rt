@@ -3,6 +3,7 @@
 use crate::read::is_layers;
 use crate::read::not_above;
 use crate::write::cloud_number;
+use elements::judge::metres_fit;
 use record::aerodrome::Amount;
 use record::aerodrome::Convective;
 use record::aerodrome::Cover;
@@ -18,20 +19,10 @@ ghost use mathlib.Core.Path.{_≡_};
 ghost use mathlib.Core.Bool.{not, _&&_};
 ghost use mathlib.Core.List.{[]};
 ghost use lib.ListN.{take, drop};
-ghost use lib.Dec.{eqb};
 ghost use Rattle.text.specs.Judge.{judge};
 ghost use Rattle.elements.specs.Judge.{metresFit};
-ghost use Rattle.elements.specs.Sky.{notAbove, isLayers, coverFits, judgeCover, hasAmount, isNoHeight, isNoConvective, isBlankLayer, allBlank, writtenHeight, judgeLayers, judgeSky};
+ghost use Rattle.elements.specs.Sky.{notAbove, coverFits, judgeCover, hasAmount, isNoHeight, isNoConvective, isBlankLayer, allBlank, writtenHeight, judgeLayers, judgeSky, noSky};
 ghost use Rattle.sky.specs.Judge.{lastHeight};
-
-fn metres_fit(forecast: bool, n: Number) -> bool
-    ensures { λ r. ⌜ r ≡ metresFit forecast n ⌝ }
-{
-    match n {
-        Number::Missing => !forecast,
-        Number::Is(m) => m <= 99999,
-    }
-}
 
 fn cover_fits(forecast: bool, c: Cover) -> bool
     ensures { λ r. ⌜ r ≡ coverFits forecast c ⌝ }
@@ -181,7 +172,7 @@ pub fn judge_sky(forecast: bool, cavok: bool, s: Sky) -> Judged
 
 // Nothing is said of the sky.
 pub fn no_sky(s: Sky) -> bool
-    ensures { λ r. ⌜ r ≡ (isLayers (s .cover) && eqb (s .count) 0 && allBlank (s .layers)) ⌝ }
+    ensures { λ r. ⌜ r ≡ noSky s ⌝ }
 {
     let c = s.cover;
     let layers = s.layers;

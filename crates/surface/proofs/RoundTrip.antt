@@ -1,12 +1,11 @@
 -- The round trip of section 1 after Nddff, group by group: what the writer judges fine and writes has its shape, and is read back as it was.
 -- Assumes nothing.
-use mathlib.Core.Path.{_≡_, refl, sym, ap, _∙_}
+use mathlib.Core.Path.{_≡_, refl, ap, _∙_}
 use mathlib.Core.Bool.{Bool, true, false, cond, not, _&&_, _||_, or-true, false≢true}
 use mathlib.Core.List.{List, [], _∷_, _++_}
 use mathlib.Core.Logic.{_⊎_, inl, inr, ⊎-elim}
 use Prim.Native.Nat.{ℕ, suc, _+_, _*_, _/_, _%_, _≤_, _<_}
 use native.Mathlib.Omega.{arith}
-use lib.ListN.{length}
 use lib.Dec.{leb, ltb, eqb}
 use lib.IntN.{ℤ, pos, negsuc, natAbs}
 use borrow.Author.Tests.{leb-true, leb-false, le-leb, lt-leb, le-ltb, lt-ltb, ltb-true, ltb-false, eqb-true, eqb-false, ne-eqb, not-true}
@@ -76,21 +75,9 @@ Each P (g ∷ gs) = P g × Each P gs
 
 -- so there is at most one, there is one where one must stand, each has the shape and says the part, and where there is none the part is blank
 module _ {X : Type 0} {shape : Pattern} {must : Bool} {says : Group → Said} {meant : X → Said} {blank x : X} where
-  pub back-few : {gs : List Group} → Back shape must says meant blank x gs → length gs ≤ 1
-  back-few (none m e) = omega arith
-  back-few (one h s) = omega arith
-
-  pub back-there : {gs : List Group} → Back shape must says meant blank x gs → must ≡ true → 0 < length gs
-  back-there (none m e) t = absurd (false≢true (sym m ∙ t))
-  back-there (one h s) t = omega arith
-
   pub back-shaped : {gs : List Group} → Back shape must says meant blank x gs → Each (λ g. hasPattern g shape ≡ true) gs
   back-shaped (none m e) = tt
   back-shaped (one h s) = (h, tt)
-
-  pub back-says : {gs : List Group} → Back shape must says meant blank x gs → Each (λ g. says g ≡ meant x) gs
-  back-says (none m e) = tt
-  back-says (one h s) = (s, tt)
 
 -- ---- 00fff
 

@@ -1,3 +1,2 @@
--- Laws that the proofs of several printers and judgements use.
+-- Laws that the proofs of several printers use.
 pub mod Writings
-pub mod Judging

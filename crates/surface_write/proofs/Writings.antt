@@ -4,12 +4,12 @@ use mathlib.Core.Path.{_≡_, refl}
 use mathlib.Core.Bool.{Bool, true, false, cond, not, _||_}
 use mathlib.Core.List.{[], _∷_}
 use Rattle.figures.specs.Quote.{bytes}
-use Rattle.figures.specs.Figures.{figures}
+use Rattle.figures.specs.Figures.{figures, numberText}
 use Rattle.surface.specs.Reads.{Group}
 use Rattle.surface.specs.Shows.{ifRequired}
 
-pub sign-figure : (minus : Bool) → figures 1 (cond minus 1 0) ≡ cond minus (bytes "1") (bytes "0")
-unfolding figures
+pub sign-figure : (minus : Bool) → numberText 1 (cond minus 1 0) ≡ cond minus (bytes "1") (bytes "0")
+unfolding figures numberText
 sign-figure true = refl
 sign-figure false = refl
 

@@ -1,3 +1,2 @@
-// The writer of the groups of SYNOP and SHIP: what is judged of each, and how each is written.
-pub mod judge;
+// The writer of the groups of SYNOP and SHIP: how each is written.
 pub mod write;

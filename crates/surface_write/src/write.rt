@@ -37,32 +37,25 @@ use scales::metres::base_figure;
 use scales::metres::land_figure;
 use scales::metres::sea_figure;
 use scales::rain::rain_figure;
+use surface_judge::silent::no_clouds;
+use surface_judge::silent::no_weather;
+use surface_judge::slots::name_part;
 use text::write::open_group;
 use text::write::put_if;
 ghost use mathlib.Core.Path.{_≡_};
 ghost use mathlib.Core.Bool.{cond};
 ghost use mathlib.Core.List.{_∷_, [], _++_};
-ghost use lib.ListN.{take};
 ghost use lib.Dec.{leb};
-ghost use Rattle.figures.specs.Figures.{figures, numberText, fieldText};
+ghost use Rattle.figures.specs.Figures.{numberText, fieldText};
 ghost use Rattle.figures.specs.Signed.{negative};
 ghost use Rattle.figures.specs.Put.{Put};
 ghost use Rattle.figures.specs.Quote.{bytes};
 ghost use Rattle.text.specs.Groups.{written};
 ghost use Rattle.scales.specs.Rounded.{rainFigure};
-ghost use Rattle.surface.specs.Shows.{fieldOf, fieldBy, magnitudeOf, signedValue, signText, isMissing, noWeather, noClouds};
+ghost use Rattle.surface.specs.Shows.{fieldOf, fieldBy, magnitudeOf, signedValue, signText};
 ghost use Rattle.surface.specs.Shows.{baseField, sightField, directionField, speedField, weatherText, cloudsText};
 ghost use Rattle.surface.specs.Shows.{showTime, showStation, showSign, showLatitude, showLongitude, showIndicators, showWind, showSpeed, showAir, showMoisture, showPressure};
 ghost use Rattle.surface.specs.Shows.{showLevel, showTendency, showRainfall, showWeather, showClouds, showClock};
-
-pub fn is_missing(n: Number) -> bool
-    ensures { λ r. ⌜ r ≡ isMissing n ⌝ }
-{
-    match n {
-        Number::Missing => true,
-        Number::Is(_) => false,
-    }
-}
 
 fn field_of(n: Number) -> Field
     ensures { λ r. ⌜ r ≡ fieldOf n ⌝ }
@@ -99,14 +92,22 @@ fn put_coded(out: &mut [u8], at: usize, first: &[u8], width: usize, n: u32) -> u
     put_number(out, begun, width, n)
 }
 
-// A whole group of five: its first byte, a figure and a number of three figures.
-fn put_three(out: &mut [u8], at: usize, first: u8, figure: u32, n: u32) -> usize
-    ensures { λ r. ⌜ Put (now (out .entry)) at (written at ((first ∷ (figures 1 figure ++ figures 3 n)) ∷ [])) r (now (out .exit)) ⌝ }
+// A whole group: its first byte and two numbers.
+fn put_two(
+    out: &mut [u8],
+    at: usize,
+    first: u8,
+    width: usize,
+    n: u32,
+    width2: usize,
+    n2: u32,
+) -> usize
+    ensures { λ r. ⌜ Put (now (out .entry)) at (written at ((first ∷ (numberText width n ++ numberText width2 n2)) ∷ [])) r (now (out .exit)) ⌝ }
 {
     let opened = open_group(out, at);
     let begun = put_byte(out, opened, first);
-    let told = put_number(out, begun, 1, figure);
-    put_number(out, told, 3, n)
+    let told = put_number(out, begun, width, n);
+    put_number(out, told, width2, n2)
 }
 
 // YYGGiw
@@ -128,13 +129,6 @@ pub fn put_station(out: &mut [u8], at: usize, n: Number) -> usize
 {
     let opened = open_group(out, at);
     put_part(out, opened, 5, n)
-}
-
-// The slots of a name up to its count; all where the count is too large.
-pub fn name_part(s: &[u8], length: usize) -> &[u8]
-    ensures { λ r. ⌜ now r ≡ take length (now (s .entry)) ⌝ }
-{
-    if length <= s.len() { &s[..length] } else { s }
 }
 
 // A call sign.
@@ -298,7 +292,7 @@ fn sign_figure(t: i32) -> u32
 fn put_signed(out: &mut [u8], at: usize, first: u8, t: i32) -> usize
     ensures { λ r. ⌜ Put (now (out .entry)) at (written at ((first ∷ signText t) ∷ [])) r (now (out .exit)) ⌝ }
 {
-    put_three(out, at, first, sign_figure(t), signed::magnitude(t))
+    put_two(out, at, first, 1, sign_figure(t), 3, signed::magnitude(t))
 }
 
 // 1sTTT
@@ -343,7 +337,7 @@ pub fn put_level(out: &mut [u8], at: usize, l: Level) -> usize
     match is {
         Height::Missing => at,
         Height::SeaLevel(p) => put_coded(out, at, b"4", 4, p % 10000),
-        Height::Surface { level, height } => put_three(out, at, b'4', level, height),
+        Height::Surface { level, height } => put_two(out, at, b'4', 1, level, 3, height),
     }
 }
 
@@ -355,7 +349,7 @@ pub fn put_tendency(out: &mut [u8], at: usize, t: Tendency) -> usize
     match is {
         Change::Missing => at,
         Change::Is { tendency, change } => {
-            put_three(out, at, b'5', tendency, signed::magnitude(change))
+            put_two(out, at, b'5', 1, tendency, 3, signed::magnitude(change))
         }
     }
 }
@@ -380,15 +374,6 @@ pub fn put_rainfall(out: &mut [u8], at: usize, required: bool, r: Rainfall) -> u
     }
 }
 
-pub fn no_weather(w: Weather) -> bool
-    ensures { λ r. ⌜ r ≡ noWeather w ⌝ }
-{
-    let present = w.present;
-    let past = w.past;
-    let past2 = w.past2;
-    is_missing(present) & is_missing(past) & is_missing(past2)
-}
-
 fn put_weather_group(out: &mut [u8], at: usize, w: Weather) -> usize
     ensures { λ r. ⌜ Put (now (out .entry)) at (written at (weatherText w ∷ [])) r (now (out .exit)) ⌝ }
 {
@@ -411,16 +396,6 @@ pub fn put_weather(out: &mut [u8], at: usize, required: bool, w: Weather) -> usi
     } else {
         at
     }
-}
-
-pub fn no_clouds(c: Clouds) -> bool
-    ensures { λ r. ⌜ r ≡ noClouds c ⌝ }
-{
-    let amount = c.amount;
-    let low = c.low;
-    let middle = c.middle;
-    let high = c.high;
-    is_missing(amount) & is_missing(low) & is_missing(middle) & is_missing(high)
 }
 
 fn put_clouds_group(out: &mut [u8], at: usize, c: Clouds) -> usize
@@ -449,15 +424,6 @@ pub fn put_clouds(out: &mut [u8], at: usize, c: Clouds) -> usize
     }
 }
 
-fn put_clock_group(out: &mut [u8], at: usize, hour: u32, minute: u32) -> usize
-    ensures { λ r. ⌜ Put (now (out .entry)) at (written at ((bytes "9" ++ figures 2 hour ++ figures 2 minute) ∷ [])) r (now (out .exit)) ⌝ }
-{
-    let opened = open_group(out, at);
-    let begun = put_byte(out, opened, b'9');
-    let timed = put_number(out, begun, 2, hour);
-    put_number(out, timed, 2, minute)
-}
-
 // 9GGgg
 pub fn put_clock(out: &mut [u8], at: usize, c: Clock) -> usize
     ensures { λ r. ⌜ Put (now (out .entry)) at (written at (showClock c)) r (now (out .exit)) ⌝ }
@@ -465,6 +431,6 @@ pub fn put_clock(out: &mut [u8], at: usize, c: Clock) -> usize
     let is = c.is;
     match is {
         Observed::Missing => at,
-        Observed::At { hour, minute } => put_clock_group(out, at, hour, minute),
+        Observed::At { hour, minute } => put_two(out, at, b'9', 2, hour, 2, minute),
     }
 }

@@ -31,7 +31,7 @@ use Rattle.surface.specs.Reads.{saidTime, saidStation, saidLatitude, saidLongit
 use Rattle.surface.specs.Shows.{showTime, showStation, showSign, showLatitude, showLongitude, showIndicators, showWind}
 use Rattle.surface.specs.Classes.{classIndicators, unsignedPosition, windInTwo}
 use Rattle.synop_section.specs.declared.kinds.Reading.{Reading}
-use Rattle.synop_section.specs.Row.{withSaid}
+use Rattle.synop_row.specs.Row.{withSaid}
 use Rattle.synop_section.specs.Answer.{begun, section, reading, answer}
 
 -- ---- the groups through Nddff

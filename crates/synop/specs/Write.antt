@@ -37,8 +37,8 @@ use Rattle.record.specs.declared.surface.Synop.{Synop}
 use Rattle.surface.specs.Shows.{isMissing, noWeather, noClouds, showTime, showStation, showSign, showLatitude, showLongitude, showIndicators, showWind}
 use Rattle.surface.specs.Judge.{judgeTime, judgeStation, judgeSign, judgePosition, judgeIndicators, judgeWind, judgeAir, judgeMoisture, judgePressure, judgeLevel, judgeTendency, judgeRainfall, judgeWeather, judgeClouds, judgeClock, noSpeed, noFall}
 use Rattle.surface.specs.Classes.{classIndicators, classWind, classRainfall}
-use Rattle.synop_section.specs.declared.kinds.Needs.{Needs}
-use Rattle.synop_section.specs.Row.{needsOf, row}
+use Rattle.synop_row.specs.declared.kinds.Needs.{Needs}
+use Rattle.synop_row.specs.Row.{needsOf, row}
 
 -- ---- foreign fields: "a field foreign to the kind (or to NIL, CNL) that is not blank"
 

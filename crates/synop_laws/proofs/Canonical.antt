@@ -32,7 +32,7 @@ use Rattle.surface.specs.Judge.{judgeIndicators, judgeWind, windFits, fallFits}
 use Rattle.surface.proofs.RoundTripHead.{wind-fine, indicators-again, indicators-classed, wind-again, wind-classed}
 use Rattle.synop_section.specs.declared.kinds.Reading.{Reading}
 use Rattle.text.specs.declared.kinds.Written.the-variants as answer
-use Rattle.synop_section.specs.Row.{needsOf, row}
+use Rattle.synop_row.specs.Row.{needsOf, row}
 use Rattle.synop_section.specs.Answer.{section, begun, accepted}
 use Rattle.synop.specs.Read.{posts, walk, fromFirst, readOf}
 use Rattle.synop.specs.Write.{noSign, noPosition, noSurface, foreignBlank, judgeSite, judgeSection, judgeSurface, judgeOf, siteGroups, surfaceGroups, groupsOf, canonicalOf, classedOf, writtenOf, bufferOf}

@@ -20,10 +20,9 @@ use Rattle.surface.specs.Reads.{timeOf, saidTime, saidStation, latitudeIs, said
 use Rattle.surface.specs.Shows.{showTime, showStation, showSign, showLatitude, showLongitude, showIndicators, showWind, showSpeed, showAir, showMoisture, showPressure, showLevel, showTendency, showRainfall, weatherText, showWeather, cloudsText, showClouds, showClock}
 use Rattle.synop_section.specs.Answer.{section}
 use Rattle.synop.specs.Read.{withHead, signOf, posts, walk, fromFirst, readOf}
-use Rattle.synop_section.specs.Row.{needsOf, withSaid, row, stopWords}
+use Rattle.synop_row.specs.Row.{needsOf, withSaid, row, stopWords}
 use Rattle.synop.specs.Write.{noSurface, foreignBlank, judgeSite, judgeSection, judgeSurface, judgeOf, siteGroups, surfaceGroups, groupsOf, canonicalOf}
 use Rattle.scales.specs.Scale.{run as classes}
-use Rattle.figures.specs.Quote.{bytes}
 use Rattle.text.specs.Refusals.{numberOf}
 use Rattle.text.specs.Example.{Example, reads, refuses}
 use Rattle.text.specs.declared.kinds.Judged.the-variants as judged

@@ -21,7 +21,7 @@ use Rattle.text.specs.declared.kinds.Judged.the-variants as judged
 use Rattle.surface.specs.Reads.{saidTime, saidStation, saidLatitude, saidLongitude, saidIndicators, saidWind}
 use Rattle.surface.specs.Judge.{judgeTime, judgeStation, judgeSign, judgePosition, judgeIndicators, judgeWind}
 use Rattle.surface.proofs.RoundTripHead.{Stands, time-back, station-back, sign-back, latitude-back, longitude-back, indicators-back, wind-back}
-use Rattle.synop_section.specs.Row.{withSaid}
+use Rattle.synop_row.specs.Row.{withSaid}
 use Rattle.synop_section.specs.Answer.{begun}
 use Rattle.synop.specs.Read.{Post, withHead, timePost, stationPost, signOf, signPost, latitudePost, longitudePost, indicatorsPost, windPost, posts, isNil, walk}
 use Rattle.synop.specs.Write.{judgeSite}

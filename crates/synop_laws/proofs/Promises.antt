@@ -1,10 +1,10 @@
 -- What the round trip promises, in document 01's words: each exact field comes back as it was, each rounded number as the reading of its class, near
--- its value and never above it where the scale rounds down; and of two values on one scale the greater never reads smaller.
+-- its value and never above it where the scale rounds down.
 -- Assumes nothing.
 use Prim.Native.Nat.{ℕ, _+_, _-_, _*_, _/_, _%_, _≤_, _<_}
 use native.Mathlib.Omega.{arith}
 use mathlib.Core.Path.{_≡_, refl}
-use mathlib.Core.Bool.{true, false, false≢true}
+use mathlib.Core.Bool.{true, false≢true}
 use mathlib.Core.Logic.{⊎-elim}
 use lib.ListN.{length}
 use lib.Dec.{leb, eqb}
@@ -12,12 +12,12 @@ use borrow.Author.Tests.{leb-true, le-ltb, lt-ltb}
 use Rattle.shapes.proofs.Patterns.{both}
 use Rattle.scales.specs.declared.kinds.Rain.{Rain}
 use Rattle.scales.specs.declared.kinds.Rain.the-variants as rain
-use Rattle.scales.specs.Scale.{Scale, Of, Open, classOf, lengthOf, footOf, lastIn}
 use Rattle.scales.specs.Metres.{land, sea, base}
-use Rattle.scales.specs.Rounded.{roundedRain, rainRank, roundedDirection}
-use Rattle.scales.proofs.Laws.{Lawful, reached}
+use Rattle.scales.specs.Rounded.{roundedRain, roundedDirection}
+use Rattle.scales.proofs.Laws.{reached}
+use Rattle.scales.proofs.Down.{Down, down}
 use Rattle.scales.proofs.MetresLaws.{land-laws, sea-laws, base-laws}
-use Rattle.scales.proofs.RainLaws.{rain-exact, rain-most, rain-order}
+use Rattle.scales.proofs.RainLaws.{rain-exact, rain-most}
 use Rattle.scales.proofs.DirectionLaws.{direction-rounds, direction-near}
 use Rattle.record.specs.declared.values.Number.{Number}
 use Rattle.record.specs.declared.values.Number.the-variants as number
@@ -44,15 +44,6 @@ use Rattle.synop_laws.proofs.Sections.{classedSurface}
 
 -- ---- how far off
 
--- A value in metres and its reading: "the value less its reading is 0 or more and smaller than the class's length. .. the last class is open above."
-pub record Down (s : Scale ℕ) (value read : ℕ) : Type 0 where
-  pub not-above : read ≤ value
-  pub within : (l : ℕ) → lengthOf s value ≡ Of l → value < read + l
-  pub open-last : lengthOf s value ≡ Open → classOf s value ≡ lastIn (s .lowest) (s .above)
-
-down : (s : Scale ℕ) → Lawful eqb s → (v : ℕ) → Down s v (footOf s v)
-down s l v = record { not-above = l .not-above v; within = l .within v; open-last = l .open-last v }
-
 -- h and its reading
 pub data BaseRead : Number → Number → Type 0 where
   no-base : BaseRead number.Missing number.Missing
@@ -60,7 +51,7 @@ pub data BaseRead : Number → Number → Type 0 where
 
 pub base-read : (b : Number) → BaseRead b (classBase b)
 base-read number.Missing = no-base
-base-read (number.Is m) = base-metres (down base base-laws m)
+base-read (number.Is m) = base-metres (down eqb base base-laws m)
 
 -- VV and its reading, on the same scale
 pub data SightRead : Sight → Sight → Type 0 where
@@ -70,8 +61,8 @@ pub data SightRead : Sight → Sight → Type 0 where
 
 pub sight-read : (v : Sight) → SightRead v (classSight v)
 sight-read sight.Missing = no-sight
-sight-read (sight.Land m) = land-metres (down land land-laws m)
-sight-read (sight.Sea m) = sea-metres (down sea sea-laws m)
+sight-read (sight.Land m) = land-metres (down eqb land land-laws m)
+sight-read (sight.Sea m) = sea-metres (down eqb sea sea-laws m)
 
 -- An amount of rain and its reading: "Value less reading, in tenths: .. -5 to 4; 989 (from 988.5 mm) is open and is read 989.0"; below 1.0 mm, and
 -- trace, exact.
@@ -178,46 +169,3 @@ unfolding classedOf
 promise r nine e =
     let f = parts-fit r e in
     rw (read-canonical r nine e) (refl, record { ship = refl; site = refl; surface = surface-read (r .surface) (f .0) (f .1) })
-
--- ---- the order
-
--- a is not above b, both on one scale
-pub data BaseOrder : Number → Number → Type 0 where
-  bases : {m n : ℕ} → m ≤ n → BaseOrder (number.Is m) (number.Is n)
-
-pub data SightOrder : Sight → Sight → Type 0 where
-  on-land : {m n : ℕ} → m ≤ n → SightOrder (sight.Land m) (sight.Land n)
-  at-sea : {m n : ℕ} → m ≤ n → SightOrder (sight.Sea m) (sight.Sea n)
-
--- "Trace is least."
-pub data FallOrder : Fall → Fall → Type 0 where
-  amounts : {a b : Rain} {t u : Number} → rainRank a ≤ rainRank b → FallOrder (fall.Is a t) (fall.Is b u)
-
-pub base-order : (a b : Number) → BaseOrder a b → BaseOrder (classBase a) (classBase b)
-base-order _ _ (bases {m} {n} h) = bases (base-laws .order m n h)
-
-pub sight-order : (a b : Sight) → SightOrder a b → SightOrder (classSight a) (classSight b)
-sight-order _ _ (on-land {m} {n} h) = on-land (land-laws .order m n h)
-sight-order _ _ (at-sea {m} {n} h) = at-sea (sea-laws .order m n h)
-
-pub fall-order : (a b : Fall) → fallFits a ≡ true → fallFits b ≡ true → FallOrder a b → FallOrder (classFall a) (classFall b)
-fall-order _ _ e f (amounts {a} {b} {t} {u} h) =
-    amounts {a = classRain a} {b = classRain b}
-    (rw (rain-classed a (both (amountFits a) (oneFigure t) e .0), rain-classed b (both (amountFits b) (oneFigure u) f .0)) (rain-order a b h))
-
--- OF TWO RECORDS THAT THE WRITER ACCEPTS, the greater value never reads smaller.
-pub record Ordered (r q back-r back-q : Surface) : Type 0 where
-  pub base : BaseOrder (r .indicators .base) (q .indicators .base) → BaseOrder (back-r .indicators .base) (back-q .indicators .base)
-  pub sight : SightOrder (r .indicators .sight) (q .indicators .sight) → SightOrder (back-r .indicators .sight) (back-q .indicators .sight)
-  pub rainfall : FallOrder (r .rainfall .is) (q .rainfall .is) → FallOrder (back-r .rainfall .is) (back-q .rainfall .is)
-
-pub order : (r q : Synop) → length (r .site .sign .letters) ≡ 9 → length (q .site .sign .letters) ≡ 9 → judgeOf r ≡ judged.Fine → judgeOf q ≡ judged.Fine
-    → Ordered (r .surface) (q .surface) (readOf (canonicalOf r) .report .surface) (readOf (canonicalOf q) .report .surface)
-unfolding classedOf
-order r q nine nine′ e f =
-    rw (read-canonical r nine e, read-canonical q nine′ f)
-    (record {
-      base = base-order (r .surface .indicators .base) (q .surface .indicators .base);
-      sight = sight-order (r .surface .indicators .sight) (q .surface .indicators .sight);
-      rainfall = fall-order (r .surface .rainfall .is) (q .surface .rainfall .is) (parts-fit r e .1) (parts-fit q f .1);
-    })

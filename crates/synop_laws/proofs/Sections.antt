@@ -32,8 +32,8 @@ use Rattle.surface.specs.Shows.{isGale, speedGroup, showSpeed}
 use Rattle.surface.specs.Judge.{fallFits, noFall, judgeWind, judgeAir, judgeMoisture, judgePressure, judgeLevel, judgeTendency, judgeRainfall, judgeWeather, judgeClouds, judgeClock}
 use Rattle.surface.specs.Classes.{speedInTwo, windInTwo}
 use Rattle.surface.proofs.RoundTrip.{Back, none, one, Each, back-shaped, meantSpeed, speed-back, air-back, moisture-back, moisture-covered, pressure-back, level-back, tendency-back, rainfall-back, weather-back, clouds-back, clock-back, rainfall-again, rainfall-classed}
-use Rattle.synop_section.specs.declared.kinds.Needs.{Needs}
-use Rattle.synop_section.specs.Row.{needsOf, setSpeed, withSaid, placeFor, row, stopWords}
+use Rattle.synop_row.specs.declared.kinds.Needs.{Needs}
+use Rattle.synop_row.specs.Row.{needsOf, setSpeed, withSaid, placeFor, row, stopWords}
 use Rattle.synop_section.specs.Answer.{section}
 use Rattle.synop.specs.Write.{judgeSection}
 

@@ -1,11 +1,11 @@
--- The laws of section 1: its row as the code's arrays hold it, one group of it, and how reading goes on from group to group.
+-- The laws of section 1: one group of its row, and how reading goes on from group to group.
 -- Assumes nothing.
 use Prim.Native.Nat.{ℕ, zero, suc, _+_, _≤_, _<_, zero-le}
 use native.Mathlib.Omega.{arith}
 use mathlib.Core.Path.{_≡_, refl, sym, ap, _∙_}
-use mathlib.Core.Bool.{Bool, true, false, not, cond, _&&_, _||_, or-false, and-eq-true-iff}
+use mathlib.Core.Bool.{Bool, true, false, not, cond, _&&_, and-eq-true-iff}
 use mathlib.Core.List.{List, [], _∷_}
-use lib.ListN.{length, drop, replicate, List·getD-eq-default}
+use lib.ListN.{length, drop, List·getD-eq-default}
 use lib.Dec.{eqb}
 use borrow.Author.Tests.{eqb-true, not-true}
 use types.Run.{OneOf, miss}
@@ -15,33 +15,29 @@ use Rattle.text.specs.declared.kinds.Refusal.the-variants as refusal
 use Rattle.text.specs.Groups.{groupsFrom, partOf}
 use Rattle.text.proofs.Groups.{Follows}
 use Rattle.text.specs.Text.{tailOf}
-use Rattle.figures.specs.Quote.{bytes}
-use Rattle.shapes.specs.Pattern.{hasPattern, hasAny}
+use Rattle.shapes.specs.Pattern.{hasAny}
 use Rattle.places.specs.declared.kinds.Found.{Found}
 use Rattle.places.specs.declared.kinds.Found.the-variants.{Take, Skips, Full, Earlier, Unknown}
-use Rattle.places.specs.Seek.{stands, findOf, owed, refusalOf}
+use Rattle.places.specs.Seek.{findOf, owed, refusalOf}
 use Rattle.places.specs.Engine.{Group, Read, Good, Bad, Place, nowhere, placeAt, standsOf, mustsOf, taken, judged, onward, Step, On, Halt, Stop, step, Outcome, finish, closed, over}
-use Rattle.places.proofs.Rows.{row-stands, taken-open}
+use Rattle.places.proofs.Rows.{taken-open}
 use Rattle.places.proofs.Going.{closes, step-word, step-by, going, going-over, going-on, going-halt, going-fault}
 use Rattle.places.proofs.kinds.Found as found
 use Rattle.record.specs.declared.surface.Surface.{Surface}
 use Rattle.record.specs.declared.surface.Synop.{Synop}
 use Rattle.surface.specs.declared.kinds.Said.{Said}
 use Rattle.surface.specs.declared.kinds.Said.the-variants as said
-use Rattle.synop_section.specs.declared.kinds.Needs.{Needs}
+use Rattle.synop_row.specs.declared.kinds.Needs.{Needs}
+use Rattle.synop_row.specs.Row.{withSaid, row, stopWords}
+use Rattle.synop_row.proofs.Tests.{row-length}
 use Rattle.synop_section.specs.declared.kinds.Next.the-variants as next
 use Rattle.synop_section.specs.declared.kinds.Section.{Section}
 use Rattle.synop_section.specs.declared.kinds.Stepped.{Stepped}
 use Rattle.synop_section.specs.declared.kinds.Reading.{Reading}
-use Rattle.synop_section.specs.Row.{withSaid, row, stopWords}
-use Rattle.synop_section.specs.Section.{shapesOf, Says, stepped, stepOf}
+use Rattle.synop_section.specs.Section.{Says, stepped, stepOf}
 use Rattle.synop_section.specs.Answer.{ontoReport, refused, answer}
 
 -- ---- the row
-
-pub row-length : (n : Needs) → length (row n) ≡ 10
-unfolding row
-row-length n = refl
 
 -- one group may stand at each of these places, and none ends the report
 abbrev single : Place Surface → Bool
@@ -71,27 +67,6 @@ endless (p ∷ ps) e (suc i) = endless ps (rest p ps e) i
 row-singles : (n : Needs) → singles (row n) ≡ true
 unfolding row
 row-singles n = refl
-
--- the three arrays say the row
-row-is : (n : Needs) (g : Group) → stands (shapesOf g) (replicate 10 1) (mustsOf (row n)) ≡ standsOf (row n) g
-unfolding row shapesOf
-row-is n g = row-stands (row n) g
-
-pub found-at : (n : Needs) (g : Group) (c k : ℕ) {hs us : List Bool} → hs ≡ shapesOf g → us ≡ mustsOf (row n)
-    → findOf (stands hs (replicate 10 1) us) c k ≡ findOf (standsOf (row n) g) c k
-found-at n g c k p q = rw (p, q, row-is n g)
-
-any-of : (a b c d : Bool) → (((a || b) || c) || d) ≡ (a || (b || (c || (d || false))))
-any-of true b c d = refl
-any-of false true c d = refl
-any-of false false true d = refl
-any-of false false false d = sym (or-false d)
-
-pub stop-word : (g : Group) {a b c d : Bool}
-    → a ≡ hasPattern g (bytes "222??") → b ≡ hasPattern g (bytes "333") → c ≡ hasPattern g (bytes "444") → d ≡ hasPattern g (bytes "555")
-    → (((a || b) || c) || d) ≡ hasAny stopWords g
-unfolding stopWords hasAny
-stop-word g {a} {b} {c} {d} p q r s = rw (← p, ← q, ← r, ← s) (any-of a b c d)
 
 -- ---- what a group says at a place
 

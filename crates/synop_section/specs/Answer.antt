@@ -14,7 +14,7 @@ use Rattle.record.specs.declared.surface.Synop.{Synop}
 use Rattle.record.specs.Blank.{blankSynop}
 use Rattle.record.specs.Set.{setSurface}
 use Rattle.synop_section.specs.declared.kinds.Reading.{Reading}
-use Rattle.synop_section.specs.Row.{needsOf, row, stopWords}
+use Rattle.synop_row.specs.Row.{needsOf, row, stopWords}
 
 -- a blank record of the kind
 abbrev pub begun : Bool → Synop

@@ -2,41 +2,14 @@
 -- Assumes nothing: these are definitions.
 use Prim.Native.Nat.{ℕ}
 use mathlib.Core.Path.{_≡_}
-use mathlib.Core.Bool.{Bool, _||_}
-use mathlib.Core.List.{List, [], _∷_}
-use lib.Dec.{eqb}
-use Rattle.figures.specs.Quote.{bytes}
-use Rattle.shapes.specs.Pattern.{hasPattern}
 use Rattle.places.specs.Engine.{Group, Read, Good, Bad, placeAt, Step, On, Halt, Stop, step}
 use Rattle.record.specs.declared.surface.Surface.{Surface}
 use Rattle.surface.specs.declared.kinds.Said.{Said}
-use Rattle.synop_section.specs.declared.kinds.Needs.{Needs}
+use Rattle.synop_row.specs.declared.kinds.Needs.{Needs}
+use Rattle.synop_row.specs.Row.{withSaid, row, stopWords}
 use Rattle.synop_section.specs.declared.kinds.Next.the-variants as next
 use Rattle.synop_section.specs.declared.kinds.Section.{Section}
 use Rattle.synop_section.specs.declared.kinds.Stepped.{Stepped}
-use Rattle.synop_section.specs.Row.{withSaid, row, stopWords}
-
--- the figures of iR and ix that require a group
-abbrev pub rainDue : ℕ → Bool
-rainDue r = eqb r 0 || eqb r 1
-
-abbrev pub weatherDue : ℕ → Bool
-weatherDue x = eqb x 1 || eqb x 4 || eqb x 7
-
--- which places of the row have the group's shape
-unfoldable pub shapesOf : Group → List Bool
-shapesOf g =
-    hasPattern g (bytes "00###")
-    ∷ hasPattern g (bytes "1####")
-    ∷ hasPattern g (bytes "2####")
-    ∷ hasPattern g (bytes "3####")
-    ∷ hasPattern g (bytes "4####")
-    ∷ hasPattern g (bytes "5####")
-    ∷ hasPattern g (bytes "6####")
-    ∷ hasPattern g (bytes "7####")
-    ∷ hasPattern g (bytes "8####")
-    ∷ hasPattern g (bytes "9####")
-    ∷ []
 
 -- what a group says at a place, as the place adds it to the surface
 abbrev pub Says : Needs → ℕ → Group → Said → Type 0

@@ -4,13 +4,6 @@ use record::surface::Synop;
 use text::kinds::Refusal;
 use text::kinds::Verdict;
 
-// What iR, ix and ff say of the groups to come: a 6 group, a 7 group and 00fff are required. A 6 or 7 group that is not required is forbidden.
-pub struct Needs {
-    pub rain: bool,
-    pub weather: bool,
-    pub gale: bool,
-}
-
 // What one group of section 1 comes to: reading goes on, it stops at a stop word, or the group is refused.
 pub enum Next {
     On,

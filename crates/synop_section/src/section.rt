@@ -1,6 +1,5 @@
 // Section 1 after Nddff: 00fff and the groups 1 to 9, each read at its place of the row, up to a stop word or the end.
 use crate::answer;
-use crate::kinds::Needs;
 use crate::kinds::Next;
 use crate::kinds::Reading;
 use crate::kinds::Section;
@@ -9,126 +8,23 @@ use places::kinds::Found;
 use record::surface::Surface;
 use record::surface::Synop;
 use record::surface::Wind;
-use record::values::Number;
 use record::values::Speed;
-use shapes::has_pattern;
 use surface::kinds::Said;
 use surface::read;
+use synop_row::kinds::Needs;
+use synop_row::row;
 use text::kinds::Cut;
 use text::kinds::Refusal;
 use text::kinds::Tail;
 ghost use mathlib.Core.Path.{_≡_};
 ghost use Prim.Native.Nat.{_<_};
 ghost use lib.ListN.{length};
-ghost use Rattle.shapes.specs.Pattern.{hasAny};
 ghost use Rattle.text.specs.Text.{tailOf};
 ghost use Rattle.text.specs.Groups.{groupsFrom};
-ghost use Rattle.places.specs.Seek.{findOf};
-ghost use Rattle.places.specs.Engine.{Step, standsOf, mustsOf, taken, closed, over};
-ghost use Rattle.surface.specs.Shows.{isGale};
-ghost use Rattle.synop_section.specs.Row.{figureIs, needsOf, withSaid, row, stopWords};
+ghost use Rattle.places.specs.Engine.{Step, taken, closed, over};
+ghost use Rattle.synop_row.specs.Row.{withSaid, row};
 ghost use Rattle.synop_section.specs.Answer.{ontoReport, section, answer};
-ghost use Rattle.synop_section.specs.Section.{rainDue, weatherDue, shapesOf, Says, saidOnto, stepped, stepOf};
-
-// iR 0 or 1 requires the 6 group.
-fn is_rain_due(rain: Number) -> bool
-    ensures { λ r. ⌜ r ≡ figureIs rainDue rain ⌝ }
-{
-    match rain {
-        Number::Missing => false,
-        Number::Is(n) => (n == 0) | (n == 1),
-    }
-}
-
-// ix 1, 4 or 7 requires the 7 group.
-fn is_weather_due(weather: Number) -> bool
-    ensures { λ r. ⌜ r ≡ figureIs weatherDue weather ⌝ }
-{
-    match weather {
-        Number::Missing => false,
-        Number::Is(n) => (n == 1) | (n == 4) | (n == 7),
-    }
-}
-
-// ff 99 requires 00fff.
-fn is_gale(speed: Speed) -> bool
-    ensures { λ r. ⌜ r ≡ isGale speed ⌝ }
-{
-    match speed {
-        Speed::Missing => false,
-        Speed::Is(n) => 99 <= n,
-    }
-}
-
-pub fn needs_of(s: Surface) -> Needs
-    ensures { λ r. ⌜ r ≡ needsOf s ⌝ }
-{
-    let indicators = s.indicators;
-    let rain = indicators.rain;
-    let weather = indicators.weather;
-    let wind = s.wind;
-    let speed = wind.speed;
-    Needs {
-        rain: is_rain_due(rain),
-        weather: is_weather_due(weather),
-        gale: is_gale(speed),
-    }
-}
-
-fn is_stop_word(g: &[u8]) -> bool
-    ensures { λ r. ⌜ r ≡ hasAny stopWords (now (g .entry)) ⌝ }
-{
-    has_pattern(g, b"222??")
-        | has_pattern(g, b"333")
-        | has_pattern(g, b"444")
-        | has_pattern(g, b"555")
-}
-
-// Which places have the group's shape?
-fn shapes_of(g: &[u8]) -> [bool; 10]
-    ensures { λ r. ⌜ r ≡ shapesOf (now (g .entry)) ⌝ }
-{
-    [
-        has_pattern(g, b"00###"),
-        has_pattern(g, b"1####"),
-        has_pattern(g, b"2####"),
-        has_pattern(g, b"3####"),
-        has_pattern(g, b"4####"),
-        has_pattern(g, b"5####"),
-        has_pattern(g, b"6####"),
-        has_pattern(g, b"7####"),
-        has_pattern(g, b"8####"),
-        has_pattern(g, b"9####"),
-    ]
-}
-
-// Which places must have a group?
-fn musts_of(n: Needs) -> [bool; 10]
-    ensures { λ r. ⌜ r ≡ mustsOf (row n) ⌝ }
-{
-    [
-        n.gale,
-        false,
-        false,
-        false,
-        false,
-        false,
-        n.rain,
-        n.weather,
-        false,
-        false,
-    ]
-}
-
-// The place that the group goes to.
-fn find(needs: Needs, place: usize, count: usize, g: &[u8]) -> Found
-    ensures { λ r. ⌜ r ≡ findOf (standsOf (row needs) (now (g .entry))) place count ⌝ }
-{
-    let has = shapes_of(g);
-    let most = [1u8; 10];
-    let must = musts_of(needs);
-    places::find_place(&has, &most, &must, place, count)
-}
+ghost use Rattle.synop_section.specs.Section.{Says, saidOnto, stepped, stepOf};
 
 // What the group says at its place.
 fn said_at(place: usize, needs: Needs, g: &[u8]) -> Said
@@ -217,13 +113,13 @@ fn step(needs: Needs, section: Section, g: &[u8]) -> Stepped
     requires { ⌜ section .place < 10 ⌝ }
     ensures { λ r. ⌜ r ≡ stepOf needs section (now (g .entry)) ⌝ }
 {
-    if is_stop_word(g) {
+    if row::is_stop_word(g) {
         return Stepped {
             next: Next::Halt,
             section,
         };
     }
-    let found = find(needs, section.place, section.count, g);
+    let found = row::find(needs, section.place, section.count, g);
     match found {
         Found::Take { place, count } => {
             let said = said_at(place, needs, g);
@@ -237,7 +133,7 @@ fn step(needs: Needs, section: Section, g: &[u8]) -> Stepped
 fn close(at: usize, needs: Needs, section: Section, report: Synop) -> Reading
     ensures { λ r. ⌜ r ≡ answer (ontoReport report (closed (row needs) at (section .place) (section .count) (section .surface))) ⌝ }
 {
-    let must = musts_of(needs);
+    let must = row::musts_of(needs);
     if places::is_owed(&must, section.place, section.count) {
         answer::refuse(Refusal::Absence, at)
     } else {
@@ -264,7 +160,7 @@ pub fn read_section(text: &[u8], from: usize, report: Synop) -> Reading
     ensures { λ r. ⌜ r ≡ answer (section report (tailOf (now (text .entry))) (length (now (text .entry))) (groupsFrom (now (text .entry)) from)) ⌝ }
 {
     let surface = report.surface;
-    let needs = needs_of(surface);
+    let needs = row::needs_of(surface);
     let mut s = Section {
         place: 0,
         count: 0,

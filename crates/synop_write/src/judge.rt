@@ -13,28 +13,28 @@ use record::surface::Synop;
 use record::values::Direction;
 use record::values::Tenths;
 use surface::sign::slots_fit;
-use surface_write::judge::judge_air;
-use surface_write::judge::judge_clock;
-use surface_write::judge::judge_clouds;
-use surface_write::judge::judge_indicators;
-use surface_write::judge::judge_level;
-use surface_write::judge::judge_moisture;
-use surface_write::judge::judge_position;
-use surface_write::judge::judge_pressure;
-use surface_write::judge::judge_rainfall;
-use surface_write::judge::judge_sign;
-use surface_write::judge::judge_station;
-use surface_write::judge::judge_tendency;
-use surface_write::judge::judge_time;
-use surface_write::judge::judge_weather;
-use surface_write::judge::judge_wind;
-use surface_write::judge::no_fall;
-use surface_write::judge::no_speed;
-use surface_write::write::is_missing;
-use surface_write::write::no_clouds;
-use surface_write::write::no_weather;
-use synop_section::kinds::Needs;
-use synop_section::section::needs_of;
+use surface_judge::judge::judge_air;
+use surface_judge::judge::judge_clock;
+use surface_judge::judge::judge_clouds;
+use surface_judge::judge::judge_indicators;
+use surface_judge::judge::judge_level;
+use surface_judge::judge::judge_moisture;
+use surface_judge::judge::judge_position;
+use surface_judge::judge::judge_pressure;
+use surface_judge::judge::judge_rainfall;
+use surface_judge::judge::judge_sign;
+use surface_judge::judge::judge_station;
+use surface_judge::judge::judge_tendency;
+use surface_judge::judge::judge_time;
+use surface_judge::judge::judge_weather;
+use surface_judge::judge::judge_wind;
+use surface_judge::silent::is_missing;
+use surface_judge::silent::no_clouds;
+use surface_judge::silent::no_fall;
+use surface_judge::silent::no_speed;
+use surface_judge::silent::no_weather;
+use synop_row::kinds::Needs;
+use synop_row::row::needs_of;
 use text::judge::and_then;
 use text::kinds::Judged;
 use text::kinds::Refusal;
@@ -54,7 +54,7 @@ fn no_tenths(t: Tenths) -> bool
     }
 }
 
-fn no_sign(s: CallSign) -> bool
+pub fn no_sign(s: CallSign) -> bool
     ensures { λ r. ⌜ r ≡ noSign s ⌝ }
 {
     let letters = s.letters;
@@ -63,7 +63,7 @@ fn no_sign(s: CallSign) -> bool
     (length == 0) & blank
 }
 
-fn no_position(p: Position) -> bool
+pub fn no_position(p: Position) -> bool
     ensures { λ r. ⌜ r ≡ noPosition p ⌝ }
 {
     let latitude = p.latitude;
@@ -146,7 +146,7 @@ fn no_clock(o: Observed) -> bool
     }
 }
 
-fn no_surface(s: Surface) -> bool
+pub fn no_surface(s: Surface) -> bool
     ensures { λ r. ⌜ r ≡ noSurface s ⌝ }
 {
     let indicators = s.indicators;

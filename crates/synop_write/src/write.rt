@@ -20,8 +20,8 @@ use surface_write::write::put_tendency;
 use surface_write::write::put_time;
 use surface_write::write::put_weather;
 use surface_write::write::put_wind;
-use synop_section::kinds::Needs;
-use synop_section::section::needs_of;
+use synop_row::kinds::Needs;
+use synop_row::row::needs_of;
 use text::kinds::Judged;
 use text::kinds::Written;
 use text::write::close_report;
@@ -37,7 +37,7 @@ ghost use Rattle.text.specs.Groups.{written};
 ghost use Rattle.places.specs.Engine.{written as groupsAt};
 ghost use Rattle.text.specs.declared.kinds.Judged.the-variants as judged;
 ghost use Rattle.surface.specs.Shows.{showTime, showStation, showSign, showLatitude, showLongitude};
-ghost use Rattle.synop_section.specs.Row.{row};
+ghost use Rattle.synop_row.specs.Row.{row};
 ghost use Rattle.synop.specs.Write.{judgeOf, siteGroups, surfaceGroups, groupsOf, writtenOf, bufferOf};
 
 // AAXX YYGGiw IIiii

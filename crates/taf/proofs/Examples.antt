@@ -24,9 +24,8 @@ use Rattle.elements.specs.Weather.{codesOf, areCodes, signedCodes, hasWeather, 
 use Rattle.elements.specs.Wind.{windBy, readWind, readVariation, showWind, showVariation, judgeWind, judgeVariation}
 use Rattle.taf.specs.Read.{openedBy, withPart, bodyOf, fromFirst, readOf}
 use Rattle.aerodrome.specs.Head.{stationOf, readTime, showTime, judgeStation, judgeTime}
-use Rattle.taf.specs.Row.{readPeriod, showPeriod, readForecast, row, changeWords}
+use Rattle.taf_row.specs.Row.{readPeriod, showPeriod, readForecast, row, changeWords}
 use Rattle.taf.specs.Write.{judgePart, judgeChange, noPart, judgeChanges, foreignBlank, judgeOf, showChange, groupsOf, canonicalOf, classChange, classedOf}
-use Rattle.figures.specs.Quote.{bytes}
 use Rattle.text.specs.Refusals.{numberOf}
 use Rattle.text.specs.Example.{Example, reads, refuses}
 use Rattle.text.specs.declared.kinds.Verdict.the-variants as verdict

@@ -6,9 +6,9 @@ use Rattle.shapes.specs.Pattern.{low, high, clash, clashEach, allApart}
 use Rattle.shapes.specs.Shape.{leading, split, partsOf, spellings}
 use Rattle.places.proofs.ReadBack.{sound}
 use Rattle.elements.specs.Weather.{codesOf}
-use Rattle.taf.specs.declared.kinds.Part.{Part}
-use Rattle.taf.specs.declared.kinds.Part.the-variants as part
-use Rattle.taf.specs.Row.{row, changeWords}
+use Rattle.taf_row.specs.declared.kinds.Part.{Part}
+use Rattle.taf_row.specs.declared.kinds.Part.the-variants as part
+use Rattle.taf_row.specs.Row.{row, changeWords}
 
 pub row-sound : (w : Part) → sound changeWords (row w) ≡ true
 unfolding row changeWords low high clash clashEach allApart leading split partsOf spellings codesOf

@@ -11,31 +11,31 @@ use borrow.Author.Tests.{leb-true}
 use types.Run.{OneOf, miss}
 use denote.Enum.Declared.{tagOf}
 use Rattle.text.specs.declared.kinds.Refusal.the-variants as refusal
-use Rattle.figures.specs.Quote.{bytes}
-use Rattle.shapes.specs.Pattern.{hasPattern, hasAny}
+use Rattle.shapes.specs.Pattern.{hasAny}
 use Rattle.shapes.proofs.Patterns.{both}
 use Rattle.places.specs.declared.kinds.Found.{Found}
 use Rattle.places.specs.declared.kinds.Found.the-variants.{Take, Skips, Full, Earlier, Unknown}
-use Rattle.places.specs.Seek.{stands, findOf, refusalOf}
-use Rattle.places.specs.Engine.{Group, Read, Good, Bad, Place, nowhere, placeAt, standsOf, mustsOf, taken, judged, onward, On, Stop}
-use Rattle.places.proofs.Rows.{row-stands, taken-open, only-at}
+use Rattle.places.specs.Seek.{findOf, refusalOf}
+use Rattle.places.specs.Engine.{Group, Read, Good, Bad, Place, nowhere, placeAt, standsOf, taken, judged, onward, On, Stop}
+use Rattle.places.proofs.Rows.{taken-open, only-at}
 use Rattle.places.proofs.Going.{step-past, step-word, step-by}
 use Rattle.places.proofs.kinds.Found as found
 use Rattle.record.specs.declared.aerodrome.Period.{Period}
 use Rattle.record.specs.declared.aerodrome.Weather.{Weather}
 use Rattle.record.specs.declared.aerodrome.Leg.{Leg}
-use Rattle.record.specs.Taf.{setNsw}
 use Rattle.elements.specs.Parts.{agreeing}
 use Rattle.elements.specs.Visibility.{isCavok}
-use Rattle.taf.specs.declared.kinds.Part.{Part}
-use Rattle.taf.specs.declared.kinds.Part.the-variants as part
+use Rattle.taf_row.specs.declared.kinds.Part.{Part}
+use Rattle.taf_row.specs.declared.kinds.Part.the-variants as part
+use Rattle.taf_row.proofs.Rows.{row-length}
 use Rattle.taf.specs.declared.kinds.PeriodRead.{PeriodRead}
 use Rattle.taf.specs.declared.kinds.PeriodRead.the-variants as period
 use Rattle.taf.specs.declared.kinds.Told.{Told}
 use Rattle.taf.specs.declared.kinds.Next.the-variants as next
 use Rattle.taf.specs.declared.kinds.Going.{Going}
-use Rattle.taf.specs.Row.{onto, besideOthers, isMain, isWhole, hasPeriod, row, changeWords}
-use Rattle.taf.specs.Step.{asPeriod, toldOf, Shapes, mostsOf, joins, joined, metBy, arrived, stepOf, metOf}
+use Rattle.taf_row.specs.Row.{onto, besideOthers, row, changeWords}
+use Rattle.taf_row.specs.Tests.{joins}
+use Rattle.taf.specs.Step.{asPeriod, toldOf, joined, metBy, arrived, stepOf, metOf}
 
 -- ---- what a group adds
 
@@ -59,48 +59,7 @@ beside r f w b e c is = rw (e, ← c, is)
 pub beside-bad : (r : Leg) (f : Weather → Leg → Leg) {x y : Read Weather} → x ≡ y → toldOf r (onto (besideOthers r y) f r) ≡ toldOf r (onto (besideOthers r x) f r)
 beside-bad r f e = rw e
 
-pub nsw-by : (main : Bool) (k : ℕ) (r : Leg) {cavok : Bool} (b : Bool) → cavok ≡ isCavok (r .visibility) → (not main && eqb k 0 && not cavok) ≡ b
-    → toldOf r (agreeing b (Good (setNsw true r))) ≡ toldOf r (agreeing (not main && eqb k 0 && not (isCavok (r .visibility))) (Good (setNsw true r)))
-nsw-by main k r b c is = rw (← c, is)
-
--- ---- the row
-
-pub row-length : (w : Part) → length (row w) ≡ 11
-unfolding row
-row-length w = refl
-
-musts-so : (w : Part) → (isMain w ∷ false ∷ isMain w ∷ isMain w ∷ false ∷ hasPeriod w ∷ false ∷ isWhole w ∷ isWhole w ∷ false ∷ false ∷ []) ≡ mustsOf (row w)
-unfolding row
-musts-so part.Main = refl
-musts-so part.Changing = refl
-musts-so part.From = refl
-
-pub musts-by : (w : Part) {m p a : Bool} → m ≡ isMain w → p ≡ hasPeriod w → a ≡ isWhole w
-    → (m ∷ false ∷ m ∷ m ∷ false ∷ p ∷ false ∷ a ∷ a ∷ false ∷ false ∷ []) ≡ mustsOf (row w)
-musts-by w m p a = rw (m, p, a) (musts-so w)
-
-pub mosts-by : (w : Part) {m p : Bool} {i j : ℕ} → m ≡ isMain w → i ≡ cond m 1 0 → p ≡ hasPeriod w → j ≡ cond p 1 0
-    → (i ∷ i ∷ i ∷ i ∷ i ∷ j ∷ i ∷ 1 ∷ 1 ∷ 3 ∷ 4 ∷ []) ≡ mostsOf w
-unfolding mostsOf row
-mosts-by w m i p j = rw (i, m, j, p)
-
--- the three arrays say the row
-pub found-at : (w : Part) (g : Group) (c k : ℕ) {hs us : List Bool} {ms : List ℕ} → Shapes g hs → ms ≡ mostsOf w → us ≡ mustsOf (row w)
-    → findOf (stands hs ms us) c k ≡ findOf (standsOf (row w) g) c k
-unfolding mostsOf
-found-at w g c k p q r = rw (p w, q, r, row-stands (row w) g)
-
-any-of : (a b c d : Bool) → (((a || b) || c) || d) ≡ (a || (b || (c || (d || false))))
-any-of true b c d = refl
-any-of false true c d = refl
-any-of false false true d = refl
-any-of false false false d = sym (or-false d)
-
-pub change-word : (g : Group) {a b c d : Bool}
-    → a ≡ hasPattern g (bytes "BECMG") → b ≡ hasPattern g (bytes "TEMPO") → c ≡ hasPattern g (bytes "PROB##") → d ≡ hasPattern g (bytes "FM######")
-    → (((a || b) || c) || d) ≡ hasAny changeWords g
-unfolding changeWords hasAny
-change-word g {a} {b} {c} {d} p q r s = rw (← p, ← q, ← r, ← s) (any-of a b c d)
+-- ---- a group at its place
 
 -- a place by its number
 pub read-place : (w : Part) (r : Leg) (g : Group) (k : ℕ) {i : ℕ} (j : ℕ) {t : Told} → i ≡ j → t ≡ toldOf r (placeAt (row w) j .read k g r)
@@ -206,10 +165,10 @@ module _ (s : Going) (g : Group) where
       step-stops told = ap (metBy s) (untaken (s .part) (s .leg) g f told) ∙ sym goes
 
   -- TEMPO at once after PROB, or not
-  pub meets-joined : {o : Going} → joins s g ≡ true → o ≡ joined s → record { next = next.On; going = o } ≡ metOf s g
+  pub meets-joined : {o : Going} → joins (s .opening) (s .fresh) g ≡ true → o ≡ joined s → record { next = next.On; going = o } ≡ metOf s g
   unfolding metOf
   meets-joined e is = rw (e, is)
 
-  pub meets-step : joins s g ≡ false → stepOf s g ≡ metOf s g
+  pub meets-step : joins (s .opening) (s .fresh) g ≡ false → stepOf s g ≡ metOf s g
   unfolding metOf
   meets-step e = rw e

@@ -3,10 +3,9 @@
 use Prim.Native.Nat.{ℕ, _≤_}
 use native.Mathlib.Omega.{arith}
 use mathlib.Core.Path.{_≡_, refl, sym, ap, _∙_}
-use mathlib.Core.Bool.{Bool, true, false, not, _&&_, _||_}
+use mathlib.Core.Bool.{Bool, true, false}
 use mathlib.Core.List.{List, [], _∷_}
-use lib.ListN.{length, drop}
-use lib.Dec.{leb}
+use lib.ListN.{length}
 use Rattle.text.specs.declared.kinds.Refusal.{Refusal}
 use Rattle.text.specs.declared.kinds.Refusal.the-variants as refusal
 use Rattle.text.specs.declared.kinds.Judged.the-variants as judged
@@ -15,15 +14,13 @@ use Rattle.text.specs.declared.kinds.Tail.the-variants.{Clear}
 use Rattle.text.specs.Groups.{groupsFrom, partOf}
 use Rattle.text.specs.Text.{bytesOf, tailOf}
 use Rattle.text.proofs.Groups.{Follows}
-use Rattle.places.specs.Seek.{owed}
-use Rattle.places.specs.Engine.{Group, Read, Good, Bad, mustsOf, Step, On, Halt, Stop, step, Fault, Done}
+use Rattle.places.specs.Engine.{Group, Read, Good, Bad, Step, On, Halt, Stop, step, Fault, Done}
 use Rattle.places.specs.Answer.{afterBytes}
 use Rattle.record.specs.declared.aerodrome.Opening.the-variants as opening
 use Rattle.record.specs.declared.aerodrome.Leg.{Leg}
 use Rattle.record.specs.declared.aerodrome.Taf.{Taf}
 use Rattle.record.specs.Taf.{blankLeg, blankTaf}
-use Rattle.taf.specs.declared.kinds.Part.{Part}
-use Rattle.taf.specs.declared.kinds.Part.the-variants as part
+use Rattle.taf_row.specs.declared.kinds.Part.the-variants as part
 use Rattle.taf.specs.declared.kinds.Next.the-variants as next
 use Rattle.taf.specs.declared.kinds.Stop.the-variants as stop
 use Rattle.taf.specs.declared.kinds.Going.{Going}
@@ -32,15 +29,12 @@ use Rattle.taf.specs.declared.kinds.Opened.{Opened}
 use Rattle.taf.specs.declared.kinds.PartRead.{PartRead}
 use Rattle.taf.specs.declared.kinds.Turn.{Turn}
 use Rattle.taf.specs.declared.kinds.Reading.{Reading}
-use Rattle.taf.specs.Row.{isMain, word, row, changeWords}
-use Rattle.taf.specs.Read.{hasElement, lacks, opened, probableGroup, fromGroup, openedBy, withPart, finish, bodyOf, mainPart, fromFirst, reading, refused, answer, readOf}
-use Rattle.taf.specs.Step.{joins, metOf, stepOf, openedAs, turned, turnOf, bodyFrom, changeFrom, afterPart, PartDone}
+use Rattle.taf_row.specs.Row.{word, row, changeWords}
+use Rattle.taf_row.specs.Tests.{joins, lacks, isFull}
+use Rattle.taf.specs.Read.{opened, probableGroup, fromGroup, openedBy, withPart, finish, bodyOf, mainPart, fromFirst, reading, refused, answer, readOf}
+use Rattle.taf.specs.Step.{metOf, stepOf, openedAs, turned, turnOf, bodyFrom, changeFrom, afterPart, PartDone}
 
--- ---- what a part lacks, and what a change word opens
-
-pub lacks-by : (w : Part) (c k : ℕ) (r : Leg) {us : List Bool} {o m e : Bool} → us ≡ mustsOf (row w) → o ≡ owed k (drop c us) → m ≡ isMain w → e ≡ hasElement r
-    → (o || (not m && not e)) ≡ lacks w c k r
-lacks-by w c k r p q m e = rw (q, p, m, e)
+-- ---- what a change word opens
 
 module _ (s : Going) (g : Group) where
   pub opens-becoming : word "BECMG" g ≡ true → openedAs s (opened opening.Becoming part.Changing blankLeg) ≡ openedAs s (openedBy g)
@@ -72,11 +66,11 @@ module _ (t : Taf) (s : Going) (g : Group) where
   turn-lacks e = rw e
 
   module _ (whole : lacking s ≡ false) where
-    pub turn-full : leb 16 (withPart t s .changes .count) ≡ true → turned t s (Bad refusal.Limit) ≡ turnOf t s g
+    pub turn-full : isFull (withPart t s .changes .count) ≡ true → turned t s (Bad refusal.Limit) ≡ turnOf t s g
     unfolding turnOf
     turn-full e = rw (whole, e)
 
-    module _ (room : leb 16 (withPart t s .changes .count) ≡ false) {u : Opened} (asked : u ≡ openedAs s (openedBy g)) where
+    module _ (room : isFull (withPart t s .changes .count) ≡ false) {u : Opened} (asked : u ≡ openedAs s (openedBy g)) where
       turn-by : turned t s (openedBy g) ≡ turnOf t s g
       unfolding turnOf
       turn-by = rw (whole, room)
@@ -110,9 +104,9 @@ met-law : (text : List ℕ) (t : Taf) (s : Going) (at start end : ℕ) → Follo
     → bodyFrom text t s at ≡ onMet text t s start end (metOf s (partOf text start end))
 unfolding bodyFrom changeFrom bodyOf metOf stepOf
 met-law text t s at start end follows =
-    by (joins s (partOf text start end)) refl (step (row (s .part)) changeWords (s .place) (s .count) (s .leg) (partOf text start end)) refl
+    by (joins (s .opening) (s .fresh) (partOf text start end)) refl (step (row (s .part)) changeWords (s .place) (s .count) (s .leg) (partOf text start end)) refl
   where
-    by : (b : Bool) → joins s (partOf text start end) ≡ b
+    by : (b : Bool) → joins (s .opening) (s .fresh) (partOf text start end) ≡ b
         → (x : Step Leg) → step (row (s .part)) changeWords (s .place) (s .count) (s .leg) (partOf text start end) ≡ x
         → bodyFrom text t s at ≡ onMet text t s start end (metOf s (partOf text start end))
     by true j x e = rw (follows .groups, j)
@@ -190,9 +184,9 @@ onTurn text start end u =
 module _ (text : List ℕ) (t : Taf) (s : Going) (start end : ℕ) where
   turn-law : onTurn text start end (turnOf t s (partOf text start end)) ≡ changeFrom text t s start end
   unfolding turnOf changeFrom bodyFrom
-  turn-law = by (lacking s) refl (leb 16 (withPart t s .changes .count)) refl (openedBy (partOf text start end)) refl
+  turn-law = by (lacking s) refl (isFull (withPart t s .changes .count)) refl (openedBy (partOf text start end)) refl
     where
-      by : (b : Bool) → lacking s ≡ b → (d : Bool) → leb 16 (withPart t s .changes .count) ≡ d → (x : Read Going) → openedBy (partOf text start end) ≡ x
+      by : (b : Bool) → lacking s ≡ b → (d : Bool) → isFull (withPart t s .changes .count) ≡ d → (x : Read Going) → openedBy (partOf text start end) ≡ x
           → onTurn text start end (turnOf t s (partOf text start end)) ≡ changeFrom text t s start end
       by true e d h x q = rw e
       by false e true h x q = rw (e, h)

@@ -1,10 +1,10 @@
 -- Reading a TAF: its main part, then its change groups, each with a part of its own.
 -- Assumes nothing: these are definitions.
 use Prim.Native.Nat.{ℕ, _+_}
-use mathlib.Core.Bool.{Bool, true, false, cond, not, _&&_, _||_}
+use mathlib.Core.Bool.{true, false, cond, _&&_, _||_}
 use mathlib.Core.List.{List, [], _∷_}
-use lib.ListN.{length, drop, set}
-use lib.Dec.{leb, ltb, eqb}
+use lib.ListN.{length, set}
+use lib.Dec.{ltb, eqb}
 use Rattle.figures.specs.Figures.{fieldAt}
 use Rattle.text.specs.declared.kinds.Refusal.{Refusal}
 use Rattle.text.specs.declared.kinds.Refusal.the-variants as refusal
@@ -13,8 +13,7 @@ use Rattle.text.specs.declared.kinds.Tail.the-variants.{Clear, Junk}
 use Rattle.text.specs.declared.kinds.Verdict.{Verdict}
 use Rattle.text.specs.Groups.{Piece, groupsFrom}
 use Rattle.text.specs.Text.{bytesOf, tailOf}
-use Rattle.places.specs.Seek.{owed}
-use Rattle.places.specs.Engine.{Group, Read, Good, Bad, On, Halt, Stop, Step, step, mustsOf, Outcome, Done, Fault}
+use Rattle.places.specs.Engine.{Group, Read, Good, Bad, On, Halt, Stop, Step, step, Outcome, Done, Fault}
 use Rattle.places.specs.Answer.{acceptedAs, refusedAs, answerOf, afterBytes}
 use Rattle.record.specs.declared.values.Number.the-variants as number
 use Rattle.record.specs.declared.aerodrome.Opening.{Opening}
@@ -24,25 +23,14 @@ use Rattle.record.specs.declared.aerodrome.Change.{Change}
 use Rattle.record.specs.declared.aerodrome.Changes.{Changes}
 use Rattle.record.specs.declared.aerodrome.Taf.{Taf}
 use Rattle.record.specs.Taf.{blankInstant, blankLeg, blankTaf, setPeriod}
-use Rattle.elements.specs.Wind.{hasUnit}
-use Rattle.elements.specs.Sky.{isLayers}
 use Rattle.elements.specs.Parts.{figured, provided}
 use Rattle.aerodrome.specs.Head.{isDay, isHour, isMinute}
-use Rattle.taf.specs.declared.kinds.Part.{Part}
-use Rattle.taf.specs.declared.kinds.Part.the-variants as part
+use Rattle.taf_row.specs.declared.kinds.Part.{Part}
+use Rattle.taf_row.specs.declared.kinds.Part.the-variants as part
 use Rattle.taf.specs.declared.kinds.Going.{Going}
 use Rattle.taf.specs.declared.kinds.Reading.{Reading}
-use Rattle.elements.specs.Visibility.{noView}
-use Rattle.taf.specs.Row.{isMain, word, row, changeWords}
-
--- ---- the end of a body: a required group is absent, or a change body has no element
-
-abbrev pub hasElement : Leg → Bool
-hasElement r = hasUnit (r .wind .unit) || not (noView (r .visibility .is)) || ltb 0 (r .weathers .count) || r .nsw || not (isLayers (r .sky .cover)) || ltb 0 (r .sky .count)
-
--- "A change body needs one element, under FM wind and visibility."
-abbrev pub lacks : Part → ℕ → ℕ → Leg → Bool
-lacks w c k r = owed k (drop c (mustsOf (row w))) || (not (isMain w) && not (hasElement r))
+use Rattle.taf_row.specs.Row.{isMain, word, row, changeWords}
+use Rattle.taf_row.specs.Tests.{joins, lacks, isFull}
 
 -- ---- what a change word opens
 
@@ -97,14 +85,6 @@ afterProbable (opening.Probable n) = opening.ProbablyTemporary n
 afterProbable (opening.ProbablyTemporary n) = opening.ProbablyTemporary n
 afterProbable opening.From = opening.From
 
-abbrev pub isProbable : Opening → Bool
-isProbable opening.None = false
-isProbable opening.Becoming = false
-isProbable opening.Temporary = false
-isProbable (opening.Probable n) = true
-isProbable (opening.ProbablyTemporary n) = false
-isProbable opening.From = false
-
 -- the reading ends
 abbrev pub finish : Taf → Going → Tail → ℕ → Outcome Taf
 finish t s (Junk at) end = Fault refusal.Shape at
@@ -120,11 +100,11 @@ onStep (On c k r) t s g go = go t (record { opening = s .opening; part = s .part
 onStep (Stop f) t s g go = Fault f (g .start)
 onStep Halt t s g go =
     cond (lacks (s .part) (s .place) (s .count) (s .leg)) (Fault refusal.Absence (g .start))
-    (cond (leb 16 (withPart t s .changes .count)) (Fault refusal.Limit (g .start)) (opens (openedBy (g .bytes)) (g .start) (λ o. go (withPart t s) o)))
+    (cond (isFull (withPart t s .changes .count)) (Fault refusal.Limit (g .start)) (opens (openedBy (g .bytes)) (g .start) (λ o. go (withPart t s) o)))
 
 abbrev pub onGroup : Taf → Going → Piece → (Taf → Going → Outcome Taf) → Outcome Taf
 onGroup t s g go =
-    cond (isProbable (s .opening) && s .fresh && word "TEMPO" (g .bytes))
+    cond (joins (s .opening) (s .fresh) (g .bytes))
     (go t (record { opening = afterProbable (s .opening); part = s .part; place = 0; count = 0; fresh = false; leg = s .leg }))
     (onStep (step (row (s .part)) changeWords (s .place) (s .count) (s .leg) (g .bytes)) t s g go)
 

@@ -2,23 +2,22 @@
 -- Assumes nothing: these are definitions.
 use Prim.Native.Nat.{ℕ, _≤_, _<_}
 use mathlib.Core.Path.{_≡_}
-use mathlib.Core.Bool.{Bool, false, _&&_, _||_, cond}
-use mathlib.Core.List.{List, map}
+use mathlib.Core.Bool.{false, cond}
+use mathlib.Core.List.{List}
 use lib.ListN.{length}
-use lib.Dec.{leb}
 use Rattle.text.specs.declared.kinds.Refusal.the-variants as refusal
 use Rattle.text.specs.declared.kinds.Judged.the-variants as judged
 use Rattle.text.specs.Groups.{groupsFrom, partOf}
 use Rattle.text.specs.Text.{tailOf}
-use Rattle.places.specs.Engine.{Group, Read, Good, Bad, Place, placeAt, Step, On, Halt, Stop, step, onward, Fault}
+use Rattle.places.specs.Engine.{Group, Read, Good, Bad, placeAt, Step, On, Halt, Stop, step, onward, Fault}
 use Rattle.record.specs.declared.aerodrome.Period.{Period}
 use Rattle.record.specs.declared.aerodrome.Leg.{Leg}
 use Rattle.record.specs.declared.values.Number.the-variants as number
 use Rattle.record.specs.declared.aerodrome.Opening.the-variants as opening
 use Rattle.record.specs.declared.aerodrome.Taf.{Taf}
 use Rattle.record.specs.Taf.{blankInstant, blankLeg, setPeriod}
-use Rattle.taf.specs.declared.kinds.Part.{Part}
-use Rattle.taf.specs.declared.kinds.Part.the-variants as part
+use Rattle.taf_row.specs.declared.kinds.Part.{Part}
+use Rattle.taf_row.specs.declared.kinds.Part.the-variants as part
 use Rattle.taf.specs.declared.kinds.PeriodRead.{PeriodRead}
 use Rattle.taf.specs.declared.kinds.PeriodRead.the-variants as period
 use Rattle.taf.specs.declared.kinds.Told.{Told}
@@ -30,8 +29,9 @@ use Rattle.taf.specs.declared.kinds.PartRead.{PartRead}
 use Rattle.taf.specs.declared.kinds.Opened.{Opened}
 use Rattle.taf.specs.declared.kinds.Turn.{Turn}
 use Rattle.taf.specs.declared.kinds.Reading.{Reading}
-use Rattle.taf.specs.Row.{word, row, changeWords}
-use Rattle.taf.specs.Read.{lacks, openedBy, begun, withPart, afterProbable, isProbable, finish, onStep, bodyOf, refused, answer}
+use Rattle.taf_row.specs.Row.{row, changeWords}
+use Rattle.taf_row.specs.Tests.{joins, lacks, isFull}
+use Rattle.taf.specs.Read.{openedBy, begun, withPart, afterProbable, finish, onStep, bodyOf, refused, answer}
 
 -- ---- one group at its place
 
@@ -48,19 +48,9 @@ toldOf r (Bad f) = record { judged = judged.Refused f; leg = r }
 abbrev pub ToldAt : ℕ → Group → Leg → Told → Type 0
 ToldAt i g r t = (w : Part) (k : ℕ) → t ≡ toldOf r (placeAt (row w) i .read k g r)
 
--- which places of the row have the group's shape, in any part; how many groups may stand at each
-abbrev pub Shapes : Group → List Bool → Type 0
-Shapes g hs = (w : Part) → hs ≡ map (λ (p : Place Leg). p .has g) (row w)
-
-unfoldable pub mostsOf : Part → List ℕ
-mostsOf w = map (λ (p : Place Leg). p .most) (row w)
-
 -- where reading stands past place i, in any part
 abbrev pub Onward : ℕ → ℕ → Type 0
 Onward i j = (w : Part) → j ≡ onward (row w) i
-
-abbrev pub isCorrection : Group → Bool
-isCorrection g = word "AMD" g || word "COR" g
 
 -- ---- one group in a part
 
@@ -80,10 +70,6 @@ metBy s (On c k r) = record { next = next.On; going = moved s c k r }
 metBy s Halt = record { next = next.Change; going = s }
 metBy s (Stop f) = record { next = next.Fault f; going = s }
 
--- TEMPO at once after PROB30 or PROB40
-abbrev pub joins : Going → Group → Bool
-joins s g = isProbable (s .opening) && s .fresh && word "TEMPO" g
-
 abbrev pub joined : Going → Going
 joined s = record { opening = afterProbable (s .opening); part = s .part; place = 0; count = 0; fresh = false; leg = s .leg }
 
@@ -91,7 +77,7 @@ unfoldable pub stepOf : Going → Group → Met
 stepOf s g = metBy s (step (row (s .part)) changeWords (s .place) (s .count) (s .leg) g)
 
 unfoldable pub metOf : Going → Group → Met
-metOf s g = cond (joins s g) (record { next = next.On; going = joined s }) (stepOf s g)
+metOf s g = cond (joins (s .opening) (s .fresh) g) (record { next = next.On; going = joined s }) (stepOf s g)
 
 -- ---- a change word's turn
 
@@ -116,7 +102,7 @@ fromTime d h m =
 unfoldable pub turnOf : Taf → Going → Group → Turn
 turnOf t s g =
     cond (lacks (s .part) (s .place) (s .count) (s .leg)) (turned t s (Bad refusal.Absence))
-    (cond (leb 16 (withPart t s .changes .count)) (turned t s (Bad refusal.Limit)) (turned t s (openedBy g)))
+    (cond (isFull (withPart t s .changes .count)) (turned t s (Bad refusal.Limit)) (turned t s (openedBy g)))
 
 -- ---- the text from a position on
 

@@ -3,11 +3,10 @@
 use Prim.Native.Nat.{ℕ}
 use mathlib.Core.Bool.{Bool, true, false, cond, not, _&&_, _||_}
 use mathlib.Core.List.{List, [], _∷_, _++_, map}
-use lib.ListN.{length, take, drop}
+use lib.ListN.{take, drop}
 use lib.Dec.{leb, eqb}
 use Rattle.figures.specs.Quote.{bytes}
 use Rattle.figures.specs.Figures.{numberText, fieldText}
-use Rattle.text.specs.declared.kinds.Refusal.the-variants as refusal
 use Rattle.text.specs.declared.kinds.Judged.{Judged}
 use Rattle.text.specs.declared.kinds.Judged.the-variants as judged
 use Rattle.text.specs.declared.kinds.Written.{Written}
@@ -15,28 +14,26 @@ use Rattle.text.specs.Judge.{judge, andThen}
 use Rattle.text.specs.Write.{answerBy, bufferBy}
 use Rattle.text.specs.Groups.{join}
 use Rattle.places.specs.Engine.{Group, written, putAll}
-use Rattle.record.specs.declared.values.Number.{Number}
 use Rattle.record.specs.declared.aerodrome.Instant.{Instant}
 use Rattle.record.specs.declared.aerodrome.Period.{Period}
 use Rattle.record.specs.declared.aerodrome.Opening.{Opening}
 use Rattle.record.specs.declared.aerodrome.Opening.the-variants as opening
-use Rattle.record.specs.declared.aerodrome.Weathers.{Weathers}
-use Rattle.record.specs.declared.aerodrome.Sky.{Sky}
 use Rattle.record.specs.declared.aerodrome.Leg.{Leg}
 use Rattle.record.specs.declared.aerodrome.Change.{Change}
 use Rattle.record.specs.declared.aerodrome.Changes.{Changes}
 use Rattle.record.specs.declared.aerodrome.Taf.{Taf}
 use Rattle.record.specs.Taf.{blankInstant, blankLeg}
+use Rattle.elements.specs.Judge.{isMissing}
 use Rattle.elements.specs.Wind.{judgeWind, isBlankWind}
 use Rattle.elements.specs.Visibility.{isCavok, judgeVisibility, noView}
-use Rattle.elements.specs.Weather.{allMissing, judgeWeather, judgeWeathers}
-use Rattle.elements.specs.Sky.{isLayers, allBlank, judgeSky}
+use Rattle.elements.specs.Weather.{judgeWeather, threeFit, judgeWeathers, noWeathers}
+use Rattle.elements.specs.Sky.{judgeSky, noSky}
 use Rattle.aerodrome.specs.Head.{fieldOf, present, isDay, isHour, isMinute, judgeStation, judgeTime}
-use Rattle.aerodrome.specs.Runway.{isMissing}
-use Rattle.taf.specs.declared.kinds.Part.{Part}
-use Rattle.taf.specs.declared.kinds.Part.the-variants as part
-use Rattle.taf.specs.Row.{isMain, isWhole, isEndHour, row}
-use Rattle.taf.specs.Read.{changeOf, hasElement}
+use Rattle.taf_row.specs.declared.kinds.Part.{Part}
+use Rattle.taf_row.specs.declared.kinds.Part.the-variants as part
+use Rattle.taf_row.specs.Row.{isMain, isWhole, isEndHour, row}
+use Rattle.taf_row.specs.Tests.{hasElement}
+use Rattle.taf.specs.Read.{changeOf}
 
 -- ---- a part: wind, visibility, weather, sky, in written order
 
@@ -47,10 +44,6 @@ unlessAbsent w absent j = cond (not (isWhole w) && absent) judged.Fine j
 -- NSW "only in change bodies", and not beside CAVOK
 abbrev pub nswAgrees : Part → Leg → Bool
 nswAgrees w r = not (r .nsw) || (not (isMain w) && not (isCavok (r .visibility)))
-
--- "a count over its limit, a slot past its count .. that is not blank"
-abbrev pub threeFit : Weathers → Bool
-threeFit ws = leb (ws .count) 3 && allMissing (drop (ws .count) (ws .items))
 
 -- the count, NSW, then each weather group
 abbrev pub judgeForecast : Part → Leg → Judged
@@ -127,12 +120,6 @@ judgeEach [] = judged.Fine
 judgeEach (c ∷ cs) = andThen (judgeChange c) (judgeEach cs)
 
 -- ---- blanks
-
-abbrev pub noWeathers : Weathers → Bool
-noWeathers ws = eqb (ws .count) 0 && allMissing (ws .items)
-
-abbrev pub noSky : Sky → Bool
-noSky s = isLayers (s .cover) && eqb (s .count) 0 && allBlank (s .layers)
 
 -- nothing is said of wind, visibility, weather and sky
 unfoldable pub noPart : Leg → Bool

@@ -3,16 +3,10 @@ use record::aerodrome::Leg;
 use record::aerodrome::Opening;
 use record::aerodrome::Period;
 use record::aerodrome::Taf;
+use taf_row::kinds::Part;
 use text::kinds::Judged;
 use text::kinds::Refusal;
 use text::kinds::Verdict;
-
-// Where a part of a TAF stands: the main part, under a change word with a period, or under FM.
-pub enum Part {
-    Main,
-    Changing,
-    From,
-}
 
 // What YYGG/YYGG is read as.
 pub enum PeriodRead {

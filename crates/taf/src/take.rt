@@ -16,6 +16,7 @@ use record::aerodrome::Period;
 use record::values::Number;
 use shapes::has_pattern;
 use sky::read::read_sky;
+use taf_row::tests::nsw_stands;
 use text::kinds::Judged;
 use text::kinds::Refusal;
 use weather::read::add_weather;
@@ -24,8 +25,7 @@ use wind::read::is_cavok;
 use wind::read::read_visibility;
 use wind::read::read_wind;
 ghost use mathlib.Core.Path.{_≡_};
-ghost use mathlib.Core.Bool.{true, false, not, _&&_};
-ghost use lib.Dec.{eqb};
+ghost use mathlib.Core.Bool.{true, false};
 ghost use Rattle.places.specs.Engine.{Good, Bad};
 ghost use Rattle.record.specs.Taf.{setCorrection, setStation, setTime, setNil, setPeriod, setCancelled, setWind, setVisibility, setWeathers, setNsw, setSky};
 ghost use Rattle.elements.specs.Parts.{agreeing};
@@ -34,7 +34,7 @@ ghost use Rattle.elements.specs.Visibility.{readVisibility, isCavok};
 ghost use Rattle.elements.specs.Weather.{readWeather, withWeather};
 ghost use Rattle.elements.specs.Sky.{readSky};
 ghost use Rattle.aerodrome.specs.Head.{stationOf, readTime};
-ghost use Rattle.taf.specs.Row.{onto, correctionOf, hourOf, readPeriod, besideOthers, readForecast};
+ghost use Rattle.taf_row.specs.Row.{onto, correctionOf, hourOf, readPeriod, besideOthers, nswStands, readForecast};
 ghost use Rattle.taf.specs.Step.{asPeriod, toldOf};
 
 pub fn keep(x: Leg) -> Told
@@ -219,12 +219,11 @@ pub fn take_visibility(g: &[u8], r: Leg) -> Told
     }
 }
 
-// NSW disagrees with the main part, with weather before it and with CAVOK.
+// NSW where it may stand, else it disagrees.
 fn take_nsw(main: bool, k: usize, r: Leg) -> Told
-    ensures { λ t. ⌜ t ≡ toldOf r (agreeing (not main && eqb k 0 && not (isCavok (r .visibility))) (Good (setNsw true r))) ⌝ }
+    ensures { λ t. ⌜ t ≡ toldOf r (agreeing (nswStands main k (r .visibility)) (Good (setNsw true r))) ⌝ }
 {
-    let cavok = is_cavok(r.visibility);
-    if !main & (k == 0) & !cavok {
+    if nsw_stands(main, k, r.visibility) {
         let mut a = r;
         a.nsw = true;
         keep(a)

@@ -1,89 +1,22 @@
-// What is left blank in a TAF: a wind or a visibility that a change group leaves out, a part of which nothing is said, a change past the count.
+// What is left blank in a TAF: a time or a period that is not there, a part of which nothing is said, a change past the count.
+use elements::blank::no_view;
+use elements::blank::no_wind;
+use elements::judge::is_missing;
 use record::aerodrome::Change;
 use record::aerodrome::Correction;
 use record::aerodrome::Instant;
 use record::aerodrome::Leg;
 use record::aerodrome::Opening;
 use record::aerodrome::Period;
-use record::aerodrome::Station;
-use record::aerodrome::Unit;
-use record::aerodrome::View;
-use record::aerodrome::Wind;
-use record::values::Direction;
-use record::values::Number;
-use record::values::Speed;
+use record::blank_aerodrome::blank_instant;
+use record::blank_aerodrome::blank_station;
 use sky::judge::no_sky;
 use weather_write::judge::no_weathers;
 ghost use mathlib.Core.Path.{_≡_};
 ghost use lib.ListN.{drop};
-ghost use Rattle.elements.specs.Wind.{hasUnit, noGust, noDirection, isBlankWind};
-ghost use Rattle.aerodrome.specs.Runway.{isMissing};
-ghost use Rattle.elements.specs.Visibility.{noView};
 ghost use Rattle.taf.specs.Write.{isNoInstant, isNoPeriod, legOf, noPart, noOpening, isBlankChange, allBlankChanges};
 
-// ---- wind and visibility
-
-pub fn has_unit(u: Unit) -> bool
-    ensures { λ r. ⌜ r ≡ hasUnit u ⌝ }
-{
-    match u {
-        Unit::Missing => false,
-        Unit::Knots => true,
-        Unit::MetresPerSecond => true,
-        Unit::KilometresPerHour => true,
-    }
-}
-
-fn no_direction(d: Direction) -> bool
-    ensures { λ r. ⌜ r ≡ noDirection d ⌝ }
-{
-    match d {
-        Direction::Missing => true,
-        Direction::Calm => false,
-        Direction::Variable => false,
-        Direction::Degrees(_) => false,
-    }
-}
-
-fn no_speed(s: Speed) -> bool
-    ensures { λ r. ⌜ r ≡ noGust s ⌝ }
-{
-    match s {
-        Speed::Missing => true,
-        Speed::Is(_) => false,
-    }
-}
-
-pub fn no_wind(w: Wind) -> bool
-    ensures { λ r. ⌜ r ≡ isBlankWind w ⌝ }
-{
-    let direction = w.direction;
-    let speed = w.speed;
-    let gust = w.gust;
-    let unit = w.unit;
-    no_direction(direction) & no_speed(speed) & no_speed(gust) & !has_unit(unit)
-}
-
-pub fn no_view(v: View) -> bool
-    ensures { λ r. ⌜ r ≡ noView v ⌝ }
-{
-    match v {
-        View::Missing => true,
-        View::Cavok => false,
-        View::Metres(_) => false,
-    }
-}
-
 // ---- times
-
-pub fn is_missing(n: Number) -> bool
-    ensures { λ r. ⌜ r ≡ isMissing n ⌝ }
-{
-    match n {
-        Number::Missing => true,
-        Number::Is(_) => false,
-    }
-}
 
 pub fn no_instant(t: Instant) -> bool
     ensures { λ r. ⌜ r ≡ isNoInstant t ⌝ }
@@ -121,12 +54,6 @@ pub fn no_part(r: Leg) -> bool
 pub fn leg_of(c: Change) -> Leg
     ensures { λ r. ⌜ r ≡ legOf c ⌝ }
 {
-    let time = Instant {
-        day: Number::Missing,
-        hour: Number::Missing,
-        minute: Number::Missing,
-    };
-    let station = Station { letters: [0u8; 4] };
     let correction = Correction::None;
     let period = c.period;
     let wind = c.wind;
@@ -134,6 +61,8 @@ pub fn leg_of(c: Change) -> Leg
     let weathers = c.weathers;
     let nsw = c.nsw;
     let sky = c.sky;
+    let station = blank_station();
+    let time = blank_instant();
     Leg {
         correction,
         station,

@@ -1,33 +1,33 @@
 // What the writer judges of a TAF before it writes anything: that a NIL report has nothing after its time and a cancelled one nothing after its
 // period, then each group in written order.
 use crate::blank::blank_from;
-use crate::blank::has_unit;
-use crate::blank::is_missing;
 use crate::blank::leg_of;
 use crate::blank::no_instant;
 use crate::blank::no_part;
 use crate::blank::no_period;
-use crate::blank::no_view;
-use crate::blank::no_wind;
+use aerodrome::judge::is_day;
+use aerodrome::judge::is_up_to;
 use aerodrome::judge::judge_station;
 use aerodrome::judge::judge_time;
+use elements::blank::no_view;
+use elements::blank::no_wind;
+use elements::judge::is_missing;
 use record::aerodrome::Change;
 use record::aerodrome::Changes;
 use record::aerodrome::Instant;
 use record::aerodrome::Leg;
 use record::aerodrome::Opening;
 use record::aerodrome::Period;
-use record::aerodrome::Phenomena;
 use record::aerodrome::Taf;
-use record::aerodrome::Weather;
-use record::aerodrome::Weathers;
-use record::values::Number;
 use sky::judge::judge_sky;
-use sky::read::is_layers;
-use taf::kinds::Part;
+use taf_row::kinds::Part;
+use taf_row::row::is_main;
+use taf_row::row::is_whole;
+use taf_row::tests::has_element;
 use text::judge::and_then;
 use text::judge::judge as judge_pair;
 use text::kinds::Judged;
+use weather_write::judge::count_fits;
 use weather_write::judge::judge_weathers;
 use wind::judge::judge_visibility;
 use wind::judge::judge_wind;
@@ -39,34 +39,10 @@ ghost use lib.ListN.{take};
 ghost use lib.Dec.{leb};
 ghost use Rattle.text.specs.declared.kinds.Judged.the-variants as judged;
 ghost use Rattle.text.specs.Judge.{judge, andThen};
-ghost use Rattle.elements.specs.Weather.{isMissingWeather};
-ghost use Rattle.aerodrome.specs.Head.{isDay, present};
-ghost use Rattle.taf.specs.declared.kinds.Part.the-variants as part;
-ghost use Rattle.taf.specs.Row.{isMain, isWhole};
-ghost use Rattle.taf.specs.Read.{hasElement};
-ghost use Rattle.taf.specs.Write.{unlessAbsent, nswAgrees, threeFit, judgeForecast, judgePart, isHourOf, periodFits, instantFits, openingFits, partOf, judgeChange, judgeEach, judgeChanges, noChanges, foreignBlank, judgeOf};
+ghost use Rattle.taf_row.specs.declared.kinds.Part.the-variants as part;
+ghost use Rattle.taf.specs.Write.{unlessAbsent, nswAgrees, judgeForecast, judgePart, isHourOf, periodFits, instantFits, openingFits, partOf, judgeChange, judgeEach, judgeChanges, noChanges, foreignBlank, judgeOf};
 
 // ---- a part
-
-fn is_main(w: Part) -> bool
-    ensures { λ r. ⌜ r ≡ isMain w ⌝ }
-{
-    match w {
-        Part::Main => true,
-        Part::Changing => false,
-        Part::From => false,
-    }
-}
-
-fn is_whole(w: Part) -> bool
-    ensures { λ r. ⌜ r ≡ isWhole w ⌝ }
-{
-    match w {
-        Part::Main => true,
-        Part::Changing => false,
-        Part::From => true,
-    }
-}
 
 // A wind or visibility that a change group may leave out.
 fn unless_absent(w: Part, absent: bool, j: Judged) -> Judged
@@ -77,28 +53,6 @@ fn unless_absent(w: Part, absent: bool, j: Judged) -> Judged
     } else {
         j
     }
-}
-
-fn lacks(w: Weather) -> bool
-    ensures { λ r. ⌜ r ≡ isMissingWeather (w .is) ⌝ }
-{
-    let is = w.is;
-    match is {
-        Phenomena::Missing => true,
-        Phenomena::Is { .. } => false,
-    }
-}
-
-// The count of weathers, and what stands past it.
-fn three_fit(ws: Weathers) -> bool
-    ensures { λ r. ⌜ r ≡ threeFit ws ⌝ }
-{
-    let items = ws.items;
-    let count = ws.count;
-    (count <= 3)
-        & ((0 < count) | lacks(items[0]))
-        & ((1 < count) | lacks(items[1]))
-        & ((2 < count) | lacks(items[2]))
 }
 
 // NSW stands only in change bodies, and not beside CAVOK.
@@ -118,25 +72,8 @@ fn judge_forecast(w: Part, r: Leg) -> Judged
     if nsw_agrees(w, r) {
         judge_weathers(true, false, is_cavok(visibility) | nsw, weathers)
     } else {
-        judge_pair(three_fit(weathers), false)
+        judge_pair(count_fits(weathers), false)
     }
-}
-
-fn has_element(r: Leg) -> bool
-    ensures { λ b. ⌜ b ≡ hasElement r ⌝ }
-{
-    let wind = r.wind;
-    let unit = wind.unit;
-    let visibility = r.visibility;
-    let view = visibility.is;
-    let weathers = r.weathers;
-    let sky = r.sky;
-    let cover = sky.cover;
-    let groups = weathers.count;
-    let layers = sky.count;
-    let nsw = r.nsw;
-    let told = has_unit(unit) | !no_view(view) | (0 < groups) | nsw;
-    told | !is_layers(cover) | (0 < layers)
 }
 
 fn judge_part(w: Part, r: Leg) -> Judged
@@ -156,25 +93,6 @@ fn judge_part(w: Part, r: Leg) -> Judged
 }
 
 // ---- periods and what opens a change
-
-fn is_day(n: Number) -> bool
-    ensures { λ r. ⌜ r ≡ present isDay n ⌝ }
-{
-    match n {
-        Number::Missing => false,
-        Number::Is(d) => (1 <= d) & (d <= 31),
-    }
-}
-
-// A number that has to be there, up to the most.
-fn is_up_to(n: Number, most: u32) -> bool
-    ensures { λ r. ⌜ r ≡ present (λ v. leb v most) n ⌝ }
-{
-    match n {
-        Number::Missing => false,
-        Number::Is(v) => v <= most,
-    }
-}
 
 // A day and an hour up to the last, without minutes.
 fn is_hour(t: Instant, last: u32) -> bool
@@ -271,7 +189,7 @@ fn judge_changes(cs: Changes) -> Judged
     }
 }
 
-fn no_changes(cs: Changes) -> bool
+pub fn no_changes(cs: Changes) -> bool
     ensures { λ r. ⌜ r ≡ noChanges cs ⌝ }
 {
     let items = cs.items;

@@ -1,3 +1,3 @@
-// The writer of TAF: a record judged, and written as its canonical text.
+// The writer of TAF: a record judged before it is written.
 pub mod blank;
 pub mod judge;

@@ -6,12 +6,6 @@ use mathlib.Core.List.{List, [], _∷_}
 use lib.ListN.{length}
 use borrow.Author.Tests.{not-true}
 use Rattle.shapes.proofs.Patterns.{both}
-use Rattle.record.specs.declared.values.Direction.{Direction}
-use Rattle.record.specs.declared.values.Direction.the-variants as direction
-use Rattle.record.specs.declared.values.Speed.{Speed}
-use Rattle.record.specs.declared.values.Speed.the-variants as speed
-use Rattle.record.specs.declared.aerodrome.Unit.{Unit as SpeedUnit}
-use Rattle.record.specs.declared.aerodrome.Unit.the-variants as unit
 use Rattle.record.specs.declared.aerodrome.View.{View}
 use Rattle.record.specs.declared.aerodrome.View.the-variants as view
 use Rattle.record.specs.declared.aerodrome.Opening.{Opening}
@@ -26,11 +20,14 @@ use Rattle.record.specs.declared.aerodrome.Change.{Change}
 use Rattle.record.specs.declared.aerodrome.Taf.{Taf}
 use Rattle.record.specs.Metar.{blankWind, blankWeathers, blankSky}
 use Rattle.record.specs.Taf.{blankPeriod, blankLeg, blankChange}
-use Rattle.elements.specs.Wind.{hasUnit, noGust, noDirection, isBlankWind}
+use Rattle.elements.specs.Wind.{isBlankWind}
+use Rattle.elements.proofs.Blanks.{wind-blank, view-blank}
 use Rattle.weather.proofs.Lists.{weathers-blank}
 use Rattle.sky.proofs.RoundTrip.{sky-blank}
 use Rattle.elements.specs.Visibility.{noView}
-use Rattle.taf.specs.Write.{legOf, isNoPeriod, noWeathers, noSky, noPart, noOpening, isBlankChange}
+use Rattle.elements.specs.Weather.{noWeathers}
+use Rattle.elements.specs.Sky.{noSky}
+use Rattle.taf.specs.Write.{legOf, isNoPeriod, noPart, noOpening, isBlankChange}
 use Rattle.taf_laws.proofs.Periods.{no-period}
 
 -- ---- the record's arrays have the lengths of the code's arrays
@@ -50,38 +47,6 @@ pub record Arrays (t : Taf) : Type 0 where
   pub each : EachArrays (t .changes .items)
 
 -- ---- what is blank
-
-direction-blank : (d : Direction) → noDirection d ≡ true → d ≡ direction.Missing
-direction-blank direction.Missing e = refl
-direction-blank direction.Calm e = absurd (false≢true e)
-direction-blank direction.Variable e = absurd (false≢true e)
-direction-blank (direction.Degrees d) e = absurd (false≢true e)
-
-speed-blank : (s : Speed) → noGust s ≡ true → s ≡ speed.Missing
-speed-blank speed.Missing e = refl
-speed-blank (speed.Is s) e = absurd (false≢true e)
-
-unit-blank : (u : SpeedUnit) → not (hasUnit u) ≡ true → u ≡ unit.Missing
-unit-blank unit.Missing e = refl
-unit-blank unit.Knots e = absurd (false≢true e)
-unit-blank unit.MetresPerSecond e = absurd (false≢true e)
-unit-blank unit.KilometresPerHour e = absurd (false≢true e)
-
-wind-fields : (d : Direction) (s g : Speed) (u : SpeedUnit) → noDirection d ≡ true → noGust s ≡ true → noGust g ≡ true → not (hasUnit u) ≡ true
-    → _≡_ {A = Wind} (record { direction = d; speed = s; gust = g; unit = u }) blankWind
-wind-fields d s g u a b c e = rw (direction-blank d a, speed-blank s b, speed-blank g c, unit-blank u e)
-
-pub wind-blank : (w : Wind) → isBlankWind w ≡ true → w ≡ blankWind
-wind-blank w e =
-    let u = both (noDirection (w .direction) && noGust (w .speed) && noGust (w .gust)) (not (hasUnit (w .unit))) e in
-    let g = both (noDirection (w .direction) && noGust (w .speed)) (noGust (w .gust)) (u .0) in
-    let s = both (noDirection (w .direction)) (noGust (w .speed)) (g .0) in
-    wind-fields (w .direction) (w .speed) (w .gust) (w .unit) (s .0) (s .1) (g .1) (u .1)
-
-view-blank : (v : View) → noView v ≡ true → v ≡ view.Missing
-view-blank view.Missing e = refl
-view-blank view.Cavok e = absurd (false≢true e)
-view-blank (view.Metres m) e = absurd (false≢true e)
 
 pub visibility-blank : (v : Visibility) → noView (v .is) ≡ true → v ≡ blankLeg .visibility
 visibility-blank v e = go (v .is) (view-blank (v .is) e)

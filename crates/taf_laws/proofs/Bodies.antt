@@ -22,10 +22,11 @@ use Rattle.places.proofs.Kept.{KeptRow, kept-spoken, kept-served}
 use Rattle.record.specs.declared.aerodrome.Opening.{Opening}
 use Rattle.record.specs.declared.aerodrome.Leg.{Leg}
 use Rattle.record.specs.declared.aerodrome.Taf.{Taf}
-use Rattle.taf.specs.declared.kinds.Part.{Part}
+use Rattle.taf_row.specs.declared.kinds.Part.{Part}
 use Rattle.taf.specs.declared.kinds.Going.{Going}
-use Rattle.taf.specs.Row.{isMain, word, row, changeWords}
-use Rattle.taf.specs.Read.{hasElement, openedBy, withPart, isProbable, bodyOf}
+use Rattle.taf_row.specs.Row.{isMain, word, row, changeWords}
+use Rattle.taf_row.specs.Tests.{hasElement, isProbable}
+use Rattle.taf.specs.Read.{openedBy, withPart, bodyOf}
 use Rattle.taf.proofs.Sound.{row-sound}
 use Rattle.taf_laws.proofs.Rows.{row-covered}
 use Rattle.taf_laws.proofs.Parts.{sizes}

@@ -21,9 +21,9 @@ use Rattle.places.proofs.Sizes.{Sizes, sizes-append, sizes-more, join-room, roo
 use Rattle.places.proofs.Kept.{kept-sizes}
 use Rattle.record.specs.declared.aerodrome.Change.{Change}
 use Rattle.record.specs.declared.aerodrome.Taf.{Taf}
-use Rattle.taf.specs.declared.kinds.Part.the-variants as part
+use Rattle.taf_row.specs.declared.kinds.Part.the-variants as part
 use Rattle.taf.specs.declared.kinds.Reading.{Reading}
-use Rattle.taf.specs.Row.{row}
+use Rattle.taf_row.specs.Row.{row}
 use Rattle.taf.specs.Read.{accepted, readOf}
 use Rattle.taf.specs.Write.{judgeChanges, foreignBlank, judgeOf, showEach, groupsOf, canonicalOf, classChange, classedOf, writtenOf, bufferOf}
 use Rattle.taf_laws.proofs.Parts.{Fair, fair, fair-part, over-bare, kept-main}

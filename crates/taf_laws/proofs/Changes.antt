@@ -26,9 +26,9 @@ use Rattle.record.specs.declared.aerodrome.Period.{Period}
 use Rattle.record.specs.declared.aerodrome.Change.{Change}
 use Rattle.record.specs.declared.aerodrome.Taf.{Taf}
 use Rattle.record.specs.Taf.{blankChange}
-use Rattle.taf.specs.declared.kinds.Part.{Part}
-use Rattle.taf.specs.declared.kinds.Part.the-variants as part
-use Rattle.taf.specs.Row.{isMain, row}
+use Rattle.taf_row.specs.declared.kinds.Part.{Part}
+use Rattle.taf_row.specs.declared.kinds.Part.the-variants as part
+use Rattle.taf_row.specs.Row.{isMain, row}
 use Rattle.taf.specs.Write.{isNoInstant, periodFits, instantFits, isChance, openingFits, partOf, legOf, judgeChange, judgeEach, isBlankChange, allBlankChanges, noChanges, judgeChanges, showChance, showFrom, showOpening, showChange, showEach}
 use Rattle.taf_laws.proofs.Periods.{chance-shaped, from-shaped}
 use Rattle.taf_laws.proofs.Blanks.{LegArrays, EachArrays, Arrays, change-blank}

@@ -22,18 +22,21 @@ use Rattle.record.specs.Taf.{blankLeg}
 use Rattle.elements.specs.Wind.{showWind, judgeWind, classDirection, classWind, noDirection, isBlankWind}
 use Rattle.elements.specs.Visibility.{isCavok, showVisibility, judgeVisibility, classVisibility, noView}
 use Rattle.elements.specs.Sky.{judgeSky, classLayer, classSky}
+use Rattle.elements.proofs.Blanks.{wind-blank}
+use Rattle.elements.proofs.Classed.{cavok-classed, view-classed, cover-classed}
 use Rattle.wind.proofs.RoundTripWind.{wind-again, wind-classed}
 use Rattle.wind.proofs.RoundTripVisibility.{visibility-again, visibility-classed}
 use Rattle.sky.proofs.RoundTrip.{sky-again, sky-classed}
-use Rattle.taf.specs.declared.kinds.Part.{Part}
-use Rattle.taf.specs.declared.kinds.Part.the-variants as part
-use Rattle.taf.specs.Row.{isMain, row}
-use Rattle.taf.specs.Read.{changeOf, hasElement}
+use Rattle.taf_row.specs.declared.kinds.Part.{Part}
+use Rattle.taf_row.specs.declared.kinds.Part.the-variants as part
+use Rattle.taf_row.specs.Row.{isMain, row}
+use Rattle.taf_row.specs.Tests.{hasElement}
+use Rattle.taf.specs.Read.{changeOf}
 use Rattle.taf.specs.Write.{unlessAbsent, judgeForecast, judgePart, instantFits, isNoInstant, openingFits, partOf, legOf, judgeChange, judgeEach, showOpening, showChange, showEach, openedLeg, classChange}
 use Rattle.taf_laws.proofs.Periods.{no-end}
-use Rattle.taf_laws.proofs.Blanks.{LegArrays, EachArrays, wind-blank, visibility-blank}
-use Rattle.taf_laws.proofs.Places.{there-judged, cavok-classed}
-use Rattle.taf_laws.proofs.Parts.{FairPart, FairChange, fair-change, view-classed, cover-classed}
+use Rattle.taf_laws.proofs.Blanks.{LegArrays, EachArrays, visibility-blank}
+use Rattle.taf_laws.proofs.Places.{there-judged}
+use Rattle.taf_laws.proofs.Parts.{FairPart, FairChange, fair-change}
 
 -- ---- a part
 

@@ -16,27 +16,24 @@ use Rattle.places.proofs.ReadBack.{stopsAny}
 use Rattle.places.proofs.Kept.{KeptRow, done, more, last, keep-none}
 use Rattle.record.specs.declared.aerodrome.Opening.{Opening}
 use Rattle.record.specs.declared.aerodrome.Opening.the-variants as opening
-use Rattle.record.specs.declared.aerodrome.View.{View}
-use Rattle.record.specs.declared.aerodrome.View.the-variants as view
-use Rattle.record.specs.declared.aerodrome.Cover.{Cover}
-use Rattle.record.specs.declared.aerodrome.Cover.the-variants as cover
 use Rattle.record.specs.declared.aerodrome.Leg.{Leg}
 use Rattle.record.specs.declared.aerodrome.Change.{Change}
 use Rattle.record.specs.declared.aerodrome.Taf.{Taf}
 use Rattle.record.specs.Taf.{blankLeg}
 use Rattle.elements.specs.Wind.{judgeWind, isBlankWind}
-use Rattle.elements.specs.Visibility.{isCavok, judgeVisibility, classView, noView}
+use Rattle.elements.specs.Visibility.{isCavok, judgeVisibility, noView}
 use Rattle.elements.specs.Weather.{showWeathers}
-use Rattle.elements.specs.Sky.{isLayers, showSky, judgeSky, classCover}
+use Rattle.elements.specs.Sky.{showSky, judgeSky}
+use Rattle.elements.proofs.Classed.{cavok-classed, view-classed, cover-classed}
 use Rattle.aerodrome.specs.Head.{judgeStation, judgeTime}
-use Rattle.taf.specs.declared.kinds.Part.{Part}
-use Rattle.taf.specs.declared.kinds.Part.the-variants as part
-use Rattle.taf.specs.Row.{isMain, row}
-use Rattle.taf.specs.Read.{hasElement}
+use Rattle.taf_row.specs.declared.kinds.Part.{Part}
+use Rattle.taf_row.specs.declared.kinds.Part.the-variants as part
+use Rattle.taf_row.specs.Row.{isMain, row}
+use Rattle.taf_row.specs.Tests.{hasElement}
 use Rattle.taf.specs.Write.{unlessAbsent, judgeForecast, judgePart, isNoPeriod, periodFits, isChance, openingFits, partOf, legOf, judgeChange, noPart, noChanges, judgeChanges, foreignBlank, judgeOf, openedLeg}
 use Rattle.taf_laws.proofs.Periods.{no-period}
 use Rattle.taf_laws.proofs.Blanks.{LegArrays, Arrays, Bare, bare}
-use Rattle.taf_laws.proofs.Places.{cavok-classed, kept-name, kept-correction, kept-station, kept-time, kept-nil, kept-period, kept-cancelled, kept-wind, kept-visibility, kept-forecast, kept-sky}
+use Rattle.taf_laws.proofs.Places.{kept-name, kept-correction, kept-station, kept-time, kept-nil, kept-period, kept-cancelled, kept-wind, kept-visibility, kept-forecast, kept-sky}
 
 -- ---- what is judged fine
 
@@ -241,18 +238,6 @@ change-goes-on part.Changing r e = refl
 change-goes-on part.From r e = refl
 
 -- ---- what is read back has an element where what was written has one
-
-pub view-classed : (v : View) → noView (classView v) ≡ noView v
-view-classed view.Missing = refl
-view-classed view.Cavok = refl
-view-classed (view.Metres m) = refl
-
-pub cover-classed : (c : Cover) → isLayers (classCover c) ≡ isLayers c
-cover-classed cover.Layers = refl
-cover-classed cover.Clear = refl
-cover-classed cover.NoneSignificant = refl
-cover-classed cover.NoneDetected = refl
-cover-classed (cover.Vertical h) = refl
 
 pub element-classed : (w : Part) (r acc : Leg) → hasElement (putAll (row w) r acc) ≡ hasElement r
 unfolding row

@@ -23,9 +23,10 @@ use Rattle.record.specs.declared.aerodrome.Period.{Period}
 use Rattle.record.specs.declared.aerodrome.Opening.the-variants as opening
 use Rattle.record.specs.Taf.{blankInstant, blankLeg, setPeriod}
 use Rattle.aerodrome.specs.Head.{present, isDay, isHour, isMinute}
-use Rattle.aerodrome.specs.Runway.{isMissing}
-use Rattle.taf.specs.declared.kinds.Part.the-variants as part
-use Rattle.taf.specs.Row.{periodShape, isEndHour, hourOf, readPeriod, showPeriod}
+use Rattle.elements.specs.Judge.{isMissing}
+use Rattle.elements.proofs.Blanks.{number-blank}
+use Rattle.taf_row.specs.declared.kinds.Part.the-variants as part
+use Rattle.taf_row.specs.Row.{periodShape, isEndHour, hourOf, readPeriod, showPeriod}
 use Rattle.taf.specs.Read.{openedBy, opened}
 use Rattle.taf.specs.Write.{isHourOf, isNoInstant, periodFits, isNoPeriod, instantFits, isChance, showChance, showFrom}
 
@@ -94,10 +95,6 @@ present-is : (ok : ℕ → Bool) (x : Number) → present ok x ≡ true → (n :
 present-is ok number.Missing e = absurd (false≢true e)
 present-is ok (number.Is n) e = (n, refl, e)
 
-pub missing-is : (x : Number) → isMissing x ≡ true → x ≡ number.Missing
-missing-is number.Missing e = refl
-missing-is (number.Is n) e = absurd (false≢true e)
-
 instant-is : (x y z x′ y′ z′ : Number) → x ≡ x′ → y ≡ y′ → z ≡ z′
     → _≡_ {A = Instant} (record { day = x; hour = y; minute = z }) (record { day = x′; hour = y′; minute = z′ })
 instant-is x y z x′ y′ z′ e f g = rw (e, f, g)
@@ -108,17 +105,17 @@ hour-is hour t e =
     let s = both (present isDay (t .day)) (present hour (t .hour)) (m .0) in
     let d = present-is isDay (t .day) (s .0) in
     let h = present-is hour (t .hour) (s .1) in
-    (d .0, h .0, instant-is (t .day) (t .hour) (t .minute) (number.Is (d .0)) (number.Is (h .0)) number.Missing (d .1) (h .1) (missing-is (t .minute) (m .1)), d .2, h .2)
+    (d .0, h .0, instant-is (t .day) (t .hour) (t .minute) (number.Is (d .0)) (number.Is (h .0)) number.Missing (d .1) (h .1) (number-blank (t .minute) (m .1)), d .2, h .2)
 
 day-few : (d : ℕ) → isDay d ≡ true → d ≤ 31
 day-few d e = leb-true d 31 (both (leb 1 d) (leb d 31) e .1)
 
 -- no time, no period
-no-instant : (t : Instant) → isNoInstant t ≡ true → t ≡ blankInstant
+pub no-instant : (t : Instant) → isNoInstant t ≡ true → t ≡ blankInstant
 no-instant t e =
     let m = both (isMissing (t .day) && isMissing (t .hour)) (isMissing (t .minute)) e in
     let s = both (isMissing (t .day)) (isMissing (t .hour)) (m .0) in
-    instant-is (t .day) (t .hour) (t .minute) number.Missing number.Missing number.Missing (missing-is (t .day) (s .0)) (missing-is (t .hour) (s .1)) (missing-is (t .minute) (m .1))
+    instant-is (t .day) (t .hour) (t .minute) number.Missing number.Missing number.Missing (number-blank (t .day) (s .0)) (number-blank (t .hour) (s .1)) (number-blank (t .minute) (m .1))
 
 period-of : (f t f′ t′ : Instant) → f ≡ f′ → t ≡ t′ → _≡_ {A = Period} (record { from = f; to = t }) (record { from = f′; to = t′ })
 period-of f t f′ t′ e g = rw (e, g)

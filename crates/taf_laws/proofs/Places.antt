@@ -23,8 +23,6 @@ use Rattle.places.proofs.Sizes.{Sized, measured, sized-any, sized-each}
 use Rattle.places.proofs.Kept.{Kept, keep-one, keep-none, keep-each}
 use Rattle.record.specs.declared.aerodrome.Correction.{Correction}
 use Rattle.record.specs.declared.aerodrome.Correction.the-variants as correction
-use Rattle.record.specs.declared.aerodrome.View.{View}
-use Rattle.record.specs.declared.aerodrome.View.the-variants as view
 use Rattle.record.specs.declared.aerodrome.Wind.{Wind}
 use Rattle.record.specs.declared.aerodrome.Visibility.{Visibility}
 use Rattle.record.specs.declared.aerodrome.Weather.{Weather}
@@ -34,8 +32,8 @@ use Rattle.record.specs.declared.aerodrome.Leg.{Leg}
 use Rattle.record.specs.Metar.{blankWind, blankWeather, blankWeathers, blankSky}
 use Rattle.record.specs.Taf.{setNil, setCancelled, setWind, setVisibility, setWeathers, setNsw, setSky, blankLeg}
 use Rattle.elements.specs.Wind.{windShape, showWind, judgeWind, classWind, isBlankWind}
-use Rattle.elements.specs.Visibility.{visibilityShapes, isCavok, showVisibility, judgeVisibility, classView, classVisibility, noView}
-use Rattle.elements.specs.Weather.{codesOf, weatherCover, weatherSpoken, hasWeather, hasUnknown, phenomenaFit, isMissingWeather, readWeather, withWeather, showWeather, showWeathers, judgeWeather, judgeWeathers}
+use Rattle.elements.specs.Visibility.{visibilityShapes, isCavok, showVisibility, judgeVisibility, classVisibility, noView}
+use Rattle.elements.specs.Weather.{codesOf, weatherCover, weatherSpoken, hasWeather, hasUnknown, phenomenaFit, isMissingWeather, readWeather, withWeather, showWeather, showWeathers, judgeWeather, threeFit, judgeWeathers}
 use Rattle.elements.specs.Sky.{layerShape, aloneShapes, hasSky, readSky, showSky, judgeSky, classSky}
 use Rattle.elements.proofs.Fills.{filled, filled-items}
 use Rattle.aerodrome.specs.Head.{stationShape, stationOf, timeShape, showTime, judgeStation, judgeTime}
@@ -47,12 +45,13 @@ use Rattle.weather.proofs.Lists.{addEach as addWeathers, EachFine, weathers-eac
 use Rattle.weather.proofs.Spoken.{weather-spoken}
 use Rattle.sky.proofs.RoundTrip.{addEach as addSky, sky-shaped, sky-few, sky-back}
 use Rattle.aerodrome.proofs.HeadBack.{station-shaped, station-whole, time-shaped, time-back}
-use Rattle.taf.specs.declared.kinds.Part.{Part}
-use Rattle.taf.specs.declared.kinds.Part.the-variants as part
-use Rattle.taf.specs.Row.{isMain, isWhole, hasPeriod, openIn, word, onto, periodShape, showPeriod, hasForecast, forecastSpoken, besideOthers, readForecast, showForecast, row}
-use Rattle.taf.specs.Write.{unlessAbsent, nswAgrees, threeFit, judgeForecast, periodFits}
+use Rattle.taf_row.specs.declared.kinds.Part.{Part}
+use Rattle.taf_row.specs.declared.kinds.Part.the-variants as part
+use Rattle.taf_row.specs.Row.{isMain, isWhole, hasPeriod, openIn, word, onto, periodShape, showPeriod, hasForecast, forecastSpoken, besideOthers, readForecast, showForecast, row}
+use Rattle.taf.specs.Write.{unlessAbsent, nswAgrees, judgeForecast, periodFits}
 use Rattle.taf_laws.proofs.Periods.{period-shaped, period-back}
-use Rattle.taf_laws.proofs.Blanks.{wind-blank, visibility-blank}
+use Rattle.elements.proofs.Blanks.{wind-blank}
+use Rattle.taf_laws.proofs.Blanks.{visibility-blank}
 
 -- ---- the room of a group
 
@@ -162,11 +161,6 @@ set-nsw x acc e = rw (← e)
 
 set-sky : (x : Sky) (acc : Leg) → acc .sky ≡ x → setSky x acc ≡ acc
 set-sky x acc e = rw (← e)
-
-pub cavok-classed : (v : View) → isCavok (record { is = classView v }) ≡ isCavok (record { is = v })
-cavok-classed view.Missing = refl
-cavok-classed view.Cavok = refl
-cavok-classed (view.Metres m) = refl
 
 module _ (w : Part) (r acc : Leg) where
   pub kept-wind : acc .wind ≡ blankLeg .wind → unlessAbsent w (isBlankWind (r .wind)) (judgeWind true (r .wind)) ≡ judged.Fine → Kept (placeAt (row w) 7) 13 r acc

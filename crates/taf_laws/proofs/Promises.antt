@@ -1,43 +1,35 @@
--- What the round trip promises of a TAF, in document 01's words: each exact field comes back as it was, each rounded number as the reading of its class, near
--- its value and never above it where the scale rounds down, in the main part and in each change; and of two values on one scale the greater never reads
--- smaller.
+-- What the round trip promises of a TAF, in document 01's words: each exact field comes back as it was, each rounded number as the reading of its
+-- class, near its value and never above it where the scale rounds down, in the main part and in each change.
 -- Assumes nothing.
 use Prim.Native.Nat.{ℕ, zero, suc}
 use mathlib.Core.Path.{_≡_, refl, sym, ap, _∙_}
 use mathlib.Core.Bool.{Bool, true, false, _||_}
 use mathlib.Core.List.{List, [], _∷_, _++_, map}
-use lib.ListN.{length, getD, take, drop, replicate, List·getD-map}
+use lib.ListN.{length, take, drop, replicate}
 use Rattle.text.specs.declared.kinds.Judged.the-variants as judged
 use Rattle.text.specs.declared.kinds.Verdict.the-variants as verdict
 use Rattle.text.proofs.Judging.{fine, and-then}
 use Rattle.shapes.proofs.Patterns.{neither}
-use Rattle.record.specs.declared.values.Number.{Number}
-use Rattle.record.specs.declared.values.Number.the-variants as number
 use Rattle.record.specs.declared.aerodrome.Wind.{Wind}
 use Rattle.record.specs.declared.aerodrome.Visibility.{Visibility}
-use Rattle.record.specs.declared.aerodrome.Layer.{Layer}
-use Rattle.record.specs.declared.aerodrome.Cover.{Cover}
-use Rattle.record.specs.declared.aerodrome.Cover.the-variants as cover
-use Rattle.record.specs.declared.aerodrome.Sky.{Sky}
 use Rattle.record.specs.declared.aerodrome.Leg.{Leg}
 use Rattle.record.specs.declared.aerodrome.Change.{Change}
 use Rattle.record.specs.declared.aerodrome.Taf.{Taf}
-use Rattle.record.specs.Metar.{blankLayer}
 use Rattle.record.specs.Taf.{blankChange}
 use Rattle.elements.specs.Wind.{judgeWind, classWind, isBlankWind}
 use Rattle.elements.specs.Visibility.{viewFits, judgeVisibility, classView, noView}
-use Rattle.elements.specs.Sky.{classCover, classLayer, classSky, writtenHeight}
-use Rattle.wind.proofs.Promises.{DirectionNear, no-direction, wind-near, ViewRead, visibility-read, ViewOrder, visibility-order}
-use Rattle.sky.proofs.Promises.{SkyBack, sky-read, HeightOrder, height-order}
-use Rattle.taf.specs.declared.kinds.Part.{Part}
-use Rattle.taf.specs.declared.kinds.Part.the-variants as part
-use Rattle.taf.specs.Row.{row}
+use Rattle.elements.proofs.Blanks.{wind-blank}
+use Rattle.wind.proofs.Promises.{DirectionNear, no-direction, wind-near, ViewRead, visibility-read}
+use Rattle.sky.proofs.Promises.{SkyBack, sky-read}
+use Rattle.taf_row.specs.declared.kinds.Part.{Part}
+use Rattle.taf_row.specs.declared.kinds.Part.the-variants as part
+use Rattle.taf_row.specs.Row.{row}
 use Rattle.taf.specs.Read.{readOf}
 use Rattle.taf.specs.Write.{unlessAbsent, legOf, judgeChange, judgeEach, judgeOf, canonicalOf, classChange, classedOf}
-use Rattle.taf_laws.proofs.Blanks.{Arrays, Bare, wind-blank, visibility-blank}
+use Rattle.taf_laws.proofs.Blanks.{Arrays, Bare, visibility-blank}
 use Rattle.taf_laws.proofs.Places.{there-judged}
 use Rattle.taf_laws.proofs.Parts.{FairPart, fair-part, FairChange, fair-change, Fair, fair, over-bare}
-use Rattle.taf_laws.proofs.Changes.{Listed, listed}
+use Rattle.taf_laws.proofs.Changes.{listed}
 use Rattle.taf_laws.proofs.Classes.{classPart, change-is}
 use Rattle.taf_laws.proofs.Canonical.{read-canonical, taken, dropped}
 
@@ -146,45 +138,8 @@ pub promise : (t : Taf) → Arrays t → judgeOf t ≡ judged.Fine
     → (readOf (canonicalOf t) .verdict ≡ verdict.Accepted (length (canonicalOf t))) × RecordRead t (readOf (canonicalOf t) .report)
 promise t arrays e = rw (read-canonical t arrays e) (refl, record-read t arrays e)
 
--- ---- the order
+-- ---- each change is read back as its class, and those past the count too
 
--- the main part, or a change's
-pub data Where : Type 0 where
-  main : Where
-  change : ℕ → Where
-
-abbrev pub partAt : Taf → Where → Leg
-partAt t main = t .leg
-partAt t (change i) = legOf (getD (t .changes .items) i blankChange)
-
--- the height of a layer, or the vertical visibility, on the same scale
-pub data Level : Type 0 where
-  layer : ℕ → Level
-  vertical : Level
-
-abbrev pub verticalOf : Cover → Number
-verticalOf cover.Layers = number.Missing
-verticalOf cover.Clear = number.Missing
-verticalOf cover.NoneSignificant = number.Missing
-verticalOf cover.NoneDetected = number.Missing
-verticalOf (cover.Vertical h) = h
-
-abbrev pub heightAt : Sky → Level → Number
-heightAt s (layer i) = getD (s .layers) i blankLayer .height
-heightAt s vertical = verticalOf (s .cover)
-
-vertical-class : (c : Cover) → verticalOf (classCover c) ≡ writtenHeight (verticalOf c)
-vertical-class cover.Layers = refl
-vertical-class cover.Clear = refl
-vertical-class cover.NoneSignificant = refl
-vertical-class cover.NoneDetected = refl
-vertical-class (cover.Vertical h) = refl
-
-height-class : (s : Sky) (l : Level) → heightAt (classSky s) l ≡ writtenHeight (heightAt s l)
-height-class s (layer i) = ap (λ (l : Layer). l .height) (List·getD-map classLayer (s .layers) i blankLayer)
-height-class s vertical = vertical-class (s .cover)
-
--- a blank change is read back as it was, and so are those past the count
 blank-classed : classChange blankChange ≡ blankChange
 unfolding classChange row
 blank-classed = refl
@@ -200,44 +155,10 @@ map-parts zero cs = refl
 map-parts (suc n) [] = refl
 map-parts (suc n) (c ∷ cs) = ap (λ (l : List Change). classChange c ∷ l) (map-parts n cs)
 
-items-classed : (t : Taf) → Listed t → classedOf t .changes .items ≡ map classChange (t .changes .items)
+pub items-classed : (t : Taf) → Arrays t → judgeOf t ≡ judged.Fine → classedOf t .changes .items ≡ map classChange (t .changes .items)
 unfolding classedOf
-items-classed t l =
+items-classed t arrays e =
+    let l = listed t arrays (fair t e) in
     ap (λ (q : List Change). map classChange (take (t .changes .count) (t .changes .items)) ++ q)
     (sym (l .blank) ∙ sym (blanks-classed (t .changes .count) 16) ∙ ap (map classChange) (l .blank))
     ∙ map-parts (t .changes .count) (t .changes .items)
-
-change-at : (t : Taf) → Listed t → (i : ℕ) → getD (classedOf t .changes .items) i blankChange ≡ classChange (getD (t .changes .items) i blankChange)
-change-at t l i = rw (items-classed t l) (ap (getD (map classChange (t .changes .items)) i) (sym blank-classed) ∙ List·getD-map classChange (t .changes .items) i blankChange)
-
--- each part's visibility and sky are read back as their classes
-view-class : (t : Taf) → Listed t → (a : Where) → partAt (classedOf t) a .visibility .is ≡ classView (partAt t a .visibility .is)
-unfolding classedOf classChange row
-view-class t l main = refl
-view-class t l (change i) = ap (λ (c : Change). c .visibility .is) (change-at t l i)
-
-sky-class : (t : Taf) → Listed t → (a : Where) → partAt (classedOf t) a .sky ≡ classSky (partAt t a .sky)
-unfolding classedOf classChange row
-sky-class t l main = refl
-sky-class t l (change i) = ap (λ (c : Change). c .sky) (change-at t l i)
-
--- Of the values of t and of q the greater does not come back smaller: which part or layer it stands in makes no difference.
-pub record Ordered (t q back-t back-q : Taf) : Type 0 where
-  pub visibility : (a b : Where) → ViewOrder (partAt t a .visibility .is) (partAt q b .visibility .is)
-      → ViewOrder (partAt back-t a .visibility .is) (partAt back-q b .visibility .is)
-  pub heights : (a b : Where) (i j : Level) → HeightOrder (heightAt (partAt t a .sky) i) (heightAt (partAt q b .sky) j)
-      → HeightOrder (heightAt (partAt back-t a .sky) i) (heightAt (partAt back-q b .sky) j)
-
-ordered : (t q : Taf) → Listed t → Listed q → Ordered t q (classedOf t) (classedOf q)
-ordered t q l m =
-    record {
-      visibility = λ a b h. rw (view-class t l a, view-class q m b) (visibility-order (partAt t a .visibility .is) (partAt q b .visibility .is) h);
-      heights = λ a b i j h.
-          rw (sky-class t l a, sky-class q m b, height-class (partAt t a .sky) i, height-class (partAt q b .sky) j)
-          (height-order (heightAt (partAt t a .sky) i) (heightAt (partAt q b .sky) j) h);
-    }
-
--- OF TWO RECORDS THAT THE WRITER ACCEPTS, the greater value never reads smaller.
-pub order : (t q : Taf) → Arrays t → Arrays q → judgeOf t ≡ judged.Fine → judgeOf q ≡ judged.Fine
-    → Ordered t q (readOf (canonicalOf t) .report) (readOf (canonicalOf q) .report)
-order t q arrays arrays′ e f = rw (read-canonical t arrays e, read-canonical q arrays′ f) (ordered t q (listed t arrays (fair t e)) (listed q arrays′ (fair q f)))

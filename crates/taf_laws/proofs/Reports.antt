@@ -27,11 +27,12 @@ use Rattle.record.specs.declared.aerodrome.Leg.{Leg}
 use Rattle.record.specs.declared.aerodrome.Change.{Change}
 use Rattle.record.specs.declared.aerodrome.Taf.{Taf}
 use Rattle.record.specs.Taf.{blankLeg, blankChange, blankTaf}
-use Rattle.taf.specs.declared.kinds.Part.{Part}
-use Rattle.taf.specs.declared.kinds.Part.the-variants as part
+use Rattle.taf_row.specs.declared.kinds.Part.{Part}
+use Rattle.taf_row.specs.declared.kinds.Part.the-variants as part
 use Rattle.taf.specs.declared.kinds.Going.{Going}
-use Rattle.taf.specs.Row.{isMain, row, changeWords}
-use Rattle.taf.specs.Read.{hasElement, openedBy, opened, begun, withChange, withPart, isProbable, bodyOf, mainPart, fromFirst}
+use Rattle.taf_row.specs.Row.{isMain, row, changeWords}
+use Rattle.taf_row.specs.Tests.{hasElement, isProbable}
+use Rattle.taf.specs.Read.{openedBy, opened, begun, withChange, withPart, bodyOf, mainPart, fromFirst}
 use Rattle.taf.specs.Write.{isNoInstant, periodFits, instantFits, isChance, openingFits, partOf, legOf, judgeChange, judgeEach, judgeOf, showChance, showFrom, showOpening, showChange, showEach, groupsOf, openedLeg, classChange, classedOf}
 use Rattle.taf_laws.proofs.Periods.{chance-shaped, chance-opened, from-shaped, from-opened}
 use Rattle.taf_laws.proofs.Blanks.{LegArrays, EachArrays, Arrays}

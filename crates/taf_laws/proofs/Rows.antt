@@ -11,8 +11,8 @@ use Rattle.elements.specs.Weather.{weatherCover, hasWeather}
 use Rattle.wind.proofs.RoundTripWind.{wind-covered}
 use Rattle.weather.proofs.Covers.{weather-covered}
 use Rattle.sky.proofs.Groups.{sky-covered}
-use Rattle.taf.specs.declared.kinds.Part.{Part}
-use Rattle.taf.specs.Row.{word, hasForecast, forecastCover, row}
+use Rattle.taf_row.specs.declared.kinds.Part.{Part}
+use Rattle.taf_row.specs.Row.{word, hasForecast, forecastCover, row}
 
 forecast-covered : (g : Group) → hasForecast g ≡ true → hasAny forecastCover g ≡ true
 unfolding hasAny

@@ -1,16 +1,18 @@
 // Reading a TAF: the text as a whole, its first group, then the main part and the change groups, each with a part of its own.
 use record::aerodrome::Opening;
 use record::aerodrome::Taf;
+use record::blank_aerodrome::blank_leg;
+use record::blank_aerodrome::blank_taf;
 use shapes::has_pattern;
+use taf::group::meet;
 use taf::kinds::Going;
 use taf::kinds::Next;
-use taf::kinds::Part;
 use taf::kinds::PartRead;
 use taf::kinds::Reading;
 use taf::kinds::Stop;
-use taf::row::meet;
+use taf_row::kinds::Part;
+use taf_row::tests::lacks;
 use taf_turn::answer;
-use taf_turn::change::lacks;
 use taf_turn::change::take_turn;
 use taf_turn::change::with_part;
 use text::kinds::Bytes;
@@ -123,7 +125,7 @@ fn read_change(text: &[u8], start: usize, end: usize, t: Taf, s: Going) -> Readi
 fn main_part() -> Going
     ensures { λ r. ⌜ r ≡ mainPart ⌝ }
 {
-    let leg = answer::blank_leg();
+    let leg = blank_leg();
     Going {
         opening: Opening::None,
         part: Part::Main,
@@ -138,7 +140,7 @@ fn main_part() -> Going
 fn read_parts(text: &[u8]) -> Reading
     ensures { λ r. ⌜ r ≡ bodyFrom (now (text .entry)) blankTaf mainPart 0 ⌝ }
 {
-    let t = answer::blank();
+    let t = blank_taf();
     let s = main_part();
     read_body(text, 0, t, s)
 }

@@ -1,5 +1,4 @@
 // A change word's turn: the part before it is whole and goes into the report, and the word opens the next part.
-use crate::answer;
 use figures::field;
 use figures::kinds::Field;
 use record::aerodrome::Change;
@@ -8,82 +7,24 @@ use record::aerodrome::Instant;
 use record::aerodrome::Leg;
 use record::aerodrome::Opening;
 use record::aerodrome::Period;
-use record::aerodrome::Sky;
 use record::aerodrome::Taf;
-use record::aerodrome::Unit;
-use record::aerodrome::View;
-use record::aerodrome::Visibility;
-use record::aerodrome::Wind;
+use record::blank_aerodrome::blank_instant;
+use record::blank_aerodrome::blank_leg;
 use record::values::Number;
 use shapes::has_pattern;
-use sky::read::is_layers;
 use taf::kinds::Going;
 use taf::kinds::Opened;
-use taf::kinds::Part;
 use taf::kinds::Turn;
-use taf::row::is_main;
-use taf::row::musts;
+use taf_row::kinds::Part;
+use taf_row::row::is_main;
+use taf_row::tests::is_full;
+use taf_row::tests::lacks;
 use text::kinds::Judged;
 use text::kinds::Refusal;
 ghost use mathlib.Core.Path.{_≡_};
 ghost use Rattle.places.specs.Engine.{Bad};
-ghost use Rattle.elements.specs.Wind.{hasUnit};
-ghost use Rattle.elements.specs.Sky.{isLayers};
-ghost use Rattle.elements.specs.Visibility.{noView};
-ghost use Rattle.taf.specs.Read.{hasElement, lacks, begun, fromGroup, probableGroup, openedBy, changeOf, withChange, withPart};
+ghost use Rattle.taf.specs.Read.{begun, fromGroup, probableGroup, openedBy, changeOf, withChange, withPart};
 ghost use Rattle.taf.specs.Step.{Opens, fromTime, openedAs, turned, turnOf};
-
-// ---- is the part whole?
-
-fn has_unit(wind: Wind) -> bool
-    ensures { λ r. ⌜ r ≡ hasUnit (wind .unit) ⌝ }
-{
-    let unit = wind.unit;
-    match unit {
-        Unit::Missing => false,
-        Unit::Knots => true,
-        Unit::MetresPerSecond => true,
-        Unit::KilometresPerHour => true,
-    }
-}
-
-fn no_view(visibility: Visibility) -> bool
-    ensures { λ r. ⌜ r ≡ noView (visibility .is) ⌝ }
-{
-    let view = visibility.is;
-    match view {
-        View::Missing => true,
-        View::Cavok => false,
-        View::Metres(_) => false,
-    }
-}
-
-fn has_layers(sky: Sky) -> bool
-    ensures { λ r. ⌜ r ≡ isLayers (sky .cover) ⌝ }
-{
-    let cover = sky.cover;
-    is_layers(cover)
-}
-
-fn has_element(r: Leg) -> bool
-    ensures { λ b. ⌜ b ≡ hasElement r ⌝ }
-{
-    let wind = has_unit(r.wind);
-    let unseen = no_view(r.visibility);
-    let layers = has_layers(r.sky);
-    wind | !unseen | (0 < r.weathers.count) | r.nsw | !layers | (0 < r.sky.count)
-}
-
-// Is a required group absent, or has a change body no element?
-pub fn lacks(part: Part, place: usize, count: usize, r: Leg) -> bool
-    ensures { λ b. ⌜ b ≡ lacks part place count r ⌝ }
-{
-    let must = musts(part);
-    let owed = places::is_owed(&must, place, count);
-    let main = is_main(part);
-    let some = has_element(r);
-    owed | (!main & !some)
-}
 
 // ---- what a change word opens
 
@@ -122,9 +63,9 @@ fn begin_from(day: u32, hour: u32, minute: u32) -> Opened
         hour: Number::Is(hour),
         minute: Number::Is(minute),
     };
-    let to = answer::blank_instant();
+    let to = blank_instant();
     let period = Period { from, to };
-    let blank = answer::blank_leg();
+    let blank = blank_leg();
     let mut leg = blank;
     leg.period = period;
     begin(Opening::From, Part::From, leg)
@@ -158,7 +99,7 @@ fn open_probable(g: &[u8], s: Going) -> Opened
         return refuse_opening(Refusal::Figure, s);
     };
     if (chance == 30) | (chance == 40) {
-        let leg = answer::blank_leg();
+        let leg = blank_leg();
         begin(Opening::Probable(chance), Part::Changing, leg)
     } else {
         refuse_opening(Refusal::Figure, s)
@@ -169,11 +110,11 @@ fn open_change(g: &[u8], s: Going) -> Opened
     ensures { λ r. ⌜ r ≡ openedAs s (openedBy (now (g .entry))) ⌝ }
 {
     if has_pattern(g, b"BECMG") {
-        let leg = answer::blank_leg();
+        let leg = blank_leg();
         return begin(Opening::Becoming, Part::Changing, leg);
     }
     if has_pattern(g, b"TEMPO") {
-        let leg = answer::blank_leg();
+        let leg = blank_leg();
         return begin(Opening::Temporary, Part::Changing, leg);
     }
     if has_pattern(g, b"PROB##") {
@@ -260,7 +201,7 @@ pub fn take_turn(t: Taf, s: Going, g: &[u8]) -> Turn
         return refuse_turn(Refusal::Absence, t, s);
     }
     let report = with_part(t, s);
-    if 16 <= report.changes.count {
+    if is_full(report.changes.count) {
         return refuse_turn(Refusal::Limit, t, s);
     }
     let opened = open_change(g, s);

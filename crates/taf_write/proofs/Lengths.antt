@@ -1,8 +1,7 @@
 -- The lengths of the arrays of a TAF's changes: an array's length is part of its type, and each change of an array of changes has arrays of its own.
 -- Assumes nothing.
-use mathlib.Core.Path.{_≡_}
 use mathlib.Core.List.{List, [], _∷_, map}
-use lib.ListN.{length, length-map}
+use lib.ListN.{length-map}
 use mir.Val.{Val}
 use denote.RattleType.{RattleType}
 use denote.Array.{each}

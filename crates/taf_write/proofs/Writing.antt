@@ -8,7 +8,7 @@ use mathlib.Core.Path.{_≡_, refl, sym, ap, _∙_}
 use mathlib.Core.Bool.{cond}
 use mathlib.Core.List.{List, [], _∷_, _++_, append-assoc, append-nil}
 use mathlib.Core.Logic.{⊎-elim}
-use lib.ListN.{length, take, drop, getD, replicate, take-append-drop}
+use lib.ListN.{length, take, drop, getD, replicate}
 use lib.Seq.{take-suc, take-all}
 use Rattle.figures.specs.Put.{Put}
 use Rattle.text.specs.declared.kinds.Refusal.{Refusal}
@@ -19,28 +19,19 @@ use Rattle.text.specs.Groups.{join, written}
 use Rattle.text.specs.Write.{answerBy, bufferBy}
 use Rattle.text.proofs.Writes.{write-groups, write-none, made-within, made-text}
 use Rattle.scales.proofs.Laws.{reached}
-use Rattle.places.specs.Engine.{Group, Place, written as groupsAt}
+use Rattle.places.specs.Engine.{Group, written as groupsAt}
+use Rattle.places.proofs.Rows.{groups-split}
 use Rattle.places.proofs.Sizes.{Sizes}
 use Rattle.record.specs.declared.aerodrome.Leg.{Leg}
 use Rattle.record.specs.declared.aerodrome.Change.{Change}
 use Rattle.record.specs.declared.aerodrome.Taf.{Taf}
-use Rattle.taf.specs.declared.kinds.Part.{Part}
-use Rattle.taf.specs.declared.kinds.Part.the-variants as part
-use Rattle.taf.specs.Row.{showPeriod, row}
+use Rattle.taf_row.specs.declared.kinds.Part.{Part}
+use Rattle.taf_row.specs.declared.kinds.Part.the-variants as part
+use Rattle.taf_row.specs.Row.{showPeriod, row}
 use Rattle.taf.specs.Write.{judgeOf, showChange, showEach, groupsOf, canonicalOf, writtenOf, bufferOf}
 
--- ---- a row in two parts
+-- ---- a row in two parts: the first seven places and then the others
 
-module _ {R : Type 0} (r : R) where
-  groups-append : (ps qs : List (Place R)) → groupsAt (ps ++ qs) r ≡ groupsAt ps r ++ groupsAt qs r
-  groups-append [] qs = refl
-  groups-append (p ∷ ps) qs =
-      ap (λ (gs : List Group). p .show r ++ gs) (groups-append ps qs) ∙ sym (append-assoc (p .show r) (groupsAt ps r) (groupsAt qs r))
-
-  groups-split : (n : ℕ) (ps : List (Place R)) → groupsAt ps r ≡ groupsAt (take n ps) r ++ groupsAt (drop n ps) r
-  groups-split n ps = ap (λ (l : List (Place R)). groupsAt l r) (sym (take-append-drop n ps)) ∙ groups-append (take n ps) (drop n ps)
-
--- the first seven places and then the others
 pub put-parts : {b l m : List ℕ} {at i n : ℕ} (w : Part) (r : Leg) → Put b at (written at (groupsAt (take 7 (row w)) r)) i l
     → Put l i (written i (groupsAt (drop 7 (row w)) r)) n m → Put b at (written at (groupsAt (row w) r)) n m
 put-parts w r p q = rw (groups-split r 7 (row w)) (write-groups (groupsAt (take 7 (row w)) r) (groupsAt (drop 7 (row w)) r) p q)

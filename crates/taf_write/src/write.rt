@@ -1,9 +1,10 @@
 // A TAF written as its canonical text, over a lent buffer: all of it, or nothing.
 use aerodrome::write::put_station;
 use aerodrome::write::put_time;
-use figures::kinds::Field;
+use aerodrome::write::put_two;
+use elements::blank::no_view;
+use elements::blank::no_wind;
 use figures::put::put_byte;
-use figures::put::put_field;
 use figures::put::put_number;
 use figures::put::put_text;
 use record::aerodrome::Change;
@@ -15,14 +16,11 @@ use record::aerodrome::Period;
 use record::aerodrome::Taf;
 use record::aerodrome::Visibility;
 use record::aerodrome::Wind;
-use record::values::Number;
 use sky::write::put_sky;
-use taf::kinds::Part;
 use taf_judge::blank::leg_of;
-use taf_judge::blank::no_view;
-use taf_judge::blank::no_wind;
 use taf_judge::judge::judge;
 use taf_judge::judge::part_of;
+use taf_row::kinds::Part;
 use text::kinds::Judged;
 use text::kinds::Written;
 use text::write::close_report;
@@ -38,7 +36,6 @@ ghost use mathlib.Core.Bool.{cond};
 ghost use mathlib.Core.List.{_∷_, [], _++_};
 ghost use Prim.Native.Nat.{min};
 ghost use lib.ListN.{length, take, drop};
-ghost use Rattle.figures.specs.Figures.{fieldText};
 ghost use Rattle.figures.specs.Put.{Put};
 ghost use Rattle.figures.specs.Quote.{bytes};
 ghost use Rattle.text.specs.declared.kinds.Judged.the-variants as judged;
@@ -46,9 +43,8 @@ ghost use Rattle.text.specs.Groups.{written};
 ghost use Rattle.places.specs.Engine.{written as groupsAt};
 ghost use Rattle.elements.specs.Wind.{showWind, isBlankWind};
 ghost use Rattle.elements.specs.Visibility.{showVisibility, noView};
-ghost use Rattle.aerodrome.specs.Head.{fieldOf};
-ghost use Rattle.taf.specs.declared.kinds.Part.the-variants as part;
-ghost use Rattle.taf.specs.Row.{showCorrection, showHour, showPeriod, showForecast, row};
+ghost use Rattle.taf_row.specs.declared.kinds.Part.the-variants as part;
+ghost use Rattle.taf_row.specs.Row.{showCorrection, showHour, showPeriod, showForecast, row};
 ghost use Rattle.taf.specs.Write.{judgeOf, showChance, showFrom, showOpening, showChange, showEach, groupsOf, writtenOf, bufferOf};
 
 // ---- the head
@@ -61,21 +57,6 @@ fn put_correction(out: &mut [u8], at: usize, c: Correction) -> usize
         Correction::Amended => put_group(out, at, b"AMD"),
         Correction::Corrected => put_group(out, at, b"COR"),
     }
-}
-
-fn field_of(n: Number) -> Field
-    ensures { λ r. ⌜ r ≡ fieldOf n ⌝ }
-{
-    match n {
-        Number::Missing => Field::Missing,
-        Number::Is(v) => Field::Number(v),
-    }
-}
-
-fn put_two(out: &mut [u8], at: usize, n: Number) -> usize
-    ensures { λ r. ⌜ Put (now (out .entry)) at (fieldText 2 (fieldOf n)) r (now (out .exit)) ⌝ }
-{
-    put_field(out, at, 2, field_of(n))
 }
 
 // YYGG

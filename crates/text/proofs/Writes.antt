@@ -1,7 +1,7 @@
 -- Groups written one after the other over a buffer, and the report that they make. A buffer that is too short changes none of these laws.
 -- Assumes nothing.
 use mathlib.Core.Path.{_≡_, refl, sym, ap, _∙_}
-use mathlib.Core.Bool.{Bool, true, false, cond}
+use mathlib.Core.Bool.{Bool, true, false}
 use mathlib.Core.List.{List, [], _∷_, _++_, append-nil}
 use Prim.Native.Nat.{ℕ, zero, suc, _+_, _≤_, _<_}
 use native.Mathlib.Omega.{arith}
@@ -10,14 +10,13 @@ use borrow.Author.Tests.{le-leb, lt-leb}
 use native.Mathlib.Nat.{zero-add}
 use lib.ListN.{length, take, replicate, length-replicate}
 use lib.Dec.{leb}
-use Rattle.figures.specs.Put.{splice, after, Put}
-use Rattle.figures.proofs.Puts.{put-none, put-next, put-before, splice-out, length-splice, length-put, then}
+use Rattle.figures.specs.Put.{after, Put}
+use Rattle.figures.proofs.Puts.{put-none, put-next, put-before, splice-out, length-put, then}
 use Rattle.text.specs.declared.kinds.Refusal.the-variants as refusal
-use Rattle.text.specs.declared.kinds.Judged.{Judged}
 use Rattle.text.specs.declared.kinds.Judged.the-variants as judged
 use Rattle.text.specs.declared.kinds.Written.the-variants as answer
 use Rattle.text.specs.Groups.{join, opening, written, Wholes}
-use Rattle.text.specs.Write.{fitsIn, answerBy, bufferBy}
+use Rattle.text.specs.Write.{answerBy, bufferBy}
 use Rattle.text.proofs.Joins.{written-append, parted-written}
 
 -- where no room is left one text is put as another is
@@ -89,12 +88,3 @@ pub with-room : {x b e : List ℕ} {n : ℕ} → length x ≤ length b → Put b
 with-room {x} {b} h p =
     let l = le-leb (length x) (length b) h in
     (rw l (ap answer.Count (put-next p (omega arith) ∙ zero-add (length x))), rw l (p .text))
-
--- a lent buffer keeps its length
-pub length-buffer : (j : Judged) (x b : List ℕ) → length (bufferBy j x b) ≡ length b
-length-buffer (judged.Refused f) x b = refl
-length-buffer judged.Fine x b = go (fitsIn (length b) x)
-  where
-    go : (t : Bool) → length (cond t (splice b 0 x) b) ≡ length b
-    go true = length-splice b 0 x
-    go false = refl

@@ -14,12 +14,10 @@ use weather::codes::is_descriptor;
 use weather::read::has_unknown;
 use weather::read::is_plain;
 ghost use mathlib.Core.Path.{_≡_};
-ghost use mathlib.Core.Bool.{cond, _&&_};
+ghost use mathlib.Core.Bool.{cond};
 ghost use mathlib.Core.List.{[]};
-ghost use lib.ListN.{drop};
-ghost use lib.Dec.{leb, eqb};
 ghost use Rattle.text.specs.declared.kinds.Judged.the-variants as judged;
-ghost use Rattle.elements.specs.Weather.{isNone, gapless, listed, under, isDescribed, intensityFits, phenomenaFit, isMissingWeather, judgeWeather, judgeRecent, allMissing, judgeWeathers};
+ghost use Rattle.elements.specs.Weather.{isNone, gapless, listed, under, isDescribed, intensityFits, phenomenaFit, isMissingWeather, judgeWeather, judgeRecent, threeFit, judgeWeathers, noWeathers};
 ghost use Rattle.weather_write.specs.Three.{judgeThree};
 
 fn is_none(c: Code) -> bool
@@ -115,8 +113,8 @@ pub fn judge_recent(automatic: bool, w: Weather) -> Judged
 }
 
 // The count, and what stands past it.
-fn count_fits(ws: Weathers) -> bool
-    ensures { λ r. ⌜ r ≡ (leb (ws .count) 3 && allMissing (drop (ws .count) (ws .items))) ⌝ }
+pub fn count_fits(ws: Weathers) -> bool
+    ensures { λ r. ⌜ r ≡ threeFit ws ⌝ }
 {
     let items = ws.items;
     let count = ws.count;
@@ -169,7 +167,7 @@ pub fn judge_recents(automatic: bool, ws: Weathers) -> Judged
 }
 
 pub fn no_weathers(ws: Weathers) -> bool
-    ensures { λ r. ⌜ r ≡ (eqb (ws .count) 0 && allMissing (ws .items)) ⌝ }
+    ensures { λ r. ⌜ r ≡ noWeathers ws ⌝ }
 {
     let items = ws.items;
     let count = ws.count;

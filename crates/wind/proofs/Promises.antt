@@ -1,5 +1,5 @@
--- How far off a wind, a variation and a visibility are read back: a direction by less than ten degrees on the circle, a visibility on its scale,
--- not above its value and within its class; and of two visibilities the greater never reads smaller.
+-- How far off a wind, a variation and a visibility are read back: a direction by less than ten degrees on the circle, a visibility on its scale, not
+-- above its value and within its class.
 -- Assumes nothing.
 use Prim.Native.Nat.{ℕ, _+_, _-_, _%_, _≤_, _<_}
 use mathlib.Core.Path.{_≡_}
@@ -73,9 +73,3 @@ visibility-read forecast view.Missing h = no-view
 visibility-read forecast view.Cavok h = cavok
 visibility-read forecast (view.Metres m) h =
     metres (down eqb visibility visibility-laws m)
-
-pub data ViewOrder : View → View → Type 0 where
-  in-metres : {m n : ℕ} → m ≤ n → ViewOrder (view.Metres m) (view.Metres n)
-
-pub visibility-order : (a b : View) → ViewOrder a b → ViewOrder (classView a) (classView b)
-visibility-order _ _ (in-metres {m} {n} h) = in-metres (visibility-laws .order m n h)

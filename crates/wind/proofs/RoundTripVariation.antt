@@ -110,11 +110,6 @@ none-shown (extremes.Between a b) s = let z : _≡_ {A = ℕ} 0 1 = cc in absurd
 
 -- ---- the variation
 
--- where no group is written there is none
-pub variation-none : (v : Variation) → showVariation v ≡ [] → v .is ≡ extremes.Missing
-unfolding showVariation
-variation-none v s = none-shown (v .is) s
-
 module _ (v : Variation) (e : judgeVariation v ≡ judged.Fine) where
   pub judged-fine : (extremesFit (v .is) ≡ true) × (extremesAgree (v .is) ≡ true)
   unfolding judgeVariation

@@ -2,34 +2,22 @@
 // TAF nothing is missing.
 use crate::agree::wind_agrees;
 use crate::directions::degrees_text;
+use elements::blank::has_unit;
+use elements::blank::no_gust;
 use record::aerodrome::Extremes;
-use record::aerodrome::Unit;
 use record::aerodrome::Variation;
 use record::aerodrome::View;
 use record::aerodrome::Visibility;
 use record::aerodrome::Wind;
 use record::values::Direction;
-use record::values::Number;
 use record::values::Speed;
 use text::judge::judge;
 use text::kinds::Judged;
 ghost use mathlib.Core.Path.{_≡_};
-ghost use Rattle.elements.specs.Judge.{metresFit};
-ghost use Rattle.elements.specs.Wind.{hasUnit, gustFits, noGust, speedFits, windFits, speedsAgree, judgeWind, extremesFit, extremesAgree, judgeVariation};
+ghost use Rattle.elements.specs.Wind.{gustFits, speedFits, windFits, speedsAgree, judgeWind, extremesFit, extremesAgree, judgeVariation};
 ghost use Rattle.elements.specs.Visibility.{viewFits, judgeVisibility};
 
 // ---- wind
-
-fn has_unit(u: Unit) -> bool
-    ensures { λ r. ⌜ r ≡ hasUnit u ⌝ }
-{
-    match u {
-        Unit::Missing => false,
-        Unit::Knots => true,
-        Unit::MetresPerSecond => true,
-        Unit::KilometresPerHour => true,
-    }
-}
 
 fn gust_fits(s: Speed) -> bool
     ensures { λ r. ⌜ r ≡ gustFits s ⌝ }
@@ -37,15 +25,6 @@ fn gust_fits(s: Speed) -> bool
     match s {
         Speed::Missing => true,
         Speed::Is(n) => n <= 199,
-    }
-}
-
-fn no_gust(s: Speed) -> bool
-    ensures { λ r. ⌜ r ≡ noGust s ⌝ }
-{
-    match s {
-        Speed::Missing => true,
-        Speed::Is(_) => false,
     }
 }
 
@@ -121,16 +100,6 @@ pub fn judge_variation(v: Variation) -> Judged
 }
 
 // ---- visibility
-
-// A number of metres that may be missing, "0 to 99,999".
-pub fn metres_fit(forecast: bool, n: Number) -> bool
-    ensures { λ r. ⌜ r ≡ metresFit forecast n ⌝ }
-{
-    match n {
-        Number::Missing => !forecast,
-        Number::Is(m) => m <= 99999,
-    }
-}
 
 fn view_fits(forecast: bool, v: View) -> bool
     ensures { λ r. ⌜ r ≡ viewFits forecast v ⌝ }

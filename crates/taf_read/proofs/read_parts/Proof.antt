@@ -5,7 +5,7 @@ use Rattle.taf_read.proofs.read_parts.Statement.{statement}
 use Rattle.taf_read.proofs.read_parts.Tie as tie
 
 returns : tie.Need-returns
-returns c = rw (c .before .before .blank .ensures, c .before .main-part .ensures) at (c .read-body .ensures)
+returns c = rw (c .before .before .blank-taf .ensures, c .before .main-part .ensures) at (c .read-body .ensures)
 
 pub read-parts-spec : {M : Type 1} → statement M
 read-parts-spec =

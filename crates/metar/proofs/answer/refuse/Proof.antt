@@ -5,7 +5,7 @@ use Rattle.metar.proofs.answer.refuse.Statement.{statement}
 use Rattle.metar.proofs.answer.refuse.Tie as tie
 
 returns : tie.Need-returns
-returns c = rw (c .blank .ensures)
+returns c = rw (c .blank-metar .ensures)
 
 pub refuse-spec : {M : Type 1} → statement M
 refuse-spec =

@@ -1,7 +1,7 @@
 -- `metar::read::close` meets its contract: a required group is owed, or not.
 -- Assumes nothing.
 use borrow.Author.Needs.{needs}
-use mathlib.Core.Path.{_≡_, refl, sym, ap, _∙_}
+use mathlib.Core.Path.{_∙_}
 use mathlib.Core.Bool.{true, false}
 use Rattle.metar.proofs.Steps.{closed-by}
 use Rattle.metar.proofs.read.close.Statement.{statement}

@@ -1,11 +1,11 @@
 -- `metar::read::finish` meets its contract: by what follows the "=".
 -- Assumes nothing.
 use borrow.Author.Needs.{needs}
-use mathlib.Core.Path.{_≡_, refl, sym, ap, _∙_}
+use mathlib.Core.Path.{sym, ap, _∙_}
 use lib.ListN.{length}
 use Rattle.text.specs.declared.kinds.Tail.{Tail}
 use Rattle.places.specs.Engine.{over}
-use Rattle.metar.specs.Row.{row}
+use Rattle.metar_row.specs.Row.{row}
 use Rattle.metar.specs.Read.{answer}
 use Rattle.metar.proofs.read.finish.Statement.{statement}
 use Rattle.metar.proofs.read.finish.Tie as tie

@@ -1,7 +1,7 @@
 -- `metar::read::read` meets its contract: by what the bytes are.
 -- Assumes nothing.
 use borrow.Author.Needs.{needs}
-use mathlib.Core.Path.{_≡_, refl, sym, ap, _∙_}
+use mathlib.Core.Path.{_∙_}
 use Rattle.metar.proofs.Steps.{read-by}
 use Rattle.metar.proofs.read.read.Statement.{statement}
 use Rattle.metar.proofs.read.read.Tie as tie

@@ -1,7 +1,7 @@
 -- `metar::read::read_groups` meets its contract: by the first group.
 -- Assumes nothing.
 use borrow.Author.Needs.{needs}
-use mathlib.Core.Path.{_≡_, refl, sym, ap, _∙_}
+use mathlib.Core.Path.{sym, _∙_}
 use Rattle.text.proofs.Groups.{Follows, when-group, when-end}
 use Rattle.metar.proofs.Steps.{no-first, first-name, first-other}
 use Rattle.metar.proofs.read.read_groups.Statement.{statement}

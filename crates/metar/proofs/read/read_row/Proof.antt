@@ -1,7 +1,7 @@
 -- `metar::read::read_row` meets its contract: the reading from a position on stays what the text is read as.
 -- Assumes nothing.
 use borrow.Author.Needs.{needs}
-use mathlib.Core.Path.{_≡_, refl, sym, ap, _∙_}
+use mathlib.Core.Path.{_≡_, sym, _∙_}
 use Prim.Native.Nat.{_-_}
 use native.Mathlib.Omega.{arith}
 use lib.ListN.{length}
@@ -11,7 +11,7 @@ use Rattle.text.proofs.Groups.{Follows, when-group, when-end, from-end}
 use Rattle.places.specs.Engine.{run}
 use Rattle.places.proofs.Going.{going}
 use Rattle.record.specs.Metar.{blankMetar}
-use Rattle.metar.specs.Row.{row, stopWords}
+use Rattle.metar_row.specs.Row.{row, stopWords}
 use Rattle.metar.specs.Read.{answer}
 use Rattle.metar.proofs.Steps.{goes-on, reads-over, reads-on, reads-halt, reads-fault}
 use Rattle.metar.proofs.read.read_row.Statement.{statement}
@@ -28,7 +28,7 @@ follows : (c : tie.After-known-told Inv-loop μ-loop) → Follows (c .before .be
 follows c = when-group (c .before .before .before .before .before .before .before .before .args .text .now) (c .before .before .before .before .before .loop .at) _ _ (sym (c .before .next .given .1) ∙ c .before .before .before .next-group .ensures)
 
 loop-holds : tie.Need-loop-holds Inv-loop μ-loop
-loop-holds c = unfold goes-on going in rw (c .blank .ensures)
+loop-holds c = unfold goes-on going in rw (c .blank-metar .ensures)
 
 returns : tie.Need-returns Inv-loop μ-loop
 returns c =

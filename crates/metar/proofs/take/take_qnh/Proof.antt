@@ -1,7 +1,7 @@
 -- `metar::take::take_qnh` meets its contract: what the group says is put into the record, or refuses it.
 -- Assumes nothing.
 use borrow.Author.Needs.{needs}
-use mathlib.Core.Path.{_≡_, sym, _∙_}
+use mathlib.Core.Path.{sym, _∙_}
 use Rattle.record.specs.Metar.{setQnh}
 use Rattle.aerodrome.specs.Temperatures.{readQnh}
 use Rattle.aerodrome.proofs.Answers.{qnh-is}

@@ -1,7 +1,7 @@
 -- `metar::take::take_runway` meets its contract: the range is added to the record, or refuses it.
 -- Assumes nothing.
 use borrow.Author.Needs.{needs}
-use mathlib.Core.Path.{_≡_, sym, ap, _∙_}
+use mathlib.Core.Path.{sym, ap, _∙_}
 use Rattle.places.specs.Engine.{Good}
 use Rattle.record.specs.declared.aerodrome.Runways.{Runways}
 use Rattle.record.specs.Metar.{setRunways}

@@ -1,12 +1,10 @@
 -- `metar::take::take_sky` meets its contract: the sky with what the group says, or its refusal.
 -- Assumes nothing.
 use borrow.Author.Needs.{needs}
-use mathlib.Core.Path.{_≡_, sym, ap, _∙_}
+use mathlib.Core.Path.{sym, ap, _∙_}
 use Rattle.record.specs.Metar.{setSky}
 use Rattle.elements.proofs.Answers.{sky-good, sky-bad}
 use Rattle.elements.specs.Sky.{readSky}
-use Rattle.places.specs.Engine.{Read}
-use Rattle.record.specs.declared.aerodrome.Sky.{Sky}
 use mathlib.Core.Bool.{Bool, false}
 use Rattle.metar.proofs.Steps.{took}
 use Rattle.metar.proofs.take.take_sky.Statement.{statement}

@@ -1,7 +1,7 @@
 -- `metar::take::take_weather` meets its contract: the weather is added to the record, unless CAVOK stands for it or it is refused.
 -- Assumes nothing.
 use borrow.Author.Needs.{needs}
-use mathlib.Core.Path.{_≡_, sym, ap, _∙_}
+use mathlib.Core.Path.{sym, ap, _∙_}
 use mathlib.Core.Bool.{true, false}
 use Rattle.places.specs.Engine.{Good}
 use Rattle.record.specs.declared.aerodrome.Weathers.{Weathers}

@@ -4,7 +4,7 @@ use borrow.Author.Needs.{needs}
 use mathlib.Core.List.{append-nil}
 use Rattle.figures.proofs.Puts.{length-put}
 use Rattle.text.proofs.Writes.{write-groups}
-use Rattle.metar.specs.Row.{row}
+use Rattle.metar_row.specs.Row.{row}
 use Rattle.metar_write.proofs.write.put_head.Statement.{statement}
 use Rattle.metar_write.proofs.write.put_head.Tie as tie
 

@@ -7,7 +7,7 @@ use lib.ListN.{length, length-map}
 use lib.Seq.{length-take-le}
 use Rattle.places.specs.Engine.{written as groupsAt}
 use Rattle.places.proofs.Sizes.{Sizes}
-use Rattle.metar.specs.Row.{row}
+use Rattle.metar_row.specs.Row.{row}
 use Rattle.metar.specs.Write.{canonicalOf}
 use Rattle.metar_laws.proofs.Canonical.{Arrays, groups-sizes, length-canonical}
 use Rattle.metar_write.proofs.Writing.{report-within, report-text, written-fine}

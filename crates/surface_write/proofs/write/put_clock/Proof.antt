@@ -1,6 +1,7 @@
 -- `surface_write::write::put_clock` meets its contract, case by case.
 -- Assumes nothing.
 use borrow.Author.Needs.{needs}
+use Rattle.figures.specs.Figures.{numberText}
 use Rattle.text.proofs.Writes.{write-none}
 use Rattle.surface.specs.Shows.{showClock}
 use Rattle.surface_write.proofs.write.put_clock.Statement.{statement}
@@ -15,4 +16,4 @@ put-clock-spec =
     (λ c κs. tt)
     (λ c. unfold showClock in rw (c .enum-told .given .1) (write-none _ _))
     (λ c. search needs)
-    (λ c. unfold showClock in rw (c .before .before .before .before .before .is .given .1) (c .before .before .put-clock-group .ensures)))
+    (λ c. unfold showClock numberText in rw (c .before .before .before .before .before .is .given .1) (c .before .before .put-two .ensures)))

@@ -21,4 +21,4 @@ put-level-spec =
     (λ c. search needs)
     (λ c. unfold showLevel numberText in rw (c .before .before .before .before .before .before .is .given .1) (c .before .before .put-coded .ensures))
     (λ c. search needs)
-    (λ c. unfold showLevel in rw (c .before .before .before .before .before .is2 .given .1) (c .before .before .put-three .ensures)))
+    (λ c. unfold showLevel numberText in rw (c .before .before .before .before .before .is2 .given .1) (c .before .before .put-two .ensures)))

@@ -3,6 +3,7 @@
 use borrow.Author.Needs.{needs}
 use mir.Syntax.{w32}
 use mir.ValLaws.{toZ-ofZ}
+use Rattle.figures.specs.Figures.{numberText}
 use Rattle.surface_write.proofs.Writings.{sign-figure}
 use Rattle.surface_write.proofs.write.put_signed.Statement.{statement}
 use Rattle.surface_write.proofs.write.put_signed.Tie as tie
@@ -20,4 +21,5 @@ put-signed-spec =
     let d2 = d1 .before in
     let d3 = d2 .before .before .before in
     let back = toZ-ofZ w32 (d3 .args .t) (search needs) in
-    rw (d2 .sign-figure .ensures, d1 .magnitude .ensures, back, sign-figure) at (c .before .before .put-three .ensures)))
+    unfold numberText in
+    rw (d2 .sign-figure .ensures, d1 .magnitude .ensures, back, sign-figure) at (c .before .before .put-two .ensures)))

@@ -3,6 +3,7 @@
 use borrow.Author.Needs.{needs}
 use mir.Syntax.{w32}
 use mir.ValLaws.{toZ-ofZ}
+use Rattle.figures.specs.Figures.{numberText}
 use Rattle.text.proofs.Writes.{write-none}
 use Rattle.surface.specs.Shows.{showTendency}
 use Rattle.surface_write.proofs.write.put_tendency.Statement.{statement}
@@ -22,5 +23,5 @@ put-tendency-spec =
     let d = c .before .before .before in
     let e = d .before .before .before in
     let back = toZ-ofZ w32 (e .is .given .0 .1 .0) (search needs) in
-    unfold showTendency in
-    rw (e .is .given .1) (rw (d .magnitude .ensures, back) at (c .before .before .put-three .ensures))))
+    unfold showTendency numberText in
+    rw (e .is .given .1) (rw (d .magnitude .ensures, back) at (c .before .before .put-two .ensures))))

@@ -12,7 +12,7 @@ use Rattle.record.specs.Set.{setSite}
 use Rattle.surface.specs.declared.kinds.Said.{Said}
 use Rattle.surface.specs.declared.kinds.Said.the-variants as said
 use Rattle.surface.proofs.kinds.Said as says
-use Rattle.synop_section.specs.Row.{withSaid}
+use Rattle.synop_row.specs.Row.{withSaid}
 use Rattle.synop.specs.Read.{withHead}
 use Rattle.synop.specs.Head.{headOnto}
 use Rattle.synop.proofs.head.with_head.Statement.{statement}

@@ -5,4 +5,4 @@ use Rattle.synop_section.proofs.answer.refuse.Statement.{statement}
 use Rattle.synop_section.proofs.answer.refuse.Tie as tie
 
 pub refuse-spec : {M : Type 1} → statement M
-refuse-spec = tie.close (tie.spec (λ c κs. search needs) (λ c. rw (c .begin .ensures)))
+refuse-spec = tie.close (tie.spec (λ c κs. search needs) (λ c. rw (c .blank-synop .ensures)))

@@ -5,7 +5,7 @@ use mathlib.Core.Path.{ap, sym, _∙_}
 use lib.ListN.{length}
 use Rattle.text.specs.declared.kinds.Tail.{Tail}
 use Rattle.places.specs.Engine.{over}
-use Rattle.synop_section.specs.Row.{row}
+use Rattle.synop_row.specs.Row.{row}
 use Rattle.synop_section.specs.Answer.{ontoReport, answer}
 use Rattle.synop_section.proofs.section.finish.Statement.{statement}
 use Rattle.synop_section.proofs.section.finish.Tie as tie

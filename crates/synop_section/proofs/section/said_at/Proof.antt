@@ -2,7 +2,7 @@
 -- Assumes nothing.
 use borrow.Author.Needs.{needs}
 use mathlib.Core.Path.{refl}
-use Rattle.synop_section.specs.Row.{row}
+use Rattle.synop_row.specs.Row.{row}
 use Rattle.synop_section.proofs.SectionSteps.{says-at, says-nothing}
 use Rattle.synop_section.proofs.section.said_at.Statement.{statement}
 use Rattle.synop_section.proofs.section.said_at.Tie as tie

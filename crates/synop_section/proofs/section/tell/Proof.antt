@@ -11,7 +11,7 @@ use Rattle.record.specs.declared.surface.Surface.{Surface}
 use Rattle.surface.specs.declared.kinds.Said.{Said}
 use Rattle.surface.specs.declared.kinds.Said.the-variants as said
 use Rattle.surface.proofs.kinds.Said as says
-use Rattle.synop_section.specs.Row.{withSaid}
+use Rattle.synop_row.specs.Row.{withSaid}
 use Rattle.synop_section.specs.Section.{saidOnto}
 use Rattle.synop_section.proofs.section.tell.Statement.{statement}
 use Rattle.synop_section.proofs.section.tell.Tie as tie

@@ -3,7 +3,7 @@
 use mathlib.Core.List.{append-nil}
 use Rattle.figures.proofs.Puts.{length-put}
 use Rattle.text.proofs.Writes.{write-groups}
-use Rattle.synop_section.specs.Row.{row}
+use Rattle.synop_row.specs.Row.{row}
 use Rattle.synop_write.proofs.write.put_section.Statement.{statement}
 use Rattle.synop_write.proofs.write.put_section.Tie as tie
 

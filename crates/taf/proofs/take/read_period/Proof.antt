@@ -2,7 +2,7 @@
 -- Assumes nothing.
 use borrow.Author.Needs.{needs}
 use Rattle.aerodrome.proofs.Readings.{no-figure}
-use Rattle.taf.specs.Row.{readPeriod}
+use Rattle.taf_row.specs.Row.{readPeriod}
 use Rattle.taf.specs.Step.{asPeriod}
 use Rattle.taf.proofs.take.read_period.Statement.{statement}
 use Rattle.taf.proofs.take.read_period.Tie as tie

@@ -1,7 +1,7 @@
 -- `taf::take::take_forecast` meets its contract: NSW or weather.
 -- Assumes nothing.
 use borrow.Author.Needs.{needs}
-use Rattle.taf.specs.Row.{readForecast}
+use Rattle.taf_row.specs.Row.{readForecast}
 use Rattle.taf.proofs.take.take_forecast.Statement.{statement}
 use Rattle.taf.proofs.take.take_forecast.Tie as tie
 

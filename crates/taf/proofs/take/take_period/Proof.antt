@@ -3,7 +3,7 @@
 use borrow.Author.Needs.{needs}
 use mathlib.Core.Path.{sym, _∙_}
 use Rattle.record.specs.Taf.{setPeriod}
-use Rattle.taf.specs.Row.{readPeriod}
+use Rattle.taf_row.specs.Row.{readPeriod}
 use Rattle.taf.proofs.Steps.{took, period-is}
 use Rattle.taf.proofs.take.take_period.Statement.{statement}
 use Rattle.taf.proofs.take.take_period.Tie as tie

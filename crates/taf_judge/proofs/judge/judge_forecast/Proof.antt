@@ -13,4 +13,4 @@ judge-forecast-spec =
     (λ c κs. tt)
     (λ c κs. tt)
     (λ c. rw (c .judge-weathers .ensures, c .before .is-cavok .ensures, ← c .before .before .before .nsw-agrees .ensures, c .before .before .if1 .taken))
-    (λ c. rw (c .judge .ensures, c .before .three-fit .ensures, ← c .before .before .before .nsw-agrees .ensures, c .before .before .if1 .left)))
+    (λ c. rw (c .judge .ensures, c .before .count-fits .ensures, ← c .before .before .before .nsw-agrees .ensures, c .before .before .if1 .left)))

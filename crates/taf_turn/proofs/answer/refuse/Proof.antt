@@ -5,7 +5,7 @@ use Rattle.taf_turn.proofs.answer.refuse.Statement.{statement}
 use Rattle.taf_turn.proofs.answer.refuse.Tie as tie
 
 returns : tie.Need-returns
-returns c = rw (c .blank .ensures)
+returns c = rw (c .blank-taf .ensures)
 
 pub refuse-spec : {M : Type 1} → statement M
 refuse-spec =

@@ -2,7 +2,6 @@
 -- Assumes nothing.
 use borrow.Author.Needs.{needs}
 use mathlib.Core.Path.{sym, _∙_}
-use borrow.Author.Tests.{le-leb, lt-leb}
 use Rattle.taf.proofs.Turns.{turn-lacks, turn-full, turn-opens, turn-refused}
 use Rattle.taf_turn.proofs.change.take_turn.Statement.{statement}
 use Rattle.taf_turn.proofs.change.take_turn.Tie as tie
@@ -14,24 +13,24 @@ returns-2 : tie.Need-returns-2
 returns-2 c =
     let a = c .before .before .before .before .before .before .before .before .args in
     c .refuse-turn2 .ensures
-    ∙ turn-full (a .t) (a .s) (a .g .now) (sym (c .before .before .before .before .before .lacks .ensures) ∙ c .before .before .before .before .if1 .left) (rw (← c .before .before .before .with-part .ensures) (le-leb _ _ (c .before .if2 .taken)))
+    ∙ turn-full (a .t) (a .s) (a .g .now) (sym (c .before .before .before .before .before .lacks .ensures) ∙ c .before .before .before .before .if1 .left) (rw (← c .before .before .before .with-part .ensures) (sym (c .before .before .is-full .ensures) ∙ c .before .if2 .taken))
 
 returns-3 : tie.Need-returns-3
 returns-3 c =
     let a = c .before .before .before .before .before .before .before .before .before .before .before .args in
-    turn-opens (a .t) (a .s) (a .g .now) (sym (c .before .before .before .before .before .before .before .before .lacks .ensures) ∙ c .before .before .before .before .before .before .before .if1 .left) (rw (← c .before .before .before .before .before .before .with-part .ensures) (lt-leb _ _ (c .before .before .before .before .if2 .left)))
+    turn-opens (a .t) (a .s) (a .g .now) (sym (c .before .before .before .before .before .before .before .before .lacks .ensures) ∙ c .before .before .before .before .before .before .before .if1 .left) (rw (← c .before .before .before .before .before .before .with-part .ensures) (sym (c .before .before .before .before .before .is-full .ensures) ∙ c .before .before .before .before .if2 .left))
     (c .before .before .before .open-change .ensures) (c .before .before .before .before .before .before .with-part .ensures) (c .before .enum-told .given .1)
 
 returns-4 : tie.Need-returns-4
 returns-4 c =
     let a = c .before .before .before .before .before .before .before .before .before .before .before .before .args in
     c .refuse-turn3 .ensures
-    ∙ turn-refused (a .t) (a .s) (a .g .now) (sym (c .before .before .before .before .before .before .before .before .before .lacks .ensures) ∙ c .before .before .before .before .before .before .before .before .if1 .left) (rw (← c .before .before .before .before .before .before .before .with-part .ensures) (lt-leb _ _ (c .before .before .before .before .before .if2 .left)))
+    ∙ turn-refused (a .t) (a .s) (a .g .now) (sym (c .before .before .before .before .before .before .before .before .before .lacks .ensures) ∙ c .before .before .before .before .before .before .before .before .if1 .left) (rw (← c .before .before .before .before .before .before .before .with-part .ensures) (sym (c .before .before .before .before .before .before .is-full .ensures) ∙ c .before .before .before .before .before .if2 .left))
     (c .before .before .before .before .open-change .ensures) _ (c .before .before .judged .given .1)
 
 pub take-turn-spec : {M : Type 1} → statement M
 take-turn-spec =
     tie.close
     (tie.spec
-    (λ c κs. search needs) (λ c κs. search needs) returns (λ c κs. search needs) (λ c κs. search needs) returns-2 (λ c κs. search needs)
+    (λ c κs. search needs) (λ c κs. search needs) returns (λ c κs. search needs) (λ c κs. search needs) (λ c κs. search needs) returns-2 (λ c κs. search needs)
     (λ c. search needs) (λ c. search needs) (λ c κs. search needs) returns-3 returns-4)

@@ -3,7 +3,7 @@
 use borrow.Author.Needs.{needs}
 use Rattle.figures.proofs.Puts.{then}
 use Rattle.text.proofs.Writes.{write-group}
-use Rattle.taf.specs.Row.{showPeriod}
+use Rattle.taf_row.specs.Row.{showPeriod}
 use Rattle.taf_write.proofs.write.put_period.Statement.{statement}
 use Rattle.taf_write.proofs.write.put_period.Tie as tie
 

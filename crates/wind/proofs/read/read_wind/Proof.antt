@@ -5,7 +5,7 @@ use borrow.Author.Needs.{needs}
 use Rattle.figures.specs.declared.kinds.Field.the-variants as field
 use Rattle.shapes.specs.declared.kinds.Value.{Value}
 use Rattle.elements.specs.Wind.{windShape, readWind}
-use Rattle.wind.proofs.Scanned.{value-is}
+use Rattle.elements.proofs.Scanned.{value-is}
 use Rattle.wind.proofs.read.read_wind.Statement.{statement}
 use Rattle.wind.proofs.read.read_wind.Tie as tie
 

@@ -1,0 +1,42 @@
+// Runs the public calls on texts with known answers: the unread rest, which of two texts stands, and a group by the walker.
+use libc::STDOUT_FILENO;
+use text::kinds::Cut;
+
+fn say_line(part: &[u8]) {
+    io::write_all(STDOUT_FILENO, part);
+    io::write_all(STDOUT_FILENO, b"\n");
+}
+
+// The unread rest of a METAR with a trend, and of one that is refused.
+fn say_rests() {
+    say_line(report::rest(b"METAR LEMD 011200Z 27010KT CAVOK 15/10 Q1013 NOSIG RMK A=\r\n"));
+    say_line(report::rest(b"METAR LEMD 011200Z 27010KT CAVOK 15/10 NOSIG="));
+}
+
+// A correction stands for the text that it corrects; one of another hour does not; a SYNOP never stands.
+fn say_standing() {
+    let first = b" METAR LEMD 011200Z NIL=  ";
+    say_line(report::standing(
+        first,
+        b"METAR COR LEMD 011200Z 27010KT CAVOK 15/10 Q1013=\n",
+    ));
+    say_line(report::standing(first, b"METAR COR LEMD 011230Z NIL="));
+    say_line(report::standing(b"AAXX 24124 99901 NIL=", b"METAR COR LEMD 011230Z NIL="));
+}
+
+// The group at or after a position.
+fn say_group(report: &[u8], at: usize) {
+    let cut = walker::group_from(report, at);
+    match cut {
+        Cut::Group { start, end } => say_line(text::part(report, start, end)),
+        Cut::End { at: _ } => say_line(b"no more"),
+    }
+}
+
+fn main() {
+    say_rests();
+    say_standing();
+    say_group(b" TAF LEMD=", 0);
+    say_group(b" TAF LEMD=", 4);
+    say_group(b" TAF LEMD=", 9);
+}

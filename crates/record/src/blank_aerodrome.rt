@@ -1,0 +1,204 @@
+// The blank records of a METAR or SPECI and of a TAF.
+use crate::aerodrome::Amount;
+use crate::aerodrome::Change;
+use crate::aerodrome::Changes;
+use crate::aerodrome::Convective;
+use crate::aerodrome::Correction;
+use crate::aerodrome::Course;
+use crate::aerodrome::Cover;
+use crate::aerodrome::Extremes;
+use crate::aerodrome::Instant;
+use crate::aerodrome::Layer;
+use crate::aerodrome::Leg;
+use crate::aerodrome::Metar;
+use crate::aerodrome::Opening;
+use crate::aerodrome::Period;
+use crate::aerodrome::Phenomena;
+use crate::aerodrome::Qnh;
+use crate::aerodrome::Runway;
+use crate::aerodrome::Runways;
+use crate::aerodrome::Side;
+use crate::aerodrome::Sky;
+use crate::aerodrome::Station;
+use crate::aerodrome::Taf;
+use crate::aerodrome::Temperatures;
+use crate::aerodrome::Unit;
+use crate::aerodrome::Variation;
+use crate::aerodrome::View;
+use crate::aerodrome::Visibility;
+use crate::aerodrome::Weather;
+use crate::aerodrome::Weathers;
+use crate::aerodrome::Wind;
+use crate::values::Direction;
+use crate::values::Number;
+use crate::values::Speed;
+use crate::values::Tenths;
+ghost use mathlib.Core.Path.{_≡_};
+ghost use Rattle.record.specs.Metar.{blankWind, blankRunways, blankWeathers, blankSky, blankMetar};
+ghost use Rattle.record.specs.Taf.{blankInstant, blankPeriod, blankLeg, blankChange, blankTaf};
+
+pub fn blank_station() -> Station
+    ensures { λ r. ⌜ r ≡ blankMetar .station ⌝ }
+{
+    let letters = [0u8; 4];
+    Station { letters }
+}
+
+pub fn blank_instant() -> Instant
+    ensures { λ r. ⌜ r ≡ blankInstant ⌝ }
+{
+    Instant {
+        day: Number::Missing,
+        hour: Number::Missing,
+        minute: Number::Missing,
+    }
+}
+
+fn blank_period() -> Period
+    ensures { λ r. ⌜ r ≡ blankPeriod ⌝ }
+{
+    let instant = blank_instant();
+    Period {
+        from: instant,
+        to: instant,
+    }
+}
+
+fn blank_wind() -> Wind
+    ensures { λ r. ⌜ r ≡ blankWind ⌝ }
+{
+    Wind {
+        direction: Direction::Missing,
+        speed: Speed::Missing,
+        gust: Speed::Missing,
+        unit: Unit::Missing,
+    }
+}
+
+fn blank_runways() -> Runways
+    ensures { λ r. ⌜ r ≡ blankRunways ⌝ }
+{
+    let blank = Runway {
+        number: Number::Missing,
+        side: Side::None,
+        range: Number::Missing,
+        course: Course::None,
+    };
+    let items = [blank; 4];
+    Runways { items, count: 0 }
+}
+
+fn blank_weathers() -> Weathers
+    ensures { λ r. ⌜ r ≡ blankWeathers ⌝ }
+{
+    let blank = Weather {
+        is: Phenomena::Missing,
+    };
+    let items = [blank; 3];
+    Weathers { items, count: 0 }
+}
+
+fn blank_sky() -> Sky
+    ensures { λ r. ⌜ r ≡ blankSky ⌝ }
+{
+    let blank = Layer {
+        amount: Amount::None,
+        height: Number::Missing,
+        convective: Convective::None,
+    };
+    let layers = [blank; 4];
+    Sky {
+        cover: Cover::Layers,
+        layers,
+        count: 0,
+    }
+}
+
+pub fn blank_metar() -> Metar
+    ensures { λ r. ⌜ r ≡ blankMetar ⌝ }
+{
+    let station = blank_station();
+    let time = blank_instant();
+    let wind = blank_wind();
+    let runways = blank_runways();
+    let weathers = blank_weathers();
+    let sky = blank_sky();
+    Metar {
+        special: false,
+        corrected: false,
+        station,
+        time,
+        nil: false,
+        automatic: false,
+        wind,
+        variation: Variation {
+            is: Extremes::Missing,
+        },
+        visibility: Visibility { is: View::Missing },
+        runways,
+        weathers,
+        sky,
+        temperatures: Temperatures {
+            air: Tenths::Missing,
+            dew: Tenths::Missing,
+        },
+        qnh: Qnh {
+            is: Number::Missing,
+        },
+        recents: weathers,
+    }
+}
+
+pub fn blank_leg() -> Leg
+    ensures { λ r. ⌜ r ≡ blankLeg ⌝ }
+{
+    let station = blank_station();
+    let time = blank_instant();
+    let period = blank_period();
+    let wind = blank_wind();
+    let weathers = blank_weathers();
+    let sky = blank_sky();
+    Leg {
+        correction: Correction::None,
+        station,
+        time,
+        nil: false,
+        period,
+        cancelled: false,
+        wind,
+        visibility: Visibility { is: View::Missing },
+        weathers,
+        nsw: false,
+        sky,
+    }
+}
+
+fn blank_change() -> Change
+    ensures { λ r. ⌜ r ≡ blankChange ⌝ }
+{
+    let period = blank_period();
+    let wind = blank_wind();
+    let weathers = blank_weathers();
+    let sky = blank_sky();
+    Change {
+        opening: Opening::None,
+        period,
+        wind,
+        visibility: Visibility { is: View::Missing },
+        weathers,
+        nsw: false,
+        sky,
+    }
+}
+
+pub fn blank_taf() -> Taf
+    ensures { λ r. ⌜ r ≡ blankTaf ⌝ }
+{
+    let leg = blank_leg();
+    let change = blank_change();
+    let items = [change; 16];
+    Taf {
+        leg,
+        changes: Changes { items, count: 0 },
+    }
+}

@@ -1,0 +1,3 @@
+-- What the proofs of the public calls share.
+pub mod Readings
+pub mod Writes

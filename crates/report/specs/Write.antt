@@ -1,0 +1,65 @@
+-- Writing a record of any kind: what the writer judges, the canonical text, and the record that it is read back as.
+-- Assumes nothing: these are definitions.
+use Prim.Native.Nat.{ℕ}
+use mathlib.Core.Bool.{Bool, true, _&&_}
+use mathlib.Core.List.{List, []}
+use Rattle.text.specs.declared.kinds.Refusal.the-variants as refusal
+use Rattle.text.specs.declared.kinds.Judged.{Judged}
+use Rattle.text.specs.declared.kinds.Judged.the-variants as judged
+use Rattle.text.specs.declared.kinds.Written.{Written}
+use Rattle.text.specs.Judge.{judge, andThen}
+use Rattle.text.specs.Write.{answerBy, bufferBy}
+use Rattle.report_record.specs.declared.kinds.Kind.{Kind}
+use Rattle.report_record.specs.declared.kinds.Kind.the-variants as kind
+use Rattle.report_record.specs.declared.kinds.Report.{Report}
+use Rattle.report_record.specs.Blank.{isBlankSynop, isBlankMetar, isBlankTaf}
+use Rattle.synop.specs.Write as synop
+use Rattle.metar.specs.Write as metar
+use Rattle.taf.specs.Write as taf
+
+-- WHAT THE WRITER JUDGES: "foreign fields first", the parts of the other kinds, then the kind's own part; of no kind, "a required one missing"
+abbrev pub afterForeign : Bool → Judged → Judged
+afterForeign blank own = andThen (judge blank true) own
+
+abbrev pub judgeBy : Kind → Report → Judged
+judgeBy kind.Missing r = judged.Refused refusal.Value
+judgeBy kind.Surface r = afterForeign (isBlankMetar (r .observed) && isBlankTaf (r .forecast)) (synop.judgeOf (r .surface))
+judgeBy kind.Observed r = afterForeign (isBlankSynop (r .surface) && isBlankTaf (r .forecast)) (metar.judgeOf (r .observed))
+judgeBy kind.Forecast r = afterForeign (isBlankSynop (r .surface) && isBlankMetar (r .observed)) (taf.judgeOf (r .forecast))
+
+unfoldable pub judgeOf : Report → Judged
+judgeOf r = judgeBy (r .kind) r
+
+-- THE CANONICAL TEXT
+abbrev pub canonicalBy : Kind → Report → List ℕ
+canonicalBy kind.Missing r = []
+canonicalBy kind.Surface r = synop.canonicalOf (r .surface)
+canonicalBy kind.Observed r = metar.canonicalOf (r .observed)
+canonicalBy kind.Forecast r = taf.canonicalOf (r .forecast)
+
+unfoldable pub canonicalOf : Report → List ℕ
+canonicalOf r = canonicalBy (r .kind) r
+
+-- the record that it is read back as: each rounded number the reading of its class, all else as it is
+abbrev pub classedBy : Kind → Report → Report
+classedBy kind.Missing r = r
+classedBy kind.Surface r = record { kind = kind.Surface; surface = synop.classedOf (r .surface); observed = r .observed; forecast = r .forecast }
+classedBy kind.Observed r = record { kind = kind.Observed; surface = r .surface; observed = metar.classedOf (r .observed); forecast = r .forecast }
+classedBy kind.Forecast r = record { kind = kind.Forecast; surface = r .surface; observed = r .observed; forecast = taf.classedOf (r .forecast) }
+
+unfoldable pub classedOf : Report → Report
+classedOf r = classedBy (r .kind) r
+
+-- ---- the writer's answer, and the lent buffer afterwards
+
+abbrev pub writtenBy : Kind → Report → ℕ → Written
+writtenBy k r room = answerBy (judgeBy k r) (canonicalBy k r) room
+
+abbrev pub bufferAfter : Kind → Report → List ℕ → List ℕ
+bufferAfter k r b = bufferBy (judgeBy k r) (canonicalBy k r) b
+
+unfoldable pub writtenOf : Report → ℕ → Written
+writtenOf r room = writtenBy (r .kind) r room
+
+unfoldable pub bufferOf : Report → List ℕ → List ℕ
+bufferOf r b = bufferAfter (r .kind) r b

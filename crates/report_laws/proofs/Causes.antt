@@ -1,0 +1,141 @@
+-- The writer judges a record fine or refuses it "only for the causes" of document 01's table: 11, "a value outside its range, a bad name, a required one
+-- missing, half of a pair" and the like, or 7, "groups each right that disagree". So of every record of each kind; 10 is for the lent buffer alone.
+-- Assumes nothing.
+use mathlib.Core.Bool.{Bool, true, false, cond}
+use mathlib.Core.List.{List, [], _∷_, _++_}
+use Rattle.text.specs.declared.kinds.Refusal.the-variants as refusal
+use Rattle.text.specs.declared.kinds.Judged.{Judged}
+use Rattle.text.specs.declared.kinds.Judged.the-variants as judged
+use Rattle.text.specs.Judge.{judge, andThen}
+use Rattle.record.specs.declared.surface.Surface.{Surface}
+use Rattle.record.specs.declared.surface.Synop.{Synop}
+use Rattle.record.specs.declared.aerodrome.Weather.{Weather}
+use Rattle.record.specs.declared.aerodrome.Weathers.{Weathers}
+use Rattle.record.specs.declared.aerodrome.Layer.{Layer}
+use Rattle.record.specs.declared.aerodrome.Sky.{Sky}
+use Rattle.record.specs.declared.aerodrome.Runway.{Runway}
+use Rattle.record.specs.declared.aerodrome.Metar.{Metar}
+use Rattle.record.specs.declared.aerodrome.Leg.{Leg}
+use Rattle.record.specs.declared.aerodrome.Change.{Change}
+use Rattle.record.specs.declared.aerodrome.Taf.{Taf}
+use Rattle.surface.specs.Judge as surface
+use Rattle.elements.specs.Wind.{judgeWind, judgeVariation}
+use Rattle.elements.specs.Visibility.{judgeVisibility}
+use Rattle.elements.specs.Weather.{judgeWeather, judgeRecent, judgeEach, judgeWeathers}
+use Rattle.elements.specs.Sky.{classLayer, judgeLayers, judgeSky}
+use Rattle.aerodrome.specs.Head.{judgeStation, judgeTime}
+use Rattle.aerodrome.specs.Runway.{judgeEachRunway, judgeRunways}
+use Rattle.aerodrome.specs.Temperatures.{judgeTemperatures, judgeQnh}
+use Rattle.synop_row.specs.declared.kinds.Needs.{Needs}
+use Rattle.synop.specs.Write as synop
+use Rattle.metar.specs.Write as metar
+use Rattle.taf_row.specs.declared.kinds.Part.{Part}
+use Rattle.taf.specs.Write as taf
+use Rattle.report_record.specs.declared.kinds.Kind.{Kind}
+use Rattle.report_record.specs.declared.kinds.Kind.the-variants as kind
+use Rattle.report_record.specs.declared.kinds.Report.{Report}
+use Rattle.report.specs.Write.{judgeBy, judgeOf}
+
+pub data Caused : Judged → Type 0 where
+  fine : Caused judged.Fine
+  bad-value : Caused (judged.Refused refusal.Value)
+  bad-pair : Caused (judged.Refused refusal.Disagreement)
+
+-- ---- what every judgement is made of: one or the other, a group's 11 before its 7, and one judgement after another
+
+pub either : (c : Bool) {a b : Judged} → Caused a → Caused b → Caused (cond c a b)
+either true x y = x
+either false x y = y
+
+pub judging : (within agrees : Bool) → Caused (judge within agrees)
+judging within agrees = either within (either agrees fine bad-pair) bad-value
+
+pub in-turn : {a b : Judged} → Caused a → Caused b → Caused (andThen a b)
+in-turn fine y = y
+in-turn bad-value y = bad-value
+in-turn bad-pair y = bad-pair
+
+-- a search by these goes as deep as there are judgements in turn, which is the `depth` that the longer ones say
+pub ruleset made = (fine, bad-value, judging, in-turn, either)
+
+-- ---- SYNOP and SHIP
+
+site : (r : Synop) → Caused (synop.judgeSite r)
+unfolding synop.judgeSite surface.judgeSign surface.judgeTime surface.judgePosition surface.judgeStation
+site r = search made
+
+section : (n : Needs) (s : Surface) → Caused (synop.judgeSection n s)
+unfolding synop.judgeSection surface.judgeAir surface.judgeMoisture surface.judgePressure surface.judgeLevel surface.judgeTendency
+    surface.judgeRainfall surface.judgeWeather surface.judgeClouds surface.judgeClock
+section n s = search made depth 10
+
+pub surface-causes : (r : Synop) → Caused (synop.judgeOf r)
+unfolding synop.judgeOf synop.judgeSurface surface.judgeIndicators surface.judgeWind
+surface-causes r = search (made, site, section) depth 8
+
+-- ---- what METAR and TAF share; wind and visibility are one judgement each
+
+module _ (test : Weather → Judged) (each : (w : Weather) → Caused (test w)) where
+  each-weather : (ws : List Weather) → Caused (judgeEach test ws)
+  each-weather [] = fine
+  each-weather (w ∷ ws) = in-turn (each w) (each-weather ws)
+
+  weathers : (ws : Weathers) → Caused (judgeWeathers test ws)
+  unfolding judgeWeathers
+  weathers ws = search (made, each-weather)
+
+weather : (forecast automatic beside : Bool) (w : Weather) → Caused (judgeWeather forecast automatic beside w)
+unfolding judgeWeather
+weather forecast automatic beside w = search made
+
+layers : (forecast beside : Bool) (before ls : List Layer) → Caused (judgeLayers forecast beside before ls)
+layers forecast beside before [] = fine
+layers forecast beside before (l ∷ ls) = let rest = layers forecast beside (before ++ (classLayer l ∷ [])) ls in search made
+
+sky : (forecast cavok : Bool) (s : Sky) → Caused (judgeSky forecast cavok s)
+unfolding judgeSky
+sky forecast cavok s = search (made, layers)
+
+-- ---- METAR and SPECI
+
+recent : (automatic : Bool) (w : Weather) → Caused (judgeRecent automatic w)
+unfolding judgeRecent
+recent automatic w = search made
+
+each-runway : (ws : List Runway) → Caused (judgeEachRunway ws)
+each-runway [] = fine
+each-runway (w ∷ ws) = let rest = each-runway ws in search made
+
+pub observed-causes : (r : Metar) → Caused (metar.judgeOf r)
+unfolding metar.judgeOf metar.judgeHead metar.judgeBody judgeStation judgeTime judgeWind judgeVariation judgeVisibility judgeRunways judgeTemperatures judgeQnh
+observed-causes r = search (made, each-runway, weathers, weather, recent, sky) depth 14
+
+-- ---- TAF
+
+part : (w : Part) (r : Leg) → Caused (taf.judgePart w r)
+unfolding taf.judgePart judgeWind judgeVisibility
+part w r = search (made, weathers, weather, sky) depth 8
+
+change : (c : Change) → Caused (taf.judgeChange c)
+unfolding taf.judgeChange
+change c = search (made, part)
+
+each-change : (cs : List Change) → Caused (taf.judgeEach cs)
+each-change [] = fine
+each-change (c ∷ cs) = in-turn (change c) (each-change cs)
+
+pub forecast-causes : (t : Taf) → Caused (taf.judgeOf t)
+unfolding taf.judgeOf taf.judgeChanges judgeStation judgeTime
+forecast-causes t = search (made, part, each-change) depth 10
+
+-- ---- any kind
+
+pub causes : (r : Report) → Caused (judgeOf r)
+unfolding judgeOf
+causes r = go (r .kind)
+  where
+    go : (k : Kind) → Caused (judgeBy k r)
+    go kind.Missing = bad-value
+    go kind.Surface = search (made, surface-causes)
+    go kind.Observed = search (made, observed-causes)
+    go kind.Forecast = search (made, forecast-causes)

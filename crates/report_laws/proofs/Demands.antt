@@ -1,0 +1,222 @@
+-- THE THREE DEMANDS on the library, for every kind of report. What the calls do is `readOf`, `restOf`, `writtenOf` and `bufferOf`: the contracts of
+-- `report::read`, `rest` and `write` are equations with them. A record's arrays have their lengths, as every record of the code has (`Arrays`).
+-- Assumes nothing.
+use Prim.Native.Nat.{ℕ, _≤_, _<_}
+use native.Mathlib.Omega.{arith}
+use mathlib.Core.Path.{_≡_, refl, sym, ap, subst, _∙_}
+use mathlib.Core.Bool.{Bool, true, false, cond}
+use mathlib.Core.List.{List, [], map}
+use mathlib.Core.Logic.{⊎-elim}
+use lib.ListN.{length}
+use lib.Dec.{leb}
+use borrow.Author.Tests.{leb-true, leb-false, le-leb}
+use Rattle.figures.specs.Put.{splice}
+use Rattle.scales.specs.declared.kinds.Rain.the-variants as rain
+use Rattle.scales.specs.Rounded.{roundedRain}
+use Rattle.scales.specs.Scale.{run, classIn}
+use Rattle.scales.specs.Metres as scale
+use Rattle.scales.proofs.Laws.{reached}
+use Rattle.scales.proofs.RainLaws.{rain-order, trace-exact}
+use Rattle.text.specs.declared.kinds.Refusal.{Refusal}
+use Rattle.text.specs.declared.kinds.Refusal.the-variants as refusal
+use Rattle.text.specs.declared.kinds.Judged.{Judged}
+use Rattle.text.specs.declared.kinds.Judged.the-variants as judged
+use Rattle.text.specs.declared.kinds.Verdict.{Verdict}
+use Rattle.text.specs.declared.kinds.Verdict.the-variants as verdict
+use Rattle.text.specs.declared.kinds.Written.{Written}
+use Rattle.text.specs.declared.kinds.Written.the-variants as answer
+use Rattle.text.specs.Write.{answerBy, bufferBy}
+use Rattle.walker.proofs.Walks.{part-nothing}
+use Rattle.record.specs.declared.values.Number.the-variants as number
+use Rattle.record.specs.declared.values.Tenths.the-variants as tenths
+use Rattle.record.specs.declared.surface.Synop.{Synop}
+use Rattle.record.specs.declared.aerodrome.Metar.{Metar}
+use Rattle.record.specs.declared.aerodrome.Taf.{Taf}
+use Rattle.aerodrome.specs.Temperatures.{classTenths, classPressure}
+use Rattle.synop.specs.Read as synop
+use Rattle.metar.specs.Read as metar
+use Rattle.taf.specs.Read as taf
+use Rattle.synop_section.specs.Answer as surface
+use Rattle.report_record.specs.declared.kinds.Report.{Report}
+use Rattle.report_record.specs.declared.kinds.Reading.{Reading}
+use Rattle.report_record.specs.Record.{blankReport, surfaceReport, observedReport, forecastReport, accepted, refused}
+use Rattle.report.specs.Read.{answered, isOther, unlessOther, surfaceOf, observedOf, forecastOf, readOf, restPlace, restOf}
+use Rattle.report.specs.Write.{judgeOf, canonicalOf, classedOf, writtenOf, bufferOf}
+use Rattle.report_laws.proofs.ByName.{read-surface, read-observed, read-forecast, as-surface, as-observed, as-forecast}
+use Rattle.report_laws.proofs.Causes.{Caused, fine, bad-value, bad-pair, causes}
+use Rattle.report_laws.proofs.Numbers.{Table, visibility, footOn, classOn, numbersOf, temperaturesOf, pressuresOf, rainsOf, DownOn, down-on, NumberOrder, TenthsOrder, RainOrder, InOrder, in-order, order-on, class-order, temperature-order, qnh-order}
+use Rattle.report_laws.proofs.RoundTrip.{Arrays, fair, comes-back, fine-again, text-again, Kept, kept, numbers-back, temperatures-back, pressures-back, rains-back}
+
+-- ==== DEMAND 1. Every text and every record gets an answer.
+
+-- A text is accepted, with its record and where the unread rest begins, or refused by number and place, with a blank record.
+pub data Answered : Reading → Type 0 where
+  yes : (rest : ℕ) (r : Report) → Answered (accepted rest r)
+  no : (f : Refusal) (at : ℕ) → Answered (refused f at)
+
+one-kind : (v : Verdict) (r : Report) → Answered (answered v r)
+one-kind (verdict.Accepted rest) r = yes rest r
+one-kind (verdict.Refused f at) r = no f at
+
+either : (a b : Reading) → Answered a → Answered b → Answered (unlessOther a b)
+either a b x y = elim (isOther (a .verdict)) as (λ c. Answered (cond c b a)) [ true ↦ y | false ↦ x ]
+
+pub every-text : (t : List ℕ) → Answered (readOf t)
+unfolding readOf
+every-text t =
+    either (surfaceOf t) (unlessOther (observedOf t) (forecastOf t)) (one-kind (synop.readOf t .verdict) (surfaceReport (synop.readOf t .report)))
+    (either (observedOf t) (forecastOf t) (one-kind (metar.readOf t .verdict) (observedReport (metar.readOf t .report)))
+    (one-kind (taf.readOf t .verdict) (forecastReport (taf.readOf t .report))))
+
+-- Of a refused text the record is blank, with no kind, station or hour under which it could be filed, and the unread rest is empty.
+pub refused-blank : (t : List ℕ) (f : Refusal) (at : ℕ) → readOf t .verdict ≡ verdict.Refused f at → (readOf t .report ≡ blankReport) × (restOf t ≡ [])
+unfolding restOf restPlace
+refused-blank t f at e = (go (readOf t) (every-text t) e, rw (e, part-nothing t (length t)))
+  where
+    go : (a : Reading) → Answered a → a .verdict ≡ verdict.Refused f at → a .report ≡ blankReport
+    go _ (yes rest r) e = let z : _≡_ {A = ℕ} 0 1 = cc in absurd (omega arith)
+    go _ (no g p) e = refl
+
+-- A record is written, "The count of bytes written is the canonical text's length", and the bytes past the text are as they were; or it is refused, and
+-- the lent buffer stays as it came.
+pub data Settled (r : Report) (b : List ℕ) : Written → List ℕ → Type 0 where
+  done : length (canonicalOf r) ≤ length b → Settled r b (answer.Count (length (canonicalOf r))) (splice b 0 (canonicalOf r))
+  unchanged : (f : Refusal) → Settled r b (answer.Refused f) b
+
+pub every-record : (r : Report) (b : List ℕ) → Settled r b (writtenOf r (length b)) (bufferOf r b)
+unfolding writtenOf bufferOf judgeOf canonicalOf
+every-record r b = go (judgeOf r)
+  where
+    room : (c : Bool) → leb (length (canonicalOf r)) (length b) ≡ c
+        → Settled r b (cond c (answer.Count (length (canonicalOf r))) (answer.Refused refusal.Room)) (cond c (splice b 0 (canonicalOf r)) b)
+    room true e = done (leb-true (length (canonicalOf r)) (length b) e)
+    room false e = unchanged refusal.Room
+
+    go : (j : Judged) → Settled r b (answerBy j (canonicalOf r) (length b)) (bufferBy j (canonicalOf r) b)
+    go judged.Fine = room (leb (length (canonicalOf r)) (length b)) refl
+    go (judged.Refused f) = unchanged f
+
+-- ==== DEMAND 2. A text is accepted exactly when WMO-306 with document 01's rulings allows it, and the record, station and hour included, is the meaning
+-- given there; the writer refuses only for the causes listed there and writes the one canonical text. What a kind allows, and means, is its `readOf`; the
+-- text is of the kind that its first group names.
+
+pub record Exactly (A B : Type 0) : Type 0 where
+  pub only : A → B
+  pub all : B → A
+
+pub surface-exactly : (t : List ℕ) (rest : ℕ) (r : Synop) → Exactly (readOf t ≡ accepted rest (surfaceReport r)) (synop.readOf t ≡ surface.accepted rest r)
+surface-exactly t rest r = record { only = as-surface t rest r; all = read-surface t rest r }
+
+pub observed-exactly : (t : List ℕ) (rest : ℕ) (r : Metar) → Exactly (readOf t ≡ accepted rest (observedReport r)) (metar.readOf t ≡ metar.accepted rest r)
+observed-exactly t rest r = record { only = as-observed t rest r; all = read-observed t rest r }
+
+pub forecast-exactly : (t : List ℕ) (rest : ℕ) (r : Taf) → Exactly (readOf t ≡ accepted rest (forecastReport r)) (taf.readOf t ≡ taf.accepted rest r)
+forecast-exactly t rest r = record { only = as-forecast t rest r; all = read-forecast t rest r }
+
+-- The writer refuses 11 and 7 as judged, and 10 where "the buffer is shorter than the canonical text, and not otherwise".
+pub data Cause (r : Report) (b : List ℕ) : Refusal → Type 0 where
+  value : judgeOf r ≡ judged.Refused refusal.Value → Cause r b refusal.Value
+  disagreement : judgeOf r ≡ judged.Refused refusal.Disagreement → Cause r b refusal.Disagreement
+  room : judgeOf r ≡ judged.Fine → length b < length (canonicalOf r) → Cause r b refusal.Room
+
+pub only-causes : (r : Report) (b : List ℕ) (f : Refusal) → writtenOf r (length b) ≡ answer.Refused f → Cause r b f
+unfolding writtenOf judgeOf canonicalOf
+only-causes r b f e = go (judgeOf r) refl (causes r) e
+  where
+    short : (c : Bool) → leb (length (canonicalOf r)) (length b) ≡ c → judgeOf r ≡ judged.Fine
+        → cond c (answer.Count (length (canonicalOf r))) (answer.Refused refusal.Room) ≡ answer.Refused f → Cause r b f
+    short true t j e = let z : _≡_ {A = ℕ} 0 1 = cc in absurd (omega arith)
+    short false t j e =
+        let g : refusal.Room ≡ f = cc in
+        rw (← g) (room j (leb-false (length (canonicalOf r)) (length b) t))
+
+    go : (j : Judged) → judgeOf r ≡ j → Caused j → answerBy j (canonicalOf r) (length b) ≡ answer.Refused f → Cause r b f
+    go _ j fine e = short (leb (length (canonicalOf r)) (length b)) refl j e
+    go _ j bad-value e = let g : refusal.Value ≡ f = cc in rw (← g) (value j)
+    go _ j bad-pair e = let g : refusal.Disagreement ≡ f = cc in rw (← g) (disagreement j)
+
+-- the one canonical text is written wherever it has room
+pub one-text : (r : Report) (b : List ℕ) → judgeOf r ≡ judged.Fine → length (canonicalOf r) ≤ length b
+    → (writtenOf r (length b) ≡ answer.Count (length (canonicalOf r))) × (bufferOf r b ≡ splice b 0 (canonicalOf r))
+unfolding writtenOf bufferOf judgeOf canonicalOf
+one-text r b e h = (rw (e, le-leb (length (canonicalOf r)) (length b) h), rw (e, le-leb (length (canonicalOf r)) (length b) h))
+
+-- ==== DEMAND 3. What the writer writes, the reader accepts whole; exact fields come back equal, each rounded number as the reading of its class, within the
+-- stated distance, never greater where a scale rounds down, order kept; written again, the same bytes.
+
+-- the record that the canonical text is read as
+abbrev pub back : Report → Report
+back r = readOf (canonicalOf r) .report
+
+module _ (r : Report) (arrays : Arrays r) (fine : judgeOf r ≡ judged.Fine) where
+  whole : readOf (canonicalOf r) ≡ accepted (length (canonicalOf r)) (classedOf r)
+  whole = comes-back (fair r arrays fine)
+
+  back-is : back r ≡ classedOf r
+  back-is = ap (λ (a : Reading). a .report) whole
+
+  -- accepted, with no unread rest
+  pub accepted-whole : (readOf (canonicalOf r) .verdict ≡ verdict.Accepted (length (canonicalOf r))) × (restOf (canonicalOf r) ≡ [])
+  unfolding restOf restPlace
+  accepted-whole = (rw whole, rw (whole, part-nothing (canonicalOf r) (length (canonicalOf r))))
+
+  -- field by field: all that the code carries exactly is equal, what is rounded is near (`RecordRead` of each kind)
+  pub fields-kept : Kept r (back r)
+  fields-kept = subst (Kept r) (sym back-is) (kept (fair r arrays fine))
+
+  -- each rounded number is the reading of its own class
+  pub classes-read : (t : Table) → numbersOf t (back r) ≡ map (classOn t) (numbersOf t r)
+  classes-read t = ap (numbersOf t) back-is ∙ numbers-back t (fair r arrays fine)
+
+  pub temperatures-read : temperaturesOf (back r) ≡ map classTenths (temperaturesOf r)
+  temperatures-read = ap temperaturesOf back-is ∙ temperatures-back (fair r arrays fine)
+
+  pub pressures-read : pressuresOf (back r) ≡ map classPressure (pressuresOf r)
+  pressures-read = ap pressuresOf back-is ∙ pressures-back (fair r arrays fine)
+
+  pub rains-read : rainsOf (back r) ≡ map roundedRain (rainsOf r)
+  rains-read = ap rainsOf back-is ∙ rains-back (fair r arrays fine)
+
+  -- written once more into any buffer that has room for those bytes, the same bytes
+  pub same-bytes : (b : List ℕ) → length (canonicalOf r) ≤ length b
+      → (writtenOf (back r) (length b) ≡ answer.Count (length (canonicalOf r))) × (bufferOf (back r) b ≡ splice b 0 (canonicalOf r))
+  same-bytes b h =
+      let g = fair r arrays fine in
+      let again = text-again g in
+      let (count, bytes) = one-text (classedOf r) b (fine-again g) (rw again h) in (
+        ap (λ (q : Report). writtenOf q (length b)) back-is ∙ count ∙ ap (λ (t : List ℕ). answer.Count (length t)) again,
+        ap (λ (q : Report). bufferOf q b) back-is ∙ bytes ∙ ap (splice b 0) again,
+      )
+
+-- no further off than document 01 states for the class, never greater, the last class open above; on the six scales in metres
+pub how-far : (t : Table) (v : ℕ) → DownOn t v (footOn t v)
+how-far = down-on
+
+-- Of any two values in one scale, from one accepted record or from two, the greater never comes back smaller.
+module _ (r q : Report) (arrays : Arrays r) (arrays′ : Arrays q) (fine : judgeOf r ≡ judged.Fine) (fine′ : judgeOf q ≡ judged.Fine) where
+  pub order : (t : Table) → InOrder NumberOrder number.Missing (numbersOf t r) (numbersOf t q) (numbersOf t (back r)) (numbersOf t (back q))
+  order t = rw (classes-read r arrays fine t, classes-read q arrays′ fine′ t) (in-order NumberOrder number.Missing (classOn t) refl (class-order t) (numbersOf t r) (numbersOf t q))
+
+  pub temperatures-order : InOrder TenthsOrder tenths.Missing (temperaturesOf r) (temperaturesOf q) (temperaturesOf (back r)) (temperaturesOf (back q))
+  temperatures-order =
+      rw (temperatures-read r arrays fine, temperatures-read q arrays′ fine′)
+      (in-order TenthsOrder tenths.Missing classTenths refl temperature-order (temperaturesOf r) (temperaturesOf q))
+
+  pub pressures-order : InOrder NumberOrder number.Missing (pressuresOf r) (pressuresOf q) (pressuresOf (back r)) (pressuresOf (back q))
+  pressures-order =
+      rw (pressures-read r arrays fine, pressures-read q arrays′ fine′) (in-order NumberOrder number.Missing classPressure refl qnh-order (pressuresOf r) (pressuresOf q))
+
+  pub rains-order : InOrder RainOrder rain.Trace (rainsOf r) (rainsOf q) (rainsOf (back r)) (rainsOf (back q))
+  rains-order =
+      rw (rains-read r arrays fine, rains-read q arrays′ fine′) (in-order RainOrder rain.Trace roundedRain trace-exact rain-order (rainsOf r) (rainsOf q))
+
+-- What may the observer have seen where a table says visibility 4000 m? 4,000 m or more, and less than 4,100 m.
+pub seen-4000 : (v : ℕ) → footOn visibility v ≡ 4000 → (4000 ≤ v) × (v < 4100)
+unfolding scale.visibility run classIn
+seen-4000 v e =
+    let d = down-on visibility v in
+    let low : footOn visibility v ≤ v = d .not-above in
+    ⊎-elim
+    (λ (h : 4100 ≤ v). let o : footOn visibility 4100 ≤ footOn visibility v = order-on visibility 4100 v h in absurd (omega arith))
+    (λ (h : v < 4100). (omega arith, h))
+    (reached 4100 v)

@@ -1,0 +1,167 @@
+-- FOUR POOR LIBRARIES are shut out by demand 2: no function that meets a contract refuses everything, answers with one record or one text, writes nothing and
+-- says done, or goes by the first group alone.
+-- Assumes nothing.
+use Prim.Native.Nat.{ℕ, _≤_}
+use native.Mathlib.Omega.{arith}
+use mathlib.Core.Path.{_≡_, refl, sym, ap, _∙_}
+use mathlib.Core.Bool.{Bool, true, false, false≢true}
+use mathlib.Core.List.{List}
+use lib.ListN.{length, getD, take, replicate}
+use Rattle.figures.specs.Quote.{bytes}
+use Rattle.figures.specs.Figures.{figures, numberText, fieldText}
+use Rattle.figures.specs.Put.{splice}
+use Rattle.text.specs.declared.kinds.Judged.the-variants as judged
+use Rattle.text.specs.declared.kinds.Verdict.{Verdict}
+use Rattle.text.specs.declared.kinds.Verdict.the-variants as verdict
+use Rattle.text.specs.declared.kinds.Written.{Written}
+use Rattle.text.specs.declared.kinds.Written.the-variants as answer
+use Rattle.text.specs.Bytes.{lead}
+use Rattle.text.specs.Groups.{Piece, groupsIn, groupsFrom, join, spaced, parted}
+use Rattle.record.specs.declared.values.Number.the-variants as number
+use Rattle.record.specs.declared.aerodrome.Metar.{Metar}
+use Rattle.record.specs.Metar.{setStation, setTime, setNil, blankMetar}
+use Rattle.elements.specs.Wind.{showWind, showVariation}
+use Rattle.elements.specs.Visibility.{showVisibility}
+use Rattle.elements.specs.Weather.{showWeathers, showRecents}
+use Rattle.elements.specs.Sky.{showSky}
+use Rattle.aerodrome.specs.Runway.{showRunways}
+use Rattle.aerodrome.specs.Temperatures.{showTemperatures, showQnh}
+use Rattle.aerodrome.specs.Head.{showTime, judgeStation, judgeTime}
+use Rattle.metar_row.specs.Row.{row}
+use Rattle.metar.specs.Write as metar
+use Rattle.report_record.specs.declared.kinds.Report.{Report}
+use Rattle.report_record.specs.declared.kinds.Reading.{Reading}
+use Rattle.report_record.specs.Record.{observedReport, accepted}
+use Rattle.report.specs.Read.{readOf}
+use Rattle.report.specs.Write.{judgeOf, canonicalOf, classedOf, writtenOf, bufferOf}
+use Rattle.report_laws.proofs.Demands.{one-text}
+use Rattle.report_laws.proofs.RoundTrip.{Fair, observed, fair-fine, comes-back}
+
+-- ---- two records: METAR LEMD 011200Z NIL, METAR LEMG 011200Z NIL
+
+nilOf : List ℕ → Metar
+nilOf letters =
+    setNil true
+    (setTime (record { day = number.Is 1; hour = number.Is 12; minute = number.Is 0 }) (setStation (record { letters = letters }) blankMetar))
+
+abbrev one : Report
+one = observedReport (nilOf (bytes "LEMD"))
+
+abbrev other : Report
+other = observedReport (nilOf (bytes "LEMG"))
+
+abbrev oneText : List ℕ
+oneText = bytes "METAR LEMD 011200Z NIL="
+
+abbrev otherText : List ℕ
+otherText = bytes "METAR LEMG 011200Z NIL="
+
+fair-one : Fair one
+unfolding nilOf metar.judgeOf metar.noBody metar.judgeHead judgeStation judgeTime
+fair-one = observed (nilOf (bytes "LEMD")) (record { letters = refl; runways = refl; weathers = refl; layers = refl; recents = refl }) refl
+
+fair-other : Fair other
+unfolding nilOf metar.judgeOf metar.noBody metar.judgeHead judgeStation judgeTime
+fair-other = observed (nilOf (bytes "LEMG")) (record { letters = refl; runways = refl; weathers = refl; layers = refl; recents = refl }) refl
+
+text-one : canonicalOf one ≡ oneText
+unfolding nilOf canonicalOf metar.canonicalOf row join spaced parted showTime showWind showVariation showVisibility showRunways showWeathers showSky showTemperatures showQnh showRecents numberText figures fieldText
+text-one = refl
+
+text-other : canonicalOf other ≡ otherText
+unfolding nilOf canonicalOf metar.canonicalOf row join spaced parted showTime showWind showVariation showVisibility showRunways showWeathers showSky showTemperatures showQnh showRecents numberText figures fieldText
+text-other = refl
+
+-- what they are read as, and what is written of them
+read-one : readOf oneText ≡ accepted 23 (classedOf one)
+read-one = rw text-one at (comes-back fair-one)
+
+read-other : readOf otherText ≡ accepted 23 (classedOf other)
+read-other = rw text-other at (comes-back fair-other)
+
+apart : classedOf one ≡ classedOf other → ⊥
+unfolding nilOf classedOf metar.classedOf row
+apart e = let d : _≡_ {A = ℕ} 68 71 = ap (λ (r : Report). getD (r .observed .station .letters) 3 0) e in omega arith
+
+same-first : take 1 (groupsFrom oneText 0) ≡ take 1 (groupsFrom otherText 0)
+unfolding groupsFrom groupsIn lead
+same-first = refl
+
+-- ---- the reader
+
+abbrev isAccepted : Verdict → Bool
+isAccepted (verdict.Accepted rest) = true
+isAccepted (verdict.Refused f at) = false
+
+module _ (read : List ℕ → Reading) (meets : (t : List ℕ) → read t ≡ readOf t) where
+  -- one refusing everything
+  pub no-refusing-reader : ((t : List ℕ) → isAccepted (read t .verdict) ≡ false) → ⊥
+  no-refusing-reader all = false≢true (sym (rw (meets oneText, read-one) at (all oneText)))
+
+  record-one : read oneText .report ≡ classedOf one
+  record-one = rw (meets oneText, read-one)
+
+  record-other : read otherText .report ≡ classedOf other
+  record-other = rw (meets otherText, read-other)
+
+  -- one returning a fixed record
+  pub no-fixed-record : (x : Report) → ((t : List ℕ) → isAccepted (read t .verdict) ≡ true → read t .report ≡ x) → ⊥
+  no-fixed-record x fixed =
+      apart (sym record-one ∙ fixed oneText (rw (meets oneText, read-one)) ∙ sym (fixed otherText (rw (meets otherText, read-other))) ∙ record-other)
+
+  -- one that reads the first group, and copies blanks, or anything, for the others
+  pub no-first-group-reader : (copy : List Piece → Report) → ((t : List ℕ) → isAccepted (read t .verdict) ≡ true → read t .report ≡ copy (take 1 (groupsFrom t 0))) → ⊥
+  no-first-group-reader copy by-first =
+      apart
+      (sym record-one ∙ by-first oneText (rw (meets oneText, read-one)) ∙ ap copy same-first ∙ sym (by-first otherText (rw (meets otherText, read-other))) ∙ record-other)
+
+-- ---- the writer
+
+abbrev isDone : Written → Bool
+isDone (answer.Count n) = true
+isDone (answer.Refused f) = false
+
+abbrev blanks : List ℕ
+blanks = replicate 23 0
+
+fine-one : judgeOf one ≡ judged.Fine
+fine-one = fair-fine fair-one
+
+fine-other : judgeOf other ≡ judged.Fine
+fine-other = fair-fine fair-other
+
+room-one : length (canonicalOf one) ≤ length blanks
+room-one = rw text-one (omega arith)
+
+room-other : length (canonicalOf other) ≤ length blanks
+room-other = rw text-other (omega arith)
+
+module _ (write : Report → List ℕ → Written) (after : Report → List ℕ → List ℕ) (answers : (r : Report) (b : List ℕ) → write r b ≡ writtenOf r (length b))
+    (leaves : (r : Report) (b : List ℕ) → after r b ≡ bufferOf r b) where
+  -- one refusing everything
+  pub no-refusing-writer : ((r : Report) (b : List ℕ) → isDone (write r b) ≡ false) → ⊥
+  no-refusing-writer all = false≢true (sym (rw (answers one blanks, one-text one blanks fine-one room-one .0) at (all one blanks)))
+
+  buffer-one : after one blanks ≡ splice blanks 0 oneText
+  buffer-one = leaves one blanks ∙ one-text one blanks fine-one room-one .1 ∙ ap (splice blanks 0) text-one
+
+  buffer-other : after other blanks ≡ splice blanks 0 otherText
+  buffer-other = leaves other blanks ∙ one-text other blanks fine-other room-other .1 ∙ ap (splice blanks 0) text-other
+
+  -- one writing a fixed text
+  pub no-fixed-text : (x : List ℕ) → ((r : Report) (b : List ℕ) → isDone (write r b) ≡ true → after r b ≡ splice b 0 x) → ⊥
+  unfolding splice
+  no-fixed-text x fixed =
+      let e : splice blanks 0 oneText ≡ splice blanks 0 otherText =
+      sym buffer-one ∙ fixed one blanks (rw (answers one blanks, one-text one blanks fine-one room-one .0))
+      ∙ sym (fixed other blanks (rw (answers other blanks, one-text other blanks fine-other room-other .0))) ∙ buffer-other in
+      let d : _≡_ {A = ℕ} 68 71 = ap (λ (l : List ℕ). getD l 9 0) e in
+      omega arith
+
+  -- one that writes nothing and says done
+  pub no-idle-writer : ((r : Report) (b : List ℕ) → after r b ≡ b) → ⊥
+  unfolding splice
+  no-idle-writer idle =
+      let e : splice blanks 0 oneText ≡ blanks = sym buffer-one ∙ idle one blanks in
+      let d : _≡_ {A = ℕ} 77 0 = ap (λ (l : List ℕ). getD l 0 0) e in
+      omega arith

@@ -1,0 +1,156 @@
+-- The round trip of a record of any kind: what is judged fine is one kind's part with the others blank, and what is written of it is read back.
+-- Assumes nothing.
+use Prim.Native.Nat.{ℕ}
+use native.Mathlib.Omega.{arith}
+use mathlib.Core.Path.{_≡_, refl}
+use mathlib.Core.Bool.{true, _&&_}
+use mathlib.Core.List.{map}
+use lib.ListN.{length}
+use Rattle.text.specs.declared.kinds.Judged.the-variants as judged
+use Rattle.text.specs.Judge.{judge}
+use Rattle.text.proofs.Judging.{fine, and-then}
+use Rattle.shapes.proofs.Patterns.{both}
+use Rattle.scales.specs.Rounded.{roundedRain}
+use Rattle.record.specs.declared.surface.Synop.{Synop}
+use Rattle.record.specs.declared.aerodrome.Metar.{Metar}
+use Rattle.record.specs.declared.aerodrome.Taf.{Taf}
+use Rattle.record.specs.Blank.{blankSynop}
+use Rattle.record.specs.Metar.{blankMetar}
+use Rattle.record.specs.Taf.{blankTaf}
+use Rattle.aerodrome.specs.Temperatures.{classTenths, classPressure}
+use Rattle.metar_row.specs.Row as observed-row
+use Rattle.taf_row.specs.Row as forecast-row
+use Rattle.synop.specs.Write as synop
+use Rattle.metar.specs.Write as metar
+use Rattle.taf.specs.Write as taf
+use Rattle.synop_laws.proofs.Canonical as synop-text
+use Rattle.synop_laws.proofs.Promises as synop-promise
+use Rattle.metar_laws.proofs.Canonical as metar-text
+use Rattle.metar_laws.proofs.Promises as metar-promise
+use Rattle.taf_laws.proofs.Canonical as taf-text
+use Rattle.taf_laws.proofs.Promises as taf-promise
+use Rattle.report_record.specs.declared.kinds.Kind.{Kind}
+use Rattle.report_record.specs.declared.kinds.Kind.the-variants as kind
+use Rattle.report_record.specs.declared.kinds.Report.{Report}
+use Rattle.report_record.specs.Record.{surfaceReport, observedReport, forecastReport, accepted}
+use Rattle.report_record.specs.Blank.{isBlankSynop, isBlankMetar, isBlankTaf}
+use Rattle.report.specs.Read.{readOf}
+use Rattle.report.specs.Write.{judgeBy, judgeOf, canonicalOf, classedOf}
+use Rattle.report_laws.proofs.Blanks.{synop-blank, metar-blank, taf-blank}
+use Rattle.report_laws.proofs.ByName.{read-surface, read-observed, read-forecast}
+use Rattle.report_laws.proofs.Numbers.{Table, classOn, numbersOf, temperaturesOf, pressuresOf, rainsOf, surface-numbers, observed-numbers, forecast-numbers, amount-is}
+
+-- The record's arrays have the lengths of the code's arrays.
+pub record Arrays (r : Report) : Type 0 where
+  pub sign : length (r .surface .site .sign .letters) ≡ 9
+  pub observed : metar-text.Arrays (r .observed)
+  pub forecast : taf-text.Arrays (r .forecast)
+
+-- ---- what is judged fine
+
+pub data Fair : Report → Type 0 where
+  surface : (s : Synop) → length (s .site .sign .letters) ≡ 9 → synop.judgeOf s ≡ judged.Fine → Fair (surfaceReport s)
+  observed : (m : Metar) → metar-text.Arrays m → metar.judgeOf m ≡ judged.Fine → Fair (observedReport m)
+  forecast : (t : Taf) → taf-text.Arrays t → taf.judgeOf t ≡ judged.Fine → Fair (forecastReport t)
+
+same : {k k′ : Kind} {s s′ : Synop} {m m′ : Metar} {t t′ : Taf} → k ≡ k′ → s ≡ s′ → m ≡ m′ → t ≡ t′
+    → Fair (record { kind = k′; surface = s′; observed = m′; forecast = t′ }) → Fair (record { kind = k; surface = s; observed = m; forecast = t })
+same a b c d x = rw (a, b, c, d) x
+
+pub fair : (r : Report) → Arrays r → judgeOf r ≡ judged.Fine → Fair r
+unfolding judgeOf
+fair r arrays e = go (r .kind) refl e
+  where
+    go : (k : Kind) → r .kind ≡ k → judgeBy k r ≡ judged.Fine → Fair r
+    go kind.Missing is e = let z : _≡_ {A = ℕ} 0 1 = cc in absurd (omega arith)
+    go kind.Surface is e =
+        let j = and-then (judge (isBlankMetar (r .observed) && isBlankTaf (r .forecast)) true) (synop.judgeOf (r .surface)) e in
+        let b = both (isBlankMetar (r .observed)) (isBlankTaf (r .forecast)) (fine _ true (j .0) .0) in
+        same is refl (metar-blank (r .observed) (arrays .observed) (b .0)) (taf-blank (r .forecast) (arrays .forecast) (b .1)) (surface (r .surface) (arrays .sign) (j .1))
+    go kind.Observed is e =
+        let j = and-then (judge (isBlankSynop (r .surface) && isBlankTaf (r .forecast)) true) (metar.judgeOf (r .observed)) e in
+        let b = both (isBlankSynop (r .surface)) (isBlankTaf (r .forecast)) (fine _ true (j .0) .0) in
+        same is (synop-blank (r .surface) (arrays .sign) (b .0)) refl (taf-blank (r .forecast) (arrays .forecast) (b .1)) (observed (r .observed) (arrays .observed) (j .1))
+    go kind.Forecast is e =
+        let j = and-then (judge (isBlankSynop (r .surface) && isBlankMetar (r .observed)) true) (taf.judgeOf (r .forecast)) e in
+        let b = both (isBlankSynop (r .surface)) (isBlankMetar (r .observed)) (fine _ true (j .0) .0) in
+        same is (synop-blank (r .surface) (arrays .sign) (b .0)) (metar-blank (r .observed) (arrays .observed) (b .1)) refl (forecast (r .forecast) (arrays .forecast) (j .1))
+
+-- ---- it is read back
+
+pub comes-back : {r : Report} → Fair r → readOf (canonicalOf r) ≡ accepted (length (canonicalOf r)) (classedOf r)
+unfolding canonicalOf classedOf
+comes-back (surface s nine e) = read-surface (synop.canonicalOf s) (length (synop.canonicalOf s)) (synop.classedOf s) (synop-text.read-canonical s nine e)
+comes-back (observed m arrays e) = read-observed (metar.canonicalOf m) (length (metar.canonicalOf m)) (metar.classedOf m) (metar-text.read-canonical m arrays e)
+comes-back (forecast t arrays e) = read-forecast (taf.canonicalOf t) (length (taf.canonicalOf t)) (taf.classedOf t) (taf-text.read-canonical t arrays e)
+
+-- ---- and written again
+
+blank-metar : isBlankMetar blankMetar ≡ true
+unfolding isBlankMetar metar.noBody
+blank-metar = refl
+
+blank-taf : isBlankTaf blankTaf ≡ true
+unfolding isBlankTaf taf.noPart
+blank-taf = refl
+
+blank-synop : isBlankSynop blankSynop ≡ true
+unfolding isBlankSynop synop.noSurface
+blank-synop = refl
+
+pub fair-fine : {r : Report} → Fair r → judgeOf r ≡ judged.Fine
+unfolding judgeOf
+fair-fine (surface s nine e) = rw (blank-metar, blank-taf, e)
+fair-fine (observed m arrays e) = rw (blank-synop, blank-taf, e)
+fair-fine (forecast t arrays e) = rw (blank-synop, blank-metar, e)
+
+pub fine-again : {r : Report} → Fair r → judgeOf (classedOf r) ≡ judged.Fine
+unfolding judgeOf classedOf
+fine-again (surface s nine e) = rw (blank-metar, blank-taf, synop-text.classed-fine s e)
+fine-again (observed m arrays e) = rw (blank-synop, blank-taf, metar-text.classed-fine m arrays e)
+fine-again (forecast t arrays e) = rw (blank-synop, blank-metar, taf-text.classed-fine t arrays e)
+
+pub text-again : {r : Report} → Fair r → canonicalOf (classedOf r) ≡ canonicalOf r
+unfolding canonicalOf classedOf
+text-again (surface s nine e) = synop-text.written-again s e
+text-again (observed m arrays e) = metar-text.written-again m arrays e
+text-again (forecast t arrays e) = taf-text.written-again t arrays e
+
+-- ---- field by field
+
+pub data Kept : Report → Report → Type 0 where
+  surface-kept : {s q : Synop} → synop-promise.RecordRead s q → Kept (surfaceReport s) (surfaceReport q)
+  observed-kept : {m q : Metar} → metar-promise.RecordRead m q → Kept (observedReport m) (observedReport q)
+  forecast-kept : {t q : Taf} → taf-promise.RecordRead t q → Kept (forecastReport t) (forecastReport q)
+
+pub kept : {r : Report} → Fair r → Kept r (classedOf r)
+unfolding classedOf
+kept (surface s nine e) = surface-kept (rw (synop-text.read-canonical s nine e) at (synop-promise.promise s nine e .1))
+kept (observed m arrays e) = observed-kept (rw (metar-text.read-canonical m arrays e) at (metar-promise.promise m arrays e .1))
+kept (forecast t arrays e) = forecast-kept (rw (taf-text.read-canonical t arrays e) at (taf-promise.promise t arrays e .1))
+
+-- ---- each rounded number is the reading of its class
+
+pub numbers-back : (t : Table) {r : Report} → Fair r → numbersOf t (classedOf r) ≡ map (classOn t) (numbersOf t r)
+unfolding classedOf synop.classedOf metar.classedOf taf.classedOf observed-row.row forecast-row.row
+numbers-back t (surface s nine e) = surface-numbers t (s .surface) (synop.classedOf s .surface) refl refl
+numbers-back t (observed m arrays e) = observed-numbers t m (metar.classedOf m) refl refl refl
+numbers-back t (forecast f arrays e) = forecast-numbers t f (taf.classedOf f) refl refl (taf-promise.items-classed f arrays e)
+
+pub temperatures-back : {r : Report} → Fair r → temperaturesOf (classedOf r) ≡ map classTenths (temperaturesOf r)
+unfolding classedOf metar.classedOf observed-row.row
+temperatures-back (surface s nine e) = refl
+temperatures-back (observed m arrays e) = refl
+temperatures-back (forecast f arrays e) = refl
+
+pub pressures-back : {r : Report} → Fair r → pressuresOf (classedOf r) ≡ map classPressure (pressuresOf r)
+unfolding classedOf metar.classedOf observed-row.row
+pressures-back (surface s nine e) = refl
+pressures-back (observed m arrays e) = refl
+pressures-back (forecast f arrays e) = refl
+
+pub rains-back : {r : Report} → Fair r → rainsOf (classedOf r) ≡ map roundedRain (rainsOf r)
+unfolding classedOf synop.classedOf
+rains-back (surface s nine e) = amount-is (s .surface .rainfall .is) (synop-text.parts-fit s e .1)
+rains-back (observed m arrays e) = refl
+rains-back (forecast f arrays e) = refl

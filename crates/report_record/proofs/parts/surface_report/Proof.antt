@@ -1,0 +1,14 @@
+-- `report_record::parts::surface_report` meets its contract: the other parts are blank.
+-- Assumes nothing.
+use borrow.Author.Needs.{needs}
+use Rattle.report_record.proofs.parts.surface_report.Statement.{statement}
+use Rattle.report_record.proofs.parts.surface_report.Tie as tie
+
+returns : tie.Need-returns
+returns c = rw (c .before .before .blank-report .ensures)
+
+pub surface-report-spec : {M : Type 1} → statement M
+surface-report-spec =
+    tie.close
+    (tie.spec
+    (λ c κs. search needs) returns)

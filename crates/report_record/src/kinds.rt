@@ -1,0 +1,32 @@
+// The record of a report of any kind, what reading a text answers, and which of two texts stands.
+use record::aerodrome::Metar;
+use record::aerodrome::Taf;
+use record::surface::Synop;
+use text::kinds::Verdict;
+
+// What a report is: SYNOP or SHIP, METAR or SPECI, TAF.
+pub enum Kind {
+    Missing,
+    Surface,
+    Observed,
+    Forecast,
+}
+
+// What a report says, a part for each kind; the parts that its kind does not have are blank.
+pub struct Report {
+    pub kind: Kind,
+    pub surface: Synop,
+    pub observed: Metar,
+    pub forecast: Taf,
+}
+
+pub struct Reading {
+    pub verdict: Verdict,
+    pub report: Report,
+}
+
+pub enum Stands {
+    First,
+    Second,
+    Neither,
+}

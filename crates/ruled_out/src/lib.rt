@@ -1,0 +1,1 @@
+// Wrong answers that each public contract rules out. The theorems are in proofs/; there is no code.

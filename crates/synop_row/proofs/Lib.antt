@@ -1,0 +1,2 @@
+-- The row as its tests see it.
+pub mod Tests

@@ -1,0 +1,14 @@
+-- `row::is_stop_word` meets its contract.
+-- Assumes nothing.
+use borrow.Author.Needs.{needs}
+use Rattle.synop_row.proofs.Tests.{stop-word}
+use Rattle.synop_row.proofs.row.is_stop_word.Statement.{statement}
+use Rattle.synop_row.proofs.row.is_stop_word.Tie as tie
+
+pub is-stop-word-spec : {M : Type 1} → statement M
+is-stop-word-spec =
+    tie.close
+    (tie.spec
+    (λ c. search needs) (λ c κs. search needs) (λ c. search needs) (λ c κs. search needs) (λ c. search needs) (λ c κs. search needs)
+    (λ c. search needs) (λ c κs. search needs)
+    (λ c. stop-word (c .before .before .before .before .before .before .before .before .before .args .g .now) (c .before .before .before .before .before .before .has-pattern .ensures) (c .before .before .before .before .has-pattern2 .ensures) (c .before .before .has-pattern3 .ensures) (c .has-pattern4 .ensures)))

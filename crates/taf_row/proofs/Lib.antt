@@ -1,0 +1,2 @@
+-- The laws of a part's row.
+pub mod Rows

@@ -1,0 +1,62 @@
+-- The laws of a part's row: its arrays in the code, its change words, and what a part lacks.
+-- Assumes nothing.
+use Prim.Native.Nat.{ℕ}
+use mathlib.Core.Path.{_≡_, refl, sym}
+use mathlib.Core.Bool.{Bool, true, false, not, cond, _&&_, _||_, or-false}
+use mathlib.Core.List.{List, [], _∷_}
+use lib.ListN.{length, drop}
+use Rattle.figures.specs.Quote.{bytes}
+use Rattle.shapes.specs.Pattern.{hasPattern, hasAny}
+use Rattle.places.specs.Seek.{stands, findOf, owed}
+use Rattle.places.specs.Engine.{Group, standsOf, mustsOf}
+use Rattle.places.proofs.Rows.{row-stands}
+use Rattle.record.specs.declared.aerodrome.Leg.{Leg}
+use Rattle.taf_row.specs.declared.kinds.Part.{Part}
+use Rattle.taf_row.specs.declared.kinds.Part.the-variants as part
+use Rattle.taf_row.specs.Row.{isMain, isWhole, hasPeriod, row, changeWords}
+use Rattle.taf_row.specs.Tests.{Shapes, mostsOf, hasElement, lacks}
+
+-- ---- the row
+
+pub row-length : (w : Part) → length (row w) ≡ 11
+unfolding row
+row-length w = refl
+
+musts-so : (w : Part) → (isMain w ∷ false ∷ isMain w ∷ isMain w ∷ false ∷ hasPeriod w ∷ false ∷ isWhole w ∷ isWhole w ∷ false ∷ false ∷ []) ≡ mustsOf (row w)
+unfolding row
+musts-so part.Main = refl
+musts-so part.Changing = refl
+musts-so part.From = refl
+
+pub musts-by : (w : Part) {m p a : Bool} → m ≡ isMain w → p ≡ hasPeriod w → a ≡ isWhole w
+    → (m ∷ false ∷ m ∷ m ∷ false ∷ p ∷ false ∷ a ∷ a ∷ false ∷ false ∷ []) ≡ mustsOf (row w)
+musts-by w m p a = rw (m, p, a) (musts-so w)
+
+pub mosts-by : (w : Part) {m p : Bool} {i j : ℕ} → m ≡ isMain w → i ≡ cond m 1 0 → p ≡ hasPeriod w → j ≡ cond p 1 0
+    → (i ∷ i ∷ i ∷ i ∷ i ∷ j ∷ i ∷ 1 ∷ 1 ∷ 3 ∷ 4 ∷ []) ≡ mostsOf w
+unfolding mostsOf row
+mosts-by w m i p j = rw (i, m, j, p)
+
+-- the three arrays say the row
+pub found-at : (w : Part) (g : Group) (c k : ℕ) {hs us : List Bool} {ms : List ℕ} → Shapes g hs → ms ≡ mostsOf w → us ≡ mustsOf (row w)
+    → findOf (stands hs ms us) c k ≡ findOf (standsOf (row w) g) c k
+unfolding mostsOf
+found-at w g c k p q r = rw (p w, q, r, row-stands (row w) g)
+
+any-of : (a b c d : Bool) → (((a || b) || c) || d) ≡ (a || (b || (c || (d || false))))
+any-of true b c d = refl
+any-of false true c d = refl
+any-of false false true d = refl
+any-of false false false d = sym (or-false d)
+
+pub change-word : (g : Group) {a b c d : Bool}
+    → a ≡ hasPattern g (bytes "BECMG") → b ≡ hasPattern g (bytes "TEMPO") → c ≡ hasPattern g (bytes "PROB##") → d ≡ hasPattern g (bytes "FM######")
+    → (((a || b) || c) || d) ≡ hasAny changeWords g
+unfolding changeWords hasAny
+change-word g {a} {b} {c} {d} p q r s = rw (← p, ← q, ← r, ← s) (any-of a b c d)
+
+-- ---- what a part lacks
+
+pub lacks-by : (w : Part) (c k : ℕ) (r : Leg) {us : List Bool} {o m e : Bool} → us ≡ mustsOf (row w) → o ≡ owed k (drop c us) → m ≡ isMain w → e ≡ hasElement r
+    → (o || (not m && not e)) ≡ lacks w c k r
+lacks-by w c k r p q m e = rw (q, p, m, e)

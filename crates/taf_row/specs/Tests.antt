@@ -1,0 +1,55 @@
+-- What the row's arrays in the code say, and the tests that decide at a group or at a part's end.
+-- Assumes nothing: these are definitions.
+use Prim.Native.Nat.{ℕ}
+use mathlib.Core.Path.{_≡_}
+use mathlib.Core.Bool.{Bool, true, false, not, _&&_, _||_}
+use mathlib.Core.List.{List, map}
+use lib.ListN.{drop}
+use lib.Dec.{leb, ltb}
+use Rattle.places.specs.Seek.{owed}
+use Rattle.places.specs.Engine.{Group, Place, mustsOf}
+use Rattle.record.specs.declared.aerodrome.Opening.{Opening}
+use Rattle.record.specs.declared.aerodrome.Opening.the-variants as opening
+use Rattle.record.specs.declared.aerodrome.Leg.{Leg}
+use Rattle.elements.specs.Wind.{hasUnit}
+use Rattle.elements.specs.Visibility.{noView}
+use Rattle.elements.specs.Sky.{isLayers}
+use Rattle.taf_row.specs.declared.kinds.Part.{Part}
+use Rattle.taf_row.specs.Row.{isMain, word, row}
+
+-- ---- the row's arrays
+
+-- which places of the row have the group's shape, in any part; how many groups may stand at each
+abbrev pub Shapes : Group → List Bool → Type 0
+Shapes g hs = (w : Part) → hs ≡ map (λ (p : Place Leg). p .has g) (row w)
+
+unfoldable pub mostsOf : Part → List ℕ
+mostsOf w = map (λ (p : Place Leg). p .most) (row w)
+
+-- ---- TEMPO at once after PROB30 or PROB40
+
+abbrev pub isProbable : Opening → Bool
+isProbable opening.None = false
+isProbable opening.Becoming = false
+isProbable opening.Temporary = false
+isProbable (opening.Probable n) = true
+isProbable (opening.ProbablyTemporary n) = false
+isProbable opening.From = false
+
+-- by what opened the part, and whether nothing has followed it
+abbrev pub joins : Opening → Bool → Group → Bool
+joins o fresh g = isProbable o && fresh && word "TEMPO" g
+
+-- ---- the end of a body: a required group is absent, or a change body has no element
+
+abbrev pub hasElement : Leg → Bool
+hasElement r = hasUnit (r .wind .unit) || not (noView (r .visibility .is)) || ltb 0 (r .weathers .count) || r .nsw || not (isLayers (r .sky .cover)) || ltb 0 (r .sky .count)
+
+-- "A change body needs one element, under FM wind and visibility."
+abbrev pub lacks : Part → ℕ → ℕ → Leg → Bool
+lacks w c k r = owed k (drop c (mustsOf (row w))) || (not (isMain w) && not (hasElement r))
+
+-- ---- "up to .. 16 change groups": there is no room for one more
+
+abbrev pub isFull : ℕ → Bool
+isFull n = leb 16 n

@@ -1,0 +1,83 @@
+// What decides at a group or at a part's end: whether TEMPO belongs to PROB, whether NSW may stand, whether a part is whole, whether there is room for
+// one change more.
+use crate::kinds::Part;
+use crate::row::is_main;
+use crate::row::musts;
+use elements::blank::has_unit;
+use elements::blank::no_view;
+use record::aerodrome::Leg;
+use record::aerodrome::Opening;
+use record::aerodrome::Visibility;
+use shapes::has_pattern;
+use sky::read::is_layers;
+use wind::read::is_cavok;
+ghost use mathlib.Core.Path.{_≡_};
+ghost use Rattle.taf_row.specs.Row.{nswStands};
+ghost use Rattle.taf_row.specs.Tests.{isProbable, joins, hasElement, lacks, isFull};
+
+// ---- at a group
+
+fn is_probable(opening: Opening) -> bool
+    ensures { λ r. ⌜ r ≡ isProbable opening ⌝ }
+{
+    match opening {
+        Opening::None => false,
+        Opening::Becoming => false,
+        Opening::Temporary => false,
+        Opening::Probable(_) => true,
+        Opening::ProbablyTemporary(_) => false,
+        Opening::From => false,
+    }
+}
+
+// TEMPO at once after PROB30 or PROB40
+pub fn does_join(opening: Opening, fresh: bool, g: &[u8]) -> bool
+    ensures { λ r. ⌜ r ≡ joins opening fresh (now (g .entry)) ⌝ }
+{
+    let probable = is_probable(opening);
+    let joining = has_pattern(g, b"TEMPO");
+    probable & fresh & joining
+}
+
+// NSW disagrees with the main part, with weather before it and with CAVOK.
+pub fn nsw_stands(main: bool, count: usize, visibility: Visibility) -> bool
+    ensures { λ r. ⌜ r ≡ nswStands main count visibility ⌝ }
+{
+    let cavok = is_cavok(visibility);
+    !main & (count == 0) & !cavok
+}
+
+// ---- at a part's end
+
+pub fn has_element(r: Leg) -> bool
+    ensures { λ b. ⌜ b ≡ hasElement r ⌝ }
+{
+    let wind = r.wind;
+    let unit = wind.unit;
+    let visibility = r.visibility;
+    let view = visibility.is;
+    let sky = r.sky;
+    let cover = sky.cover;
+    let blown = has_unit(unit);
+    let unseen = no_view(view);
+    let layers = is_layers(cover);
+    blown | !unseen | (0 < r.weathers.count) | r.nsw | !layers | (0 < sky.count)
+}
+
+// Is a required group absent, or has a change body no element?
+pub fn lacks(part: Part, place: usize, count: usize, r: Leg) -> bool
+    ensures { λ b. ⌜ b ≡ lacks part place count r ⌝ }
+{
+    let must = musts(part);
+    let owed = places::is_owed(&must, place, count);
+    let main = is_main(part);
+    let some = has_element(r);
+    owed | (!main & !some)
+}
+
+// There is no room for one change more.
+pub fn is_full(changes: usize) -> bool
+    ensures { λ r. ⌜ r ≡ isFull changes ⌝ }
+{
+    16 <= changes
+}
