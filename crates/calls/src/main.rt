@@ -13,7 +13,7 @@ fn say_rests() {
     say_line(report::rest(b"METAR LEMD 011200Z 27010KT CAVOK 15/10 NOSIG="));
 }
 
-// A correction stands for the text that it corrects; one of another hour does not; a SYNOP never stands.
+// A correction stands for the text that it corrects; one of another minute does not; a SYNOP never stands.
 fn say_standing() {
     let first = b" METAR LEMD 011200Z NIL=  ";
     say_line(report::standing(

@@ -1,4 +1,4 @@
--- The library reads a text as the first kind that it is not foreign to.
+-- The library reads a text as the first kind whose reader does not refuse it as another's (3).
 -- Assumes nothing.
 use Prim.Native.Nat.{ℕ}
 use mathlib.Core.Path.{_≡_}

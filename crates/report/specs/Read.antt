@@ -44,7 +44,7 @@ unlessOther a b = cond (isOther (a .verdict)) b a
 unfoldable pub readOf : List ℕ → Reading
 readOf text = unlessOther (surfaceOf text) (unlessOther (observedOf text) (forecastOf text))
 
--- ---- "The rest, from that group to the text's end, .. is handed back as a part of the caller's text; where there is none, or the text is refused, it
+-- ---- "The rest, from that group to the text's end, is .. handed back as a part of the caller's text; where there is none, or the text is refused, it
 -- is the empty part at the end."
 
 abbrev pub restAt : ℕ → Verdict → ℕ

@@ -43,12 +43,12 @@ use Rattle.report.specs.Read.{answered, unlessOther, observedOf, forecastOf, re
 -- ---- any kind, by its names
 
 -- the text's bytes may stand in it, and its first group is one of the names
-record Named (names : List Pattern) (t : List ℕ) : Type 0 where
-  sound : bytesOf t ≡ judgement.Sound
-  first : Piece
-  others : List Piece
-  groups : groupsFrom t 0 ≡ first ∷ others
-  named : hasAny names (first .bytes) ≡ true
+pub record Named (names : List Pattern) (t : List ℕ) : Type 0 where
+  pub sound : bytesOf t ≡ judgement.Sound
+  pub first : Piece
+  pub others : List Piece
+  pub groups : groupsFrom t 0 ≡ first ∷ others
+  pub named : hasAny names (first .bytes) ≡ true
 
 -- "3: the first group is not ..; its place, 0 if no group stands before an "=" or the end"
 record ByName {R : Type 0} (names : List Pattern) (from : List Piece → Outcome R) : Type 0 where
@@ -91,13 +91,13 @@ module _ {R A : Type 0} (make : Verdict → R → A) (blank : R) (said : A → V
 
 -- ---- the three kinds
 
-abbrev surfaceNames : List Pattern
+abbrev pub surfaceNames : List Pattern
 surfaceNames = bytes "AAXX" ∷ bytes "BBXX" ∷ []
 
-abbrev observedNames : List Pattern
+abbrev pub observedNames : List Pattern
 observedNames = bytes "METAR" ∷ bytes "SPECI" ∷ []
 
-abbrev forecastNames : List Pattern
+abbrev pub forecastNames : List Pattern
 forecastNames = bytes "TAF" ∷ []
 
 one-of-two : (a b : Bool) → (a || (b || false)) ≡ false → (a ≡ false) × (b ≡ false)
@@ -126,15 +126,15 @@ module _ (t : List ℕ) where
   unfolding hasAny taf.fromFirst
   forecast-by-name = record { none = refl; other = λ g gs e. rw (one-of-two (hasPattern (g .bytes) (bytes "TAF")) false e .0) }
 
-  surface-named : (rest : ℕ) → synop.readOf t .verdict ≡ verdict.Accepted rest → Named surfaceNames t
+  pub surface-named : (rest : ℕ) → synop.readOf t .verdict ≡ verdict.Accepted rest → Named surfaceNames t
   unfolding synop.readOf
   surface-named rest e = accepted-named surface.reading blankSynop (λ a. a .verdict) (λ v r. refl) surfaceNames _ surface-by-name t rest e
 
-  observed-named : (rest : ℕ) → metar.readOf t .verdict ≡ verdict.Accepted rest → Named observedNames t
+  pub observed-named : (rest : ℕ) → metar.readOf t .verdict ≡ verdict.Accepted rest → Named observedNames t
   unfolding metar.readOf
   observed-named rest e = accepted-named metar.reading blankMetar (λ a. a .verdict) (λ v r. refl) observedNames _ observed-by-name t rest e
 
-  forecast-named : (rest : ℕ) → taf.readOf t .verdict ≡ verdict.Accepted rest → Named forecastNames t
+  pub forecast-named : (rest : ℕ) → taf.readOf t .verdict ≡ verdict.Accepted rest → Named forecastNames t
   unfolding taf.readOf
   forecast-named rest e = accepted-named taf.reading blankTaf (λ a. a .verdict) (λ v r. refl) forecastNames _ forecast-by-name t rest e
 
@@ -181,12 +181,12 @@ passed (verdict.Refused f at) x b rest w e =
     e
 
 -- the one kind whose reader has accepted it
-data Which (t : List ℕ) (rest : ℕ) (w : Report) : Type 0 where
+pub data Which (t : List ℕ) (rest : ℕ) (w : Report) : Type 0 where
   by-surface : synop.readOf t .verdict ≡ verdict.Accepted rest → surfaceReport (synop.readOf t .report) ≡ w → Which t rest w
   by-observed : metar.readOf t .verdict ≡ verdict.Accepted rest → observedReport (metar.readOf t .report) ≡ w → Which t rest w
   by-forecast : taf.readOf t .verdict ≡ verdict.Accepted rest → forecastReport (taf.readOf t .report) ≡ w → Which t rest w
 
-which : (t : List ℕ) (rest : ℕ) (w : Report) → readOf t ≡ accepted rest w → Which t rest w
+pub which : (t : List ℕ) (rest : ℕ) (w : Report) → readOf t ≡ accepted rest w → Which t rest w
 unfolding readOf
 which t rest w e =
     ⊎-elim (λ p. by-surface (p .0) (p .1))

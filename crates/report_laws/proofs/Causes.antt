@@ -39,7 +39,7 @@ use Rattle.report.specs.Write.{judgeBy, judgeOf}
 pub data Caused : Judged → Type 0 where
   fine : Caused judged.Fine
   bad-value : Caused (judged.Refused refusal.Value)
-  bad-pair : Caused (judged.Refused refusal.Disagreement)
+  disagreeing : Caused (judged.Refused refusal.Disagreement)
 
 -- ---- what every judgement is made of: one or the other, a group's 11 before its 7, and one judgement after another
 
@@ -48,12 +48,12 @@ either true x y = x
 either false x y = y
 
 pub judging : (within agrees : Bool) → Caused (judge within agrees)
-judging within agrees = either within (either agrees fine bad-pair) bad-value
+judging within agrees = either within (either agrees fine disagreeing) bad-value
 
 pub in-turn : {a b : Judged} → Caused a → Caused b → Caused (andThen a b)
 in-turn fine y = y
 in-turn bad-value y = bad-value
-in-turn bad-pair y = bad-pair
+in-turn disagreeing y = disagreeing
 
 -- a search by these goes as deep as there are judgements in turn, which is the `depth` that the longer ones say
 pub ruleset made = (fine, bad-value, judging, in-turn, either)

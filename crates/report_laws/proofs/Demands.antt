@@ -1,22 +1,29 @@
 -- THE THREE DEMANDS on the library, for every kind of report. What the calls do is `readOf`, `restOf`, `writtenOf` and `bufferOf`: the contracts of
 -- `report::read`, `rest` and `write` are equations with them. A record's arrays have their lengths, as every record of the code has (`Arrays`).
 -- Assumes nothing.
-use Prim.Native.Nat.{ℕ, _≤_, _<_}
+use Prim.Native.Nat.{ℕ, _≤_, _<_, _+_, _-_, _%_}
 use native.Mathlib.Omega.{arith}
 use mathlib.Core.Path.{_≡_, refl, sym, ap, subst, _∙_}
 use mathlib.Core.Bool.{Bool, true, false, cond}
-use mathlib.Core.List.{List, [], map}
+use mathlib.Core.List.{List, [], map, _∷_, _++_}
 use mathlib.Core.Logic.{⊎-elim}
-use lib.ListN.{length}
+use lib.ListN.{length, take, drop}
+use lib.IntN.{ℤ, pos, _+ℤ_}
+use lib.Signed.{leZ}
 use lib.Dec.{leb}
-use borrow.Author.Tests.{leb-true, leb-false, le-leb}
+use borrow.Author.Tests.{leb-true, leb-false, le-leb, lt-leb}
 use Rattle.figures.specs.Put.{splice}
+use Rattle.figures.proofs.Puts.{splice-eq}
 use Rattle.scales.specs.declared.kinds.Rain.the-variants as rain
-use Rattle.scales.specs.Rounded.{roundedRain}
+use Rattle.scales.specs.Rounded.{roundedRain, roundedPressure, rainRank, roundedDirection}
 use Rattle.scales.specs.Scale.{run, classIn}
 use Rattle.scales.specs.Metres as scale
+use Rattle.scales.specs.Degrees.{roundedDegrees}
 use Rattle.scales.proofs.Laws.{reached}
-use Rattle.scales.proofs.RainLaws.{rain-order, trace-exact}
+use Rattle.scales.proofs.DegreesLaws.{degrees-near}
+use Rattle.scales.proofs.PressureLaws.{pressure-near}
+use Rattle.scales.proofs.DirectionLaws.{direction-near}
+use Rattle.scales.proofs.RainLaws.{rain-order, trace-exact, rain-near, rain-most}
 use Rattle.text.specs.declared.kinds.Refusal.{Refusal}
 use Rattle.text.specs.declared.kinds.Refusal.the-variants as refusal
 use Rattle.text.specs.declared.kinds.Judged.{Judged}
@@ -33,6 +40,9 @@ use Rattle.record.specs.declared.surface.Synop.{Synop}
 use Rattle.record.specs.declared.aerodrome.Metar.{Metar}
 use Rattle.record.specs.declared.aerodrome.Taf.{Taf}
 use Rattle.aerodrome.specs.Temperatures.{classTenths, classPressure}
+use Rattle.synop_section.specs.declared.kinds.Reading.{Reading as SynopReading}
+use Rattle.metar.specs.declared.kinds.Reading.{Reading as MetarReading}
+use Rattle.taf.specs.declared.kinds.Reading.{Reading as TafReading}
 use Rattle.synop.specs.Read as synop
 use Rattle.metar.specs.Read as metar
 use Rattle.taf.specs.Read as taf
@@ -42,8 +52,8 @@ use Rattle.report_record.specs.declared.kinds.Reading.{Reading}
 use Rattle.report_record.specs.Record.{blankReport, surfaceReport, observedReport, forecastReport, accepted, refused}
 use Rattle.report.specs.Read.{answered, isOther, unlessOther, surfaceOf, observedOf, forecastOf, readOf, restPlace, restOf}
 use Rattle.report.specs.Write.{judgeOf, canonicalOf, classedOf, writtenOf, bufferOf}
-use Rattle.report_laws.proofs.ByName.{read-surface, read-observed, read-forecast, as-surface, as-observed, as-forecast}
-use Rattle.report_laws.proofs.Causes.{Caused, fine, bad-value, bad-pair, causes}
+use Rattle.report_laws.proofs.ByName.{read-surface, read-observed, read-forecast, as-surface, as-observed, as-forecast, Named, surfaceNames, observedNames, forecastNames, surface-named, observed-named, forecast-named, Which, which}
+use Rattle.report_laws.proofs.Causes.{Caused, fine, bad-value, disagreeing, causes}
 use Rattle.report_laws.proofs.Numbers.{Table, visibility, footOn, classOn, numbersOf, temperaturesOf, pressuresOf, rainsOf, DownOn, down-on, NumberOrder, TenthsOrder, RainOrder, InOrder, in-order, order-on, class-order, temperature-order, qnh-order}
 use Rattle.report_laws.proofs.RoundTrip.{Arrays, fair, comes-back, fine-again, text-again, Kept, kept, numbers-back, temperatures-back, pressures-back, rains-back}
 
@@ -77,24 +87,24 @@ refused-blank t f at e = (go (readOf t) (every-text t) e, rw (e, part-nothing t 
     go _ (yes rest r) e = let z : _≡_ {A = ℕ} 0 1 = cc in absurd (omega arith)
     go _ (no g p) e = refl
 
--- A record is written, "The count of bytes written is the canonical text's length", and the bytes past the text are as they were; or it is refused, and
+-- A record that is judged fine is written where it has room, "The count of bytes written is the canonical text's length", and the bytes past the text are as they were; or it is refused, and
 -- the lent buffer stays as it came.
 pub data Settled (r : Report) (b : List ℕ) : Written → List ℕ → Type 0 where
-  done : length (canonicalOf r) ≤ length b → Settled r b (answer.Count (length (canonicalOf r))) (splice b 0 (canonicalOf r))
+  done : judgeOf r ≡ judged.Fine → length (canonicalOf r) ≤ length b → Settled r b (answer.Count (length (canonicalOf r))) (splice b 0 (canonicalOf r))
   unchanged : (f : Refusal) → Settled r b (answer.Refused f) b
 
 pub every-record : (r : Report) (b : List ℕ) → Settled r b (writtenOf r (length b)) (bufferOf r b)
 unfolding writtenOf bufferOf judgeOf canonicalOf
-every-record r b = go (judgeOf r)
+every-record r b = go (judgeOf r) refl
   where
-    room : (c : Bool) → leb (length (canonicalOf r)) (length b) ≡ c
+    room : judgeOf r ≡ judged.Fine → (c : Bool) → leb (length (canonicalOf r)) (length b) ≡ c
         → Settled r b (cond c (answer.Count (length (canonicalOf r))) (answer.Refused refusal.Room)) (cond c (splice b 0 (canonicalOf r)) b)
-    room true e = done (leb-true (length (canonicalOf r)) (length b) e)
-    room false e = unchanged refusal.Room
+    room j true e = done j (leb-true (length (canonicalOf r)) (length b) e)
+    room j false e = unchanged refusal.Room
 
-    go : (j : Judged) → Settled r b (answerBy j (canonicalOf r) (length b)) (bufferBy j (canonicalOf r) b)
-    go judged.Fine = room (leb (length (canonicalOf r)) (length b)) refl
-    go (judged.Refused f) = unchanged f
+    go : (j : Judged) → judgeOf r ≡ j → Settled r b (answerBy j (canonicalOf r) (length b)) (bufferBy j (canonicalOf r) b)
+    go judged.Fine is = room is (leb (length (canonicalOf r)) (length b)) refl
+    go (judged.Refused f) is = unchanged f
 
 -- ==== DEMAND 2. A text is accepted exactly when WMO-306 with document 01's rulings allows it, and the record, station and hour included, is the meaning
 -- given there; the writer refuses only for the causes listed there and writes the one canonical text. What a kind allows, and means, is its `readOf`; the
@@ -112,6 +122,19 @@ observed-exactly t rest r = record { only = as-observed t rest r; all = read-obs
 
 pub forecast-exactly : (t : List ℕ) (rest : ℕ) (r : Taf) → Exactly (readOf t ≡ accepted rest (forecastReport r)) (taf.readOf t ≡ taf.accepted rest r)
 forecast-exactly t rest r = record { only = as-forecast t rest r; all = read-forecast t rest r }
+
+-- What is accepted is accepted by one kind's reader, and its first group is one of that kind's names.
+pub accepted-only : (t : List ℕ) (rest : ℕ) (w : Report) → readOf t ≡ accepted rest w → Which t rest w
+accepted-only = which
+
+pub surface-first : (t : List ℕ) (rest : ℕ) (r : Synop) → readOf t ≡ accepted rest (surfaceReport r) → Named surfaceNames t
+surface-first t rest r e = surface-named t rest (ap (λ (a : SynopReading). a .verdict) (as-surface t rest r e))
+
+pub observed-first : (t : List ℕ) (rest : ℕ) (r : Metar) → readOf t ≡ accepted rest (observedReport r) → Named observedNames t
+observed-first t rest r e = observed-named t rest (ap (λ (a : MetarReading). a .verdict) (as-observed t rest r e))
+
+pub forecast-first : (t : List ℕ) (rest : ℕ) (r : Taf) → readOf t ≡ accepted rest (forecastReport r) → Named forecastNames t
+forecast-first t rest r e = forecast-named t rest (ap (λ (a : TafReading). a .verdict) (as-forecast t rest r e))
 
 -- The writer refuses 11 and 7 as judged, and 10 where "the buffer is shorter than the canonical text, and not otherwise".
 pub data Cause (r : Report) (b : List ℕ) : Refusal → Type 0 where
@@ -133,13 +156,29 @@ only-causes r b f e = go (judgeOf r) refl (causes r) e
     go : (j : Judged) → judgeOf r ≡ j → Caused j → answerBy j (canonicalOf r) (length b) ≡ answer.Refused f → Cause r b f
     go _ j fine e = short (leb (length (canonicalOf r)) (length b)) refl j e
     go _ j bad-value e = let g : refusal.Value ≡ f = cc in rw (← g) (value j)
-    go _ j bad-pair e = let g : refusal.Disagreement ≡ f = cc in rw (← g) (disagreement j)
+    go _ j disagreeing e = let g : refusal.Disagreement ≡ f = cc in rw (← g) (disagreement j)
+
+-- and where there is a cause, it refuses
+pub each-cause : (r : Report) (b : List ℕ) (f : Refusal) → Cause r b f → writtenOf r (length b) ≡ answer.Refused f
+unfolding writtenOf judgeOf canonicalOf
+each-cause r b _ (value j) = rw j
+each-cause r b _ (disagreement j) = rw j
+each-cause r b _ (room j h) = rw (j, lt-leb (length (canonicalOf r)) (length b) h)
 
 -- the one canonical text is written wherever it has room
 pub one-text : (r : Report) (b : List ℕ) → judgeOf r ≡ judged.Fine → length (canonicalOf r) ≤ length b
     → (writtenOf r (length b) ≡ answer.Count (length (canonicalOf r))) × (bufferOf r b ≡ splice b 0 (canonicalOf r))
 unfolding writtenOf bufferOf judgeOf canonicalOf
 one-text r b e h = (rw (e, le-leb (length (canonicalOf r)) (length b) h), rw (e, le-leb (length (canonicalOf r)) (length b) h))
+
+-- so that the bytes counted are that text
+front : {A : Type 0} (xs ys : List A) → take (length xs) (xs ++ ys) ≡ xs
+front [] ys = refl
+front (x ∷ xs) ys = ap (λ (l : List _). x ∷ l) (front xs ys)
+
+pub text-left : (r : Report) (b : List ℕ) → judgeOf r ≡ judged.Fine → length (canonicalOf r) ≤ length b → take (length (canonicalOf r)) (bufferOf r b) ≡ canonicalOf r
+text-left r b e h =
+    ap (take (length (canonicalOf r))) (one-text r b e h .1 ∙ splice-eq b 0 (canonicalOf r) (omega arith)) ∙ front (canonicalOf r) (drop (0 + length (canonicalOf r)) b)
 
 -- ==== DEMAND 3. What the writer writes, the reader accepts whole; exact fields come back equal, each rounded number as the reading of its class, within the
 -- stated distance, never greater where a scale rounds down, order kept; written again, the same bytes.
@@ -192,6 +231,23 @@ module _ (r : Report) (arrays : Arrays r) (fine : judgeOf r ≡ judged.Fine) whe
 pub how-far : (t : Table) (v : ℕ) → DownOn t v (footOn t v)
 how-far = down-on
 
+-- Aerodrome temperature and rain: "Value less reading, in tenths: -5 to 4"; Q: 0 to 9; "989 (from 988.5 mm) is open and is read 989.0"
+pub temperature-far : (t : ℤ) → (leZ (roundedDegrees t) (t +ℤ pos 5) ≡ true) × (leZ t (roundedDegrees t +ℤ pos 4) ≡ true)
+temperature-far = degrees-near
+
+pub pressure-far : (p : ℕ) → (roundedPressure p ≤ p) × (p ≤ roundedPressure p + 9)
+pressure-far = pressure-near
+
+pub rain-far : (t : ℕ) → t < 9885 → (rainRank (roundedRain (rain.Tenths t)) ≤ t + 5) × (t ≤ rainRank (roundedRain (rain.Tenths t)) + 4)
+rain-far = rain-near
+
+pub rain-above : (t : ℕ) → 9885 ≤ t → roundedRain (rain.Tenths t) ≡ rain.Tenths 9890
+rain-above = rain-most
+
+-- a direction: "on the circle, -5 to 4 degrees", so that five more is 0 to 9 round the circle
+pub direction-far : (d : ℕ) → d ≤ 359 → (d + 365 - roundedDirection d) % 360 ≤ 9
+direction-far = direction-near
+
 -- Of any two values in one scale, from one accepted record or from two, the greater never comes back smaller.
 module _ (r q : Report) (arrays : Arrays r) (arrays′ : Arrays q) (fine : judgeOf r ≡ judged.Fine) (fine′ : judgeOf q ≡ judged.Fine) where
   pub order : (t : Table) → InOrder NumberOrder number.Missing (numbersOf t r) (numbersOf t q) (numbersOf t (back r)) (numbersOf t (back q))
@@ -210,13 +266,21 @@ module _ (r q : Report) (arrays : Arrays r) (arrays′ : Arrays q) (fine : judge
   rains-order =
       rw (rains-read r arrays fine, rains-read q arrays′ fine′) (in-order RainOrder rain.Trace roundedRain trace-exact rain-order (rainsOf r) (rainsOf q))
 
--- What may the observer have seen where a table says visibility 4000 m? 4,000 m or more, and less than 4,100 m.
-pub seen-4000 : (v : ℕ) → footOn visibility v ≡ 4000 → (4000 ≤ v) × (v < 4100)
+-- What may the observer have seen where a table says visibility 4000 m? 4,000 m or more and less than 4,100 m, and nothing else.
+pub seen-4000 : (v : ℕ) → Exactly (footOn visibility v ≡ 4000) ((4000 ≤ v) × (v < 4100))
 unfolding scale.visibility run classIn
-seen-4000 v e =
-    let d = down-on visibility v in
-    let low : footOn visibility v ≤ v = d .not-above in
-    ⊎-elim
-    (λ (h : 4100 ≤ v). let o : footOn visibility 4100 ≤ footOn visibility v = order-on visibility 4100 v h in absurd (omega arith))
-    (λ (h : v < 4100). (omega arith, h))
-    (reached 4100 v)
+seen-4000 v = record { only = seen; all = λ (l, h). read l h }
+  where
+    seen : footOn visibility v ≡ 4000 → (4000 ≤ v) × (v < 4100)
+    seen e =
+        let low : footOn visibility v ≤ v = down-on visibility v .not-above in
+        ⊎-elim
+        (λ (h : 4100 ≤ v). let o : footOn visibility 4100 ≤ footOn visibility v = order-on visibility 4100 v h in absurd (omega arith))
+        (λ (h : v < 4100). (omega arith, h))
+        (reached 4100 v)
+
+    read : 4000 ≤ v → v < 4100 → footOn visibility v ≡ 4000
+    read l h =
+        let low : footOn visibility 4000 ≤ footOn visibility v = order-on visibility 4000 v l in
+        let high : footOn visibility v ≤ footOn visibility 4099 = order-on visibility v 4099 (omega arith) in
+        omega arith

@@ -97,12 +97,12 @@ pub fall-read : (f : Fall) → fallFits f ≡ true → FallRead f (classFall f)
 fall-read fall.Missing e = no-fall
 fall-read (fall.Is r t) e = fell (rain-read r (both (amountFits r) (oneFigure t) e .0))
 
--- A direction and its reading: "on the circle, -5 to 4 degrees", so that five more is 0 to 9 round the circle.
+-- A direction and its reading, that of its class: "on the circle, -5 to 4 degrees", so that five more is 0 to 9 round the circle.
 pub data DirectionRead : Direction → Direction → Type 0 where
   no-direction : DirectionRead direction.Missing direction.Missing
   calm : DirectionRead direction.Calm direction.Calm
   variable : DirectionRead direction.Variable direction.Variable
-  degrees : {d e : ℕ} → e < 360 → (d + 365 - e) % 360 ≤ 9 → DirectionRead (direction.Degrees d) (direction.Degrees e)
+  degrees : {d e : ℕ} → e ≡ roundedDirection d → e < 360 → (d + 365 - e) % 360 ≤ 9 → DirectionRead (direction.Degrees d) (direction.Degrees e)
 
 pub direction-read : (d : Direction) (s : Speed) → windFits d s ≡ true → DirectionRead d (classDirection d)
 unfolding roundedDirection
@@ -113,7 +113,7 @@ direction-read (direction.Degrees d) speed.Missing e = absurd (false≢true e)
 direction-read (direction.Degrees d) (speed.Is s) e =
     let h = leb-true d 359 (both (leb d 359) (leb s 999) e .0) in
     let w = direction-written d h in
-    rw (w .1, direction-rounds .back d (w .0) (w .1)) (degrees {e = roundedDirection d} (omega arith) (direction-near d h))
+    rw (w .1, direction-rounds .back d (w .0) (w .1)) (degrees {e = roundedDirection d} refl (omega arith) (direction-near d h))
 
 -- ---- the record that is read back
 

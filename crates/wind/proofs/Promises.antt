@@ -9,6 +9,7 @@ use borrow.Author.Tests.{leb-true}
 use Rattle.text.specs.declared.kinds.Judged.the-variants as judged
 use Rattle.shapes.proofs.Patterns.{both}
 use Rattle.scales.specs.Metres.{visibility}
+use Rattle.scales.specs.Rounded.{roundedDirection}
 use Rattle.scales.proofs.Down.{Down, down}
 use Rattle.scales.proofs.MetresLaws.{visibility-laws}
 use Rattle.record.specs.declared.values.Direction.{Direction}
@@ -21,18 +22,19 @@ use Rattle.record.specs.declared.aerodrome.View.{View}
 use Rattle.record.specs.declared.aerodrome.View.the-variants as view
 use Rattle.elements.specs.Wind.{extremesFit, readDegrees, judgeWind, judgeVariation, classDirection, classExtremes, classVariation, classWind}
 use Rattle.elements.specs.Visibility.{viewFits, classView}
-use Rattle.wind.proofs.DirectionLaws.{degrees-fit, degrees-near}
+use Rattle.wind.proofs.DirectionLaws.{degrees-read, degrees-fit, degrees-near}
 use Rattle.wind.proofs.RoundTripWind.{degreesFit, direction-fits}
 use Rattle.wind.proofs.RoundTripVariation.{judged-fine}
 
--- ---- directions: "on the circle, -5 to 4 degrees", so that five more is 0 to 9 round the circle
+-- ---- directions: the reading of its class; "on the circle, -5 to 4 degrees", so that five more is 0 to 9 round the circle
 
 pub record Near (value read : ℕ) : Type 0 where
+  pub class : read ≡ roundedDirection value
   pub below : read < 360
   pub near : (value + 365 - read) % 360 ≤ 9
 
 near-read : (d : ℕ) → leb d 359 ≡ true → Near d (readDegrees d)
-near-read d h = record { below = degrees-fit d; near = degrees-near d (leb-true d 359 h) }
+near-read d h = record { class = degrees-read d (leb-true d 359 h); below = degrees-fit d; near = degrees-near d (leb-true d 359 h) }
 
 pub data DirectionNear : Direction → Direction → Type 0 where
   no-direction : DirectionNear direction.Missing direction.Missing

@@ -1,4 +1,4 @@
--- `answers::say_written` meets its contract: the part up to the count is there.
+-- `answers::say_written` is sound: the part up to the count is there.
 -- Assumes nothing.
 use mathlib.Core.Path.{sym}
 use lib.Seq.{length-take-le}
