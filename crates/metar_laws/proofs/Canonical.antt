@@ -3,17 +3,13 @@
 -- Assumes nothing.
 use Prim.Native.Nat.{ℕ, _≤_, _<_}
 use native.Mathlib.Omega.{arith}
-use mathlib.Core.Path.{_≡_, refl, sym, ap, _∙_}
+use mathlib.Core.Path.{_≡_, refl, ap}
 use mathlib.Core.Bool.{Bool, true, false}
 use mathlib.Core.List.{List, [], _∷_}
-use lib.ListN.{length, length-map}
-use borrow.Author.Tests.{le-leb}
-use Rattle.figures.specs.Put.{splice}
+use lib.ListN.{length}
 use Rattle.text.specs.declared.kinds.Judged.the-variants as judged
 use Rattle.text.specs.declared.kinds.Tail.the-variants.{Clear}
-use Rattle.text.specs.declared.kinds.Written.the-variants as answer
 use Rattle.text.specs.Groups.{Piece, groupsFrom, join}
-use Rattle.text.specs.Write.{answerBy, bufferBy}
 use Rattle.text.proofs.Joins.{round-trip-bytes}
 use Rattle.places.specs.Engine.{run, written}
 use Rattle.places.proofs.ReadBack.{groupsOf}
@@ -22,15 +18,12 @@ use Rattle.places.proofs.Kept.{kept-sizes, rowRoom, text-short, text-sound, tex
 use Rattle.record.specs.declared.aerodrome.Metar.{Metar}
 use Rattle.record.specs.Metar.{blankMetar}
 use Rattle.elements.specs.Visibility.{isCavok}
-use Rattle.elements.specs.Sky.{classLayer}
-use Rattle.aerodrome.specs.Runway.{classRunway}
 use Rattle.wind.proofs.RoundTripWind.{wind-again, wind-classed}
 use Rattle.wind.proofs.RoundTripVariation.{variation-again, variation-classed}
 use Rattle.wind.proofs.RoundTripVisibility.{visibility-again, visibility-classed}
 use Rattle.sky.proofs.RoundTrip.{sky-again, sky-classed}
 use Rattle.aerodrome.proofs.RunwaysBack.{runways-again, runways-classed}
 use Rattle.aerodrome.proofs.TemperaturesBack.{temperatures-again, temperatures-classed, qnh-again, qnh-classed}
-use Rattle.metar.specs.declared.kinds.Reading.{Reading}
 use Rattle.metar_row.specs.Row.{row, stopWords}
 use Rattle.metar.specs.Read.{fromFirst, accepted, readOf}
 use Rattle.metar.specs.Write.{judgeHead, judgeBody, judgeOf, canonicalOf, classedOf}
@@ -146,32 +139,3 @@ classed-fine r arrays e = go (r .nil) refl
     go : (b : Bool) → r .nil ≡ b → judgeOf (classedOf r) ≡ judged.Fine
     go true n = rw (nil-classed r (fair-bare r arrays e n)) e
     go false n = full-classed r e n
-
-arrays-classed : (r : Metar) → Arrays r → Arrays (classedOf r)
-unfolding row classedOf
-arrays-classed r arrays =
-    record {
-      letters = arrays .letters;
-      runways = rw (length-map (r .runways .items) classRunway) (arrays .runways);
-      weathers = arrays .weathers;
-      layers = rw (length-map (r .sky .layers) classLayer) (arrays .layers);
-      recents = arrays .recents;
-    }
-
--- It is read back as itself.
-pub classed-twice : (r : Metar) → Arrays r → judgeOf r ≡ judged.Fine → classedOf (classedOf r) ≡ classedOf r
-classed-twice r arrays e =
-    let first = ap (λ (q : Reading). q .report) (read-canonical r arrays e) in
-    let second = ap (λ (q : Reading). q .report) (read-canonical (classedOf r) (arrays-classed r arrays) (classed-fine r arrays e)) in
-    sym second ∙ ap (λ (t : List ℕ). readOf t .report) (written-again r arrays e) ∙ first
-
--- WRITTEN AGAIN IT HAS THE SAME ANSWER AND LEAVES THE SAME BYTES, in any buffer.
-pub buffer-again : (r : Metar) (b : List ℕ) → Arrays r → judgeOf r ≡ judged.Fine
-    → (answerBy (judgeOf (classedOf r)) (canonicalOf (classedOf r)) (length b) ≡ answerBy (judgeOf r) (canonicalOf r) (length b))
-    × (bufferBy (judgeOf (classedOf r)) (canonicalOf (classedOf r)) b ≡ bufferBy (judgeOf r) (canonicalOf r) b)
-buffer-again r b arrays e = (rw (classed-fine r arrays e, e, written-again r arrays e), rw (classed-fine r arrays e, e, written-again r arrays e))
-
--- A buffer with room holds the canonical text at its front, and is as it was past it.
-pub buffer-canonical : (r : Metar) (b : List ℕ) → judgeOf r ≡ judged.Fine → length (canonicalOf r) ≤ length b
-    → (answerBy (judgeOf r) (canonicalOf r) (length b) ≡ answer.Count (length (canonicalOf r))) × (bufferBy (judgeOf r) (canonicalOf r) b ≡ splice b 0 (canonicalOf r))
-buffer-canonical r b e h = (rw (e, le-leb (length (canonicalOf r)) (length b) h), rw (e, le-leb (length (canonicalOf r)) (length b) h))

@@ -227,6 +227,11 @@ module _ (r : Report) (arrays : Arrays r) (fine : judgeOf r ≡ judged.Fine) whe
         ap (λ (q : Report). bufferOf q b) back-is ∙ bytes ∙ ap (splice b 0) again,
       )
 
+  -- and read once more, the same record
+  pub same-record : back (back r) ≡ back r
+  same-record =
+      ap (λ (q : Report). readOf (canonicalOf q) .report) back-is ∙ ap (λ (t : List ℕ). readOf t .report) (text-again (fair r arrays fine))
+
 -- no further off than document 01 states for the class, never greater, the last class open above; on the six scales in metres
 pub how-far : (t : Table) (v : ℕ) → DownOn t v (footOn t v)
 how-far = down-on

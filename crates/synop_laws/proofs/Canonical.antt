@@ -7,9 +7,8 @@ use mathlib.Core.Path.{_≡_, refl, sym, ap, _∙_}
 use mathlib.Core.Bool.{Bool, true, false, not, cond, _&&_, _||_, false≢true}
 use mathlib.Core.List.{List, [], _∷_, _++_}
 use lib.ListN.{length}
-use borrow.Author.Tests.{le-leb, not-true}
+use borrow.Author.Tests.{not-true}
 use Rattle.figures.specs.Quote.{bytes}
-use Rattle.figures.specs.Put.{splice}
 use Rattle.text.specs.declared.kinds.Refusal.the-variants as refusal
 use Rattle.text.specs.declared.kinds.Tail.{Tail}
 use Rattle.text.specs.declared.kinds.Tail.the-variants.{Clear}
@@ -30,12 +29,10 @@ use Rattle.surface.specs.Shows.{isMissing}
 use Rattle.surface.proofs.RoundTripFields.{is-missing}
 use Rattle.surface.specs.Judge.{judgeIndicators, judgeWind, windFits, fallFits}
 use Rattle.surface.proofs.RoundTripHead.{wind-fine, indicators-again, indicators-classed, wind-again, wind-classed}
-use Rattle.synop_section.specs.declared.kinds.Reading.{Reading}
-use Rattle.text.specs.declared.kinds.Written.the-variants as answer
 use Rattle.synop_row.specs.Row.{needsOf, row}
 use Rattle.synop_section.specs.Answer.{section, begun, accepted}
 use Rattle.synop.specs.Read.{posts, walk, fromFirst, readOf}
-use Rattle.synop.specs.Write.{noSign, noPosition, noSurface, foreignBlank, judgeSite, judgeSection, judgeSurface, judgeOf, siteGroups, surfaceGroups, groupsOf, canonicalOf, classedOf, writtenOf, bufferOf}
+use Rattle.synop.specs.Write.{noSign, noPosition, noSurface, foreignBlank, judgeSite, judgeSection, judgeSurface, judgeOf, siteGroups, surfaceGroups, groupsOf, canonicalOf, classedOf}
 use Rattle.synop_laws.proofs.Blanks.{sign-blank, position-blank, surface-blank}
 use Rattle.synop_laws.proofs.Sections.{classedSurface, section-back, section-fall, section-sizes, section-again, section-classed}
 use Rattle.synop_laws.proofs.Heads.{shown, putPosts, walk-stood, sitePosts, surfacePosts, posts-are, site-stood, surface-stood, site-sizes, surface-sizes}
@@ -269,21 +266,3 @@ classed-fine r e = let f = fair r e in rw (foreign-classed r (f .blank), f .site
     go : (nil : Bool) → r .site .nil ≡ nil → cond (r .site .nil) judged.Fine (judgeSurface (classedSurface (r .surface))) ≡ judged.Fine
     go true n = rw n
     go false n = rw n (surface-classed (r .surface) (fair-surface (r .surface) (rw n at (fair r e .surface))))
-
--- It is read back as itself.
-pub classed-twice : (r : Synop) → length (r .site .sign .letters) ≡ 9 → judgeOf r ≡ judged.Fine → classedOf (classedOf r) ≡ classedOf r
-classed-twice r nine e =
-    let first = ap (λ (q : Reading). q .report) (read-canonical r nine e) in
-    let second = ap (λ (q : Reading). q .report) (read-canonical (classedOf r) (unfold classedOf in nine) (classed-fine r e)) in
-    sym second ∙ ap (λ (t : List ℕ). readOf t .report) (written-again r e) ∙ first
-
--- WRITTEN AGAIN IT HAS THE SAME ANSWER AND LEAVES THE SAME BYTES, in any buffer.
-pub buffer-again : (r : Synop) (b : List ℕ) → judgeOf r ≡ judged.Fine → (writtenOf (classedOf r) (length b) ≡ writtenOf r (length b)) × (bufferOf (classedOf r) b ≡ bufferOf r b)
-unfolding writtenOf bufferOf
-buffer-again r b e = (rw (classed-fine r e, e, written-again r e), rw (classed-fine r e, e, written-again r e))
-
--- A buffer with room holds the canonical text at its front, and is as it was past it.
-pub buffer-canonical : (r : Synop) (b : List ℕ) → judgeOf r ≡ judged.Fine → length (canonicalOf r) ≤ length b
-    → (writtenOf r (length b) ≡ answer.Count (length (canonicalOf r))) × (bufferOf r b ≡ splice b 0 (canonicalOf r))
-unfolding writtenOf bufferOf
-buffer-canonical r b e h = (rw (e, le-leb (length (canonicalOf r)) (length b) h), rw (e, le-leb (length (canonicalOf r)) (length b) h))

@@ -1,7 +1,7 @@
 -- What the round trip promises, in document 01's words: each exact field comes back as it was, each rounded number as the reading of its class, near
 -- its value and never above it where the scale rounds down.
 -- Assumes nothing.
-use Prim.Native.Nat.{ℕ, _+_, _-_, _*_, _/_, _%_, _≤_, _<_}
+use Prim.Native.Nat.{ℕ, _+_, _-_, _*_, _/_, _≤_, _<_}
 use native.Mathlib.Omega.{arith}
 use mathlib.Core.Path.{_≡_, refl}
 use mathlib.Core.Bool.{true, false≢true}
@@ -32,6 +32,7 @@ use Rattle.record.specs.declared.surface.Fall.the-variants as fall
 use Rattle.record.specs.declared.surface.Surface.{Surface}
 use Rattle.record.specs.declared.surface.Synop.{Synop}
 use Rattle.text.specs.declared.kinds.Judged.the-variants as judged
+use Rattle.wind.proofs.Promises.{DirectionNear, no-direction, calm, variable, degrees}
 use Rattle.surface.specs.Judge.{amountFits, fallFits, windFits}
 use Rattle.surface.specs.Classes.{classBase, classSight, classDirection, classRain, classFall}
 use Rattle.surface.proofs.RoundTripFields.{oneFigure}
@@ -97,14 +98,8 @@ pub fall-read : (f : Fall) → fallFits f ≡ true → FallRead f (classFall f)
 fall-read fall.Missing e = no-fall
 fall-read (fall.Is r t) e = fell (rain-read r (both (amountFits r) (oneFigure t) e .0))
 
--- A direction and its reading, that of its class: "on the circle, -5 to 4 degrees", so that five more is 0 to 9 round the circle.
-pub data DirectionRead : Direction → Direction → Type 0 where
-  no-direction : DirectionRead direction.Missing direction.Missing
-  calm : DirectionRead direction.Calm direction.Calm
-  variable : DirectionRead direction.Variable direction.Variable
-  degrees : {d e : ℕ} → e ≡ roundedDirection d → e < 360 → (d + 365 - e) % 360 ≤ 9 → DirectionRead (direction.Degrees d) (direction.Degrees e)
-
-pub direction-read : (d : Direction) (s : Speed) → windFits d s ≡ true → DirectionRead d (classDirection d)
+-- a direction and its reading, as a wind's of METAR
+pub direction-read : (d : Direction) (s : Speed) → windFits d s ≡ true → DirectionNear d (classDirection d)
 unfolding roundedDirection
 direction-read direction.Missing s e = no-direction
 direction-read direction.Calm s e = calm
@@ -113,7 +108,7 @@ direction-read (direction.Degrees d) speed.Missing e = absurd (false≢true e)
 direction-read (direction.Degrees d) (speed.Is s) e =
     let h = leb-true d 359 (both (leb d 359) (leb s 999) e .0) in
     let w = direction-written d h in
-    rw (w .1, direction-rounds .back d (w .0) (w .1)) (degrees {e = roundedDirection d} refl (omega arith) (direction-near d h))
+    rw (w .1, direction-rounds .back d (w .0) (w .1)) (degrees {d = d} {e = roundedDirection d} (record { class = refl; below = omega arith; near = direction-near d h }))
 
 -- ---- the record that is read back
 
@@ -124,7 +119,7 @@ pub record SurfaceRead (s q : Surface) : Type 0 where
   pub base : BaseRead (s .indicators .base) (q .indicators .base)
   pub sight : SightRead (s .indicators .sight) (q .indicators .sight)
   pub cover : q .wind .cover ≡ s .wind .cover
-  pub direction : DirectionRead (s .wind .direction) (q .wind .direction)
+  pub direction : DirectionNear (s .wind .direction) (q .wind .direction)
   pub speed : q .wind .speed ≡ s .wind .speed
   pub air : q .air ≡ s .air
   pub moisture : q .moisture ≡ s .moisture

@@ -1,18 +1,16 @@
 -- THE ROUND TRIP OF TAF, at the level of the text: the canonical text of a record that the writer accepts is read back whole, as the record with each
 -- rounded number the reading of its class; written again it is the same text.
 -- Assumes nothing.
-use Prim.Native.Nat.{ℕ, _*_, _≤_, _<_}
+use Prim.Native.Nat.{_*_, _≤_, _<_}
 use native.Mathlib.Omega.{arith}
 use native.Mathlib.Nat.{mul-le-mul-left}
-use mathlib.Core.Path.{_≡_, refl, sym, ap, _∙_}
+use mathlib.Core.Path.{_≡_, refl, ap, _∙_}
 use mathlib.Core.Bool.{Bool, true, false, _||_}
 use mathlib.Core.List.{List, [], _∷_, _++_, map}
 use lib.ListN.{length, take, drop, length-map}
-use lib.Seq.{take-at, drop-at, length-front}
+use lib.Seq.{take-at, drop-at}
 use borrow.Author.Tests.{le-leb}
-use Rattle.figures.specs.Put.{splice}
 use Rattle.text.specs.declared.kinds.Judged.the-variants as judged
-use Rattle.text.specs.declared.kinds.Written.the-variants as answer
 use Rattle.text.specs.Groups.{groupsFrom, join}
 use Rattle.text.proofs.Joins.{round-trip-bytes, join-tail, join-sound}
 use Rattle.shapes.proofs.Patterns.{neither}
@@ -22,14 +20,13 @@ use Rattle.places.proofs.Kept.{kept-sizes}
 use Rattle.record.specs.declared.aerodrome.Change.{Change}
 use Rattle.record.specs.declared.aerodrome.Taf.{Taf}
 use Rattle.taf_row.specs.declared.kinds.Part.the-variants as part
-use Rattle.taf.specs.declared.kinds.Reading.{Reading}
 use Rattle.taf_row.specs.Row.{row}
 use Rattle.taf.specs.Read.{accepted, readOf}
-use Rattle.taf.specs.Write.{judgeChanges, foreignBlank, judgeOf, showEach, groupsOf, canonicalOf, classChange, classedOf, writtenOf, bufferOf}
+use Rattle.taf.specs.Write.{judgeChanges, foreignBlank, judgeOf, showEach, groupsOf, canonicalOf, classChange, classedOf}
 use Rattle.taf_laws.proofs.Parts.{Fair, fair, fair-part, over-bare, kept-main}
 use Rattle.taf_laws.proofs.Changes.{Listed, listed, none-over, main-room, each-sizes}
 use Rattle.taf_laws.proofs.Reports.{pieces-back}
-use Rattle.taf_laws.proofs.Classes.{main-classed, written-classed, part-judged, arrays-part, each-again, each-judged, each-classed}
+use Rattle.taf_laws.proofs.Classes.{main-classed, written-classed, part-judged, each-again, each-judged}
 pub use Rattle.taf_laws.proofs.Blanks.{LegArrays, EachArrays, Arrays}
 
 -- ---- how long it is
@@ -141,33 +138,3 @@ written-again t arrays e =
 -- AND THE WRITER ACCEPTS IT.
 pub classed-fine : (t : Taf) → Arrays t → judgeOf t ≡ judged.Fine → judgeOf (classedOf t) ≡ judged.Fine
 classed-fine t arrays e = either-way t arrays e (λ q. judgeOf q ≡ judged.Fine) e (live-judged t (fair t e) (listed t arrays (fair t e)))
-
-arrays-classed : (t : Taf) → Arrays t → Arrays (classedOf t)
-unfolding row classedOf
-arrays-classed t arrays =
-    let its = take (t .changes .count) (t .changes .items) in
-    record {
-      letters = arrays .letters;
-      part = arrays-part (t .leg) (arrays .part);
-      changes = length-front (t .changes .items) (map classChange its) (t .changes .count) (length-map its classChange) ∙ arrays .changes;
-      each = each-classed (t .changes .count) (t .changes .items) (arrays .each);
-    }
-
--- It is read back as itself.
-pub classed-twice : (t : Taf) → Arrays t → judgeOf t ≡ judged.Fine → classedOf (classedOf t) ≡ classedOf t
-classed-twice t arrays e =
-    let first = ap (λ (q : Reading). q .report) (read-canonical t arrays e) in
-    let second = ap (λ (q : Reading). q .report) (read-canonical (classedOf t) (arrays-classed t arrays) (classed-fine t arrays e)) in
-    sym second ∙ ap (λ (x : List ℕ). readOf x .report) (written-again t arrays e) ∙ first
-
--- WRITTEN AGAIN IT HAS THE SAME ANSWER AND LEAVES THE SAME BYTES, in any buffer.
-pub buffer-again : (t : Taf) (b : List ℕ) → Arrays t → judgeOf t ≡ judged.Fine
-    → (writtenOf (classedOf t) (length b) ≡ writtenOf t (length b)) × (bufferOf (classedOf t) b ≡ bufferOf t b)
-unfolding writtenOf bufferOf
-buffer-again t b arrays e = (rw (classed-fine t arrays e, e, written-again t arrays e), rw (classed-fine t arrays e, e, written-again t arrays e))
-
--- A buffer with room holds the canonical text at its front, and is as it was past it.
-pub buffer-canonical : (t : Taf) (b : List ℕ) → judgeOf t ≡ judged.Fine → length (canonicalOf t) ≤ length b
-    → (writtenOf t (length b) ≡ answer.Count (length (canonicalOf t))) × (bufferOf t b ≡ splice b 0 (canonicalOf t))
-unfolding writtenOf bufferOf
-buffer-canonical t b e h = (rw (e, le-leb (length (canonicalOf t)) (length b) h), rw (e, le-leb (length (canonicalOf t)) (length b) h))

@@ -1,10 +1,8 @@
 -- The record that is read back: its parts are written as the parts were, and are judged fine as they were.
 -- Assumes nothing.
-use Prim.Native.Nat.{ℕ, zero, suc}
 use mathlib.Core.Path.{_≡_, refl, sym, ap, _∙_}
 use mathlib.Core.Bool.{Bool, true, false, cond, _||_, false≢true}
 use mathlib.Core.List.{List, [], _∷_, _++_, map}
-use lib.ListN.{take, drop, length-map}
 use Rattle.text.specs.declared.kinds.Judged.{Judged}
 use Rattle.text.specs.declared.kinds.Judged.the-variants as judged
 use Rattle.text.proofs.Judging.{and-then}
@@ -21,7 +19,7 @@ use Rattle.record.specs.declared.aerodrome.Change.{Change}
 use Rattle.record.specs.Taf.{blankLeg}
 use Rattle.elements.specs.Wind.{showWind, judgeWind, classDirection, classWind, noDirection, isBlankWind}
 use Rattle.elements.specs.Visibility.{isCavok, showVisibility, judgeVisibility, classVisibility, noView}
-use Rattle.elements.specs.Sky.{judgeSky, classLayer, classSky}
+use Rattle.elements.specs.Sky.{judgeSky, classSky}
 use Rattle.elements.proofs.Blanks.{wind-blank}
 use Rattle.elements.proofs.Classed.{cavok-classed, view-classed, cover-classed}
 use Rattle.wind.proofs.RoundTripWind.{wind-again, wind-classed}
@@ -34,7 +32,7 @@ use Rattle.taf_row.specs.Tests.{hasElement}
 use Rattle.taf.specs.Read.{changeOf}
 use Rattle.taf.specs.Write.{unlessAbsent, judgeForecast, judgePart, instantFits, isNoInstant, openingFits, partOf, legOf, judgeChange, judgeEach, showOpening, showChange, showEach, openedLeg, classChange}
 use Rattle.taf_laws.proofs.Periods.{no-end}
-use Rattle.taf_laws.proofs.Blanks.{LegArrays, EachArrays, visibility-blank}
+use Rattle.taf_laws.proofs.Blanks.{visibility-blank}
 use Rattle.taf_laws.proofs.Places.{there-judged}
 use Rattle.taf_laws.proofs.Parts.{FairPart, FairChange, fair-change}
 
@@ -139,9 +137,6 @@ module _ (w : Part) (r : Leg) (f : FairPart w r) where
   unfolding judgePart
   part-judged = rw (wind-judged w (r .wind) (f .wind), view-judged w (r .visibility) (f .visibility), forecast-classed, sky-judged, element-kept)
 
-pub arrays-part : (r : Leg) → LegArrays r → LegArrays (classPart r)
-arrays-part r a = record { weathers = a .weathers; layers = rw (length-map (r .sky .layers) classLayer) (a .layers) }
-
 -- ---- a change
 
 abbrev pub changed : Change → Change
@@ -180,12 +175,3 @@ each-again (c ∷ cs) e = let t = and-then (judgeChange c) (judgeEach cs) e in r
 pub each-judged : (cs : List Change) → judgeEach cs ≡ judged.Fine → judgeEach (map classChange cs) ≡ judged.Fine
 each-judged [] e = refl
 each-judged (c ∷ cs) e = let t = and-then (judgeChange c) (judgeEach cs) e in rw (change-judged c (fair-change c (t .0)), each-judged cs (t .1))
-
-arrays-change : (c : Change) → LegArrays (legOf c) → LegArrays (legOf (classChange c))
-unfolding classChange row
-arrays-change c a = record { weathers = a .weathers; layers = rw (length-map (c .sky .layers) classLayer) (a .layers) }
-
-pub each-classed : (n : ℕ) (cs : List Change) → EachArrays cs → EachArrays (map classChange (take n cs) ++ drop n cs)
-each-classed zero cs a = a
-each-classed (suc n) [] a = tt
-each-classed (suc n) (c ∷ cs) a = (arrays-change c (a .0), each-classed n cs (a .1))
