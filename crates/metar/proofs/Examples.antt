@@ -23,9 +23,9 @@ use Rattle.elements.specs.Visibility.{readVisibility, showVisibility, judgeVisi
 use Rattle.elements.specs.Weather.{codesOf, areCodes, signedCodes, hasWeather, hasRecent, saidWeather, readWeather, readRecent, showWeather, showRecent, showWeathers, showRecents, judgeWeather, judgeRecent, judgeWeathers}
 use Rattle.elements.specs.Wind.{windBy, readWind, readVariation, showWind, showVariation, judgeWind, judgeVariation}
 use Rattle.metar.specs.Read.{fromFirst, readOf}
-use Rattle.aerodrome.specs.Head.{stationOf, readTime, showTime, judgeStation, judgeTime}
-use Rattle.aerodrome.specs.Runway.{readRunway, showRunway, showRunways, judgeRunways}
-use Rattle.aerodrome.specs.Temperatures.{readTemperatures, readQnh, showTemperatures, showQnh, judgeTemperatures, judgeQnh}
+use Rattle.aerodrome_groups.specs.Head.{stationOf, readTime, showTime, judgeStation, judgeTime}
+use Rattle.aerodrome_groups.specs.Runway.{readRunway, showRunway, showRunways, judgeRunways}
+use Rattle.aerodrome_groups.specs.Temperatures.{readTemperatures, readQnh, showTemperatures, showQnh, judgeTemperatures, judgeQnh}
 use Rattle.metar_row.specs.Row.{row, stopWords}
 use Rattle.metar.specs.Write.{judgeHead, noBody, judgeBody, judgeOf, canonicalOf, classedOf}
 use Rattle.text.specs.Refusals.{numberOf}

@@ -17,9 +17,9 @@ use Rattle.elements.specs.Wind.{isBlankWind, noExtremes, judgeWind, judgeVariat
 use Rattle.elements.specs.Visibility.{isCavok, noView, judgeVisibility}
 use Rattle.elements.specs.Weather.{noWeathers, judgeWeather, judgeRecent, judgeWeathers}
 use Rattle.elements.specs.Sky.{noSky, judgeSky}
-use Rattle.aerodrome.specs.Head.{judgeStation, judgeTime}
-use Rattle.aerodrome.specs.Runway.{noRunways, judgeRunways}
-use Rattle.aerodrome.specs.Temperatures.{noTemperatures, judgeTemperatures, judgeQnh}
+use Rattle.aerodrome_groups.specs.Head.{judgeStation, judgeTime}
+use Rattle.aerodrome_groups.specs.Runway.{noRunways, judgeRunways}
+use Rattle.aerodrome_groups.specs.Temperatures.{noTemperatures, judgeTemperatures, judgeQnh}
 use Rattle.metar_row.specs.Row.{row}
 
 -- ---- foreign fields: a NIL report has nothing after its time

@@ -4,7 +4,7 @@ use crate::kinds::Standing;
 use crate::kinds::Stepped;
 use crate::kinds::Told;
 use crate::take;
-use aerodrome::read::station_of;
+use aerodrome_groups::read::station_of;
 use metar_row::find;
 use metar_row::go_past;
 use metar_row::is_stop_word;
@@ -20,7 +20,7 @@ ghost use Rattle.places.specs.Engine.{Good, placeAt, Stop};
 ghost use Rattle.record.specs.Metar.{setSpecial, setCorrected, setStation, setNil, setAutomatic};
 ghost use Rattle.figures.specs.Quote.{bytes};
 ghost use Rattle.shapes.specs.Pattern.{hasPattern};
-ghost use Rattle.aerodrome.specs.Head.{stationOf};
+ghost use Rattle.aerodrome_groups.specs.Head.{stationOf};
 ghost use Rattle.metar_row.specs.Row.{row};
 ghost use Rattle.metar.specs.Step.{toldOf, ToldAt, arrived, stepped, stepOf};
 

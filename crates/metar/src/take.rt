@@ -1,14 +1,14 @@
 // What each group says goes into the record, or refuses it: one function for each place of the row that has more to say than that it stands there.
 use crate::kinds::Told;
-use aerodrome::kinds::InstantRead;
-use aerodrome::kinds::QnhRead;
-use aerodrome::kinds::RunwayRead;
-use aerodrome::kinds::TemperaturesRead;
-use aerodrome::read::add_runway;
-use aerodrome::read::read_qnh;
-use aerodrome::read::read_runway;
-use aerodrome::read::read_temperatures;
-use aerodrome::read::read_time;
+use aerodrome_groups::kinds::InstantRead;
+use aerodrome_groups::kinds::QnhRead;
+use aerodrome_groups::kinds::RunwayRead;
+use aerodrome_groups::kinds::TemperaturesRead;
+use aerodrome_groups::read::add_runway;
+use aerodrome_groups::read::read_qnh;
+use aerodrome_groups::read::read_runway;
+use aerodrome_groups::read::read_temperatures;
+use aerodrome_groups::read::read_time;
 use elements::kinds::VariationRead;
 use elements::kinds::VisibilityRead;
 use elements::kinds::WeatherRead;
@@ -32,9 +32,9 @@ ghost use Rattle.elements.specs.Wind.{readWind, readVariation};
 ghost use Rattle.elements.specs.Visibility.{readVisibility, isCavok};
 ghost use Rattle.elements.specs.Weather.{readWeather, readRecent, withWeather};
 ghost use Rattle.elements.specs.Sky.{readSky};
-ghost use Rattle.aerodrome.specs.Head.{readTime};
-ghost use Rattle.aerodrome.specs.Runway.{readRunway, withRunway};
-ghost use Rattle.aerodrome.specs.Temperatures.{readTemperatures, readQnh};
+ghost use Rattle.aerodrome_groups.specs.Head.{readTime};
+ghost use Rattle.aerodrome_groups.specs.Runway.{readRunway, withRunway};
+ghost use Rattle.aerodrome_groups.specs.Temperatures.{readTemperatures, readQnh};
 ghost use Rattle.metar_row.specs.Row.{onto, besideCavok};
 ghost use Rattle.metar.specs.Step.{toldOf};
 

@@ -11,8 +11,8 @@ use Rattle.record.specs.declared.aerodrome.Temperatures.{Temperatures}
 use Rattle.record.specs.declared.aerodrome.Metar.{Metar}
 use Rattle.record.specs.Metar.{blankMetar}
 use Rattle.elements.proofs.Blanks.{number-blank, wind-blank, view-blank, extremes-blank}
-use Rattle.aerodrome.specs.Temperatures.{noTenths, noTemperatures}
-use Rattle.aerodrome.proofs.RunwaysBack.{runways-blank}
+use Rattle.aerodrome_groups.specs.Temperatures.{noTenths, noTemperatures}
+use Rattle.aerodrome_groups.proofs.RunwaysBack.{runways-blank}
 use Rattle.sky.proofs.RoundTrip.{sky-blank}
 use Rattle.weather.proofs.Lists.{weathers-blank}
 use Rattle.metar.specs.Write.{noBody}

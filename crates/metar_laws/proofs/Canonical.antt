@@ -22,8 +22,8 @@ use Rattle.wind.proofs.RoundTripWind.{wind-again, wind-classed}
 use Rattle.wind.proofs.RoundTripVariation.{variation-again, variation-classed}
 use Rattle.wind.proofs.RoundTripVisibility.{visibility-again, visibility-classed}
 use Rattle.sky.proofs.RoundTrip.{sky-again, sky-classed}
-use Rattle.aerodrome.proofs.RunwaysBack.{runways-again, runways-classed}
-use Rattle.aerodrome.proofs.TemperaturesBack.{temperatures-again, temperatures-classed, qnh-again, qnh-classed}
+use Rattle.aerodrome_groups.proofs.RunwaysBack.{runways-again, runways-classed}
+use Rattle.aerodrome_groups.proofs.TemperaturesBack.{temperatures-again, temperatures-classed, qnh-again, qnh-classed}
 use Rattle.metar_row.specs.Row.{row, stopWords}
 use Rattle.metar.specs.Read.{fromFirst, accepted, readOf}
 use Rattle.metar.specs.Write.{judgeHead, judgeBody, judgeOf, canonicalOf, classedOf}

@@ -22,13 +22,13 @@ use Rattle.record.specs.declared.aerodrome.Metar.{Metar}
 use Rattle.record.specs.Metar.{setCorrected, setNil, setAutomatic}
 use Rattle.elements.specs.Wind.{windShape, degreesText, variationShape, showWind, showVariation, judgeWind, judgeVariation}
 use Rattle.elements.specs.Visibility.{visibilityShapes, showVisibility, judgeVisibility}
-use Rattle.aerodrome.specs.Head.{stationShape, stationOf, timeShape, showTime, judgeStation, judgeTime}
-use Rattle.aerodrome.specs.Temperatures.{temperaturesShape, qnhShape, showTemperatures, showQnh, judgeTemperatures, judgeQnh}
+use Rattle.aerodrome_groups.specs.Head.{stationShape, stationOf, timeShape, showTime, judgeStation, judgeTime}
+use Rattle.aerodrome_groups.specs.Temperatures.{temperaturesShape, qnhShape, showTemperatures, showQnh, judgeTemperatures, judgeQnh}
 use Rattle.wind.proofs.RoundTripWind.{wind-shaped, wind-back}
 use Rattle.wind.proofs.RoundTripVariation.{variation-shaped, variation-back}
 use Rattle.wind.proofs.RoundTripVisibility.{visibility-shaped, visibility-back}
-use Rattle.aerodrome.proofs.HeadBack.{station-shaped, station-whole, time-shaped, time-back}
-use Rattle.aerodrome.proofs.TemperaturesBack.{temperatures-shaped, temperatures-back, qnh-shaped, qnh-back}
+use Rattle.aerodrome_groups.proofs.HeadBack.{station-shaped, station-whole, time-shaped, time-back}
+use Rattle.aerodrome_groups.proofs.TemperaturesBack.{temperatures-shaped, temperatures-back, qnh-shaped, qnh-back}
 use Rattle.metar_row.specs.Row.{wordPlace, isName, row}
 
 -- ---- the room of a group

@@ -11,7 +11,7 @@ use Rattle.record.specs.declared.aerodrome.Metar.{Metar}
 use Rattle.elements.specs.Visibility.{viewFits, judgeVisibility}
 use Rattle.wind.proofs.Promises.{DirectionNear, no-direction, wind-near, ExtremesNear, no-extremes, variation-near, ViewRead, visibility-read}
 use Rattle.sky.proofs.Promises.{SkyBack, sky-read}
-use Rattle.aerodrome.proofs.Promises.{RunwaysKept, runways-kept, TemperaturesKept, temperatures-kept, QnhKept, qnh-kept}
+use Rattle.aerodrome_groups.proofs.Promises.{RunwaysKept, runways-kept, TemperaturesKept, temperatures-kept, QnhKept, qnh-kept}
 use Rattle.metar_row.specs.Row.{row}
 use Rattle.metar.specs.Read.{readOf}
 use Rattle.metar.specs.Write.{judgeOf, canonicalOf, classedOf}

@@ -16,9 +16,9 @@ use Rattle.elements.specs.Wind.{showVariation, judgeWind, judgeVariation}
 use Rattle.elements.specs.Visibility.{isCavok, judgeVisibility}
 use Rattle.elements.specs.Weather.{showWeathers, showRecents, judgeWeather, judgeRecent, judgeWeathers}
 use Rattle.elements.specs.Sky.{showSky, judgeSky}
-use Rattle.aerodrome.specs.Head.{judgeStation, judgeTime}
-use Rattle.aerodrome.specs.Runway.{showRunways, judgeRunways}
-use Rattle.aerodrome.specs.Temperatures.{judgeTemperatures, judgeQnh}
+use Rattle.aerodrome_groups.specs.Head.{judgeStation, judgeTime}
+use Rattle.aerodrome_groups.specs.Runway.{showRunways, judgeRunways}
+use Rattle.aerodrome_groups.specs.Temperatures.{judgeTemperatures, judgeQnh}
 use Rattle.metar_row.specs.Row.{row}
 use Rattle.metar.specs.Write.{noBody, judgeHead, judgeBody, judgeOf}
 use Rattle.metar_laws.proofs.Blanks.{Arrays, Bare, bare}

@@ -4,8 +4,8 @@ use Rattle.places.proofs.ReadBack.{one-pattern, two-patterns, Covered}
 use Rattle.wind.proofs.RoundTripWind.{wind-covered}
 use Rattle.weather.proofs.Covers.{weather-covered, recent-covered}
 use Rattle.sky.proofs.Groups.{sky-covered}
-use Rattle.aerodrome.proofs.RunwayBack.{runway-covered}
-use Rattle.aerodrome.proofs.TemperaturesBack.{temperatures-covered}
+use Rattle.aerodrome_groups.proofs.RunwayBack.{runway-covered}
+use Rattle.aerodrome_groups.proofs.TemperaturesBack.{temperatures-covered}
 use Rattle.metar_row.specs.Row.{row}
 
 -- WHAT HAS THE SHAPE OF A PLACE FITS THE PATTERNS THAT COVER IT.

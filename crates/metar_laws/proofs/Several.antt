@@ -23,12 +23,12 @@ use Rattle.record.specs.Metar.{blankRunways, blankWeathers, blankSky, setRunway
 use Rattle.elements.specs.Visibility.{isCavok}
 use Rattle.elements.specs.Weather.{weatherCover, hasWeather, hasRecent, hasUnknown, phenomenaFit, isMissingWeather, readWeather, readRecent, withWeather, showWeather, showRecent, showWeathers, showRecents, judgeWeather, judgeRecent, judgeWeathers}
 use Rattle.elements.specs.Sky.{layerShape, aloneShapes, hasSky, readSky, showSky, judgeSky, classSky}
-use Rattle.aerodrome.specs.Runway.{runwayShape, readRunway, withRunway, showRunways, judgeRunways, classRunways}
+use Rattle.aerodrome_groups.specs.Runway.{runwayShape, readRunway, withRunway, showRunways, judgeRunways, classRunways}
 use Rattle.weather.proofs.Covers.{weather-covered, recent-covered}
 use Rattle.weather.proofs.RoundTrip.{weather-shaped, weather-back, weather-sized, recent-shaped, recent-back, recent-sized}
 use Rattle.weather.proofs.Lists.{addEach as addWeathers, weathers-back, weathers-all, weathers-three}
 use Rattle.sky.proofs.RoundTrip.{addEach as addSky, sky-shaped, sky-few, sky-back}
-use Rattle.aerodrome.proofs.RunwaysBack.{addEach as addRunways, runways-shaped, runways-few, runways-back}
+use Rattle.aerodrome_groups.proofs.RunwaysBack.{addEach as addRunways, runways-shaped, runways-few, runways-back}
 use Rattle.metar_row.specs.Row.{besideCavok, row}
 use Rattle.elements.proofs.Fills.{filled, filled-items}
 

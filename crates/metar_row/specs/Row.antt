@@ -17,9 +17,9 @@ use Rattle.elements.specs.Wind.{windShape, variationShape, readWind, readVariat
 use Rattle.elements.specs.Visibility.{visibilityShapes, readVisibility, isCavok, showVisibility, classVisibility}
 use Rattle.elements.specs.Weather.{weatherCover, hasWeather, hasRecent, readWeather, readRecent, withWeather, showWeathers, showRecents}
 use Rattle.elements.specs.Sky.{layerShape, aloneShapes, hasSky, readSky, showSky, classSky}
-use Rattle.aerodrome.specs.Head.{stationShape, stationOf, timeShape, readTime, showTime}
-use Rattle.aerodrome.specs.Runway.{runwayShape, readRunway, withRunway, showRunways, classRunways}
-use Rattle.aerodrome.specs.Temperatures.{temperaturesShape, qnhShape, readTemperatures, readQnh, showTemperatures, showQnh, classTemperatures, classQnh}
+use Rattle.aerodrome_groups.specs.Head.{stationShape, stationOf, timeShape, readTime, showTime}
+use Rattle.aerodrome_groups.specs.Runway.{runwayShape, readRunway, withRunway, showRunways, classRunways}
+use Rattle.aerodrome_groups.specs.Temperatures.{temperaturesShape, qnhShape, readTemperatures, readQnh, showTemperatures, showQnh, classTemperatures, classQnh}
 
 -- a place: its shape and the patterns that cover it, how many may or must stand there, whether it ends the report; how a group is read, how it is
 -- written and what it is read back as

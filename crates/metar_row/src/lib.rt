@@ -1,6 +1,6 @@
 // The tests of the row of METAR and SPECI: its words, the shapes of its places, how many groups may or must stand at each, and where a group goes.
-use aerodrome::read::has_runway;
-use aerodrome::read::has_temperatures;
+use aerodrome_groups::read::has_runway;
+use aerodrome_groups::read::has_temperatures;
 use places::kinds::Found;
 use shapes::has_pattern;
 use sky::read::has_sky;

@@ -1,10 +1,10 @@
 // What the writer judges of a METAR or SPECI before it writes anything: that a NIL report has nothing after its time, then each group in written order.
-use aerodrome::judge::judge_qnh;
-use aerodrome::judge::judge_runways;
-use aerodrome::judge::judge_station;
-use aerodrome::judge::judge_temperatures;
-use aerodrome::judge::judge_time;
-use aerodrome::judge::no_runways;
+use aerodrome_groups::judge::judge_qnh;
+use aerodrome_groups::judge::judge_runways;
+use aerodrome_groups::judge::judge_station;
+use aerodrome_groups::judge::judge_temperatures;
+use aerodrome_groups::judge::judge_time;
+use aerodrome_groups::judge::no_runways;
 use elements::blank::no_extremes;
 use elements::blank::no_view;
 use elements::blank::no_wind;
@@ -27,7 +27,7 @@ use wind::read::is_cavok;
 ghost use mathlib.Core.Path.{_≡_};
 ghost use mathlib.Core.Bool.{cond};
 ghost use Rattle.text.specs.declared.kinds.Judged.the-variants as judged;
-ghost use Rattle.aerodrome.specs.Temperatures.{noTenths, noTemperatures};
+ghost use Rattle.aerodrome_groups.specs.Temperatures.{noTenths, noTemperatures};
 ghost use Rattle.metar.specs.Write.{noBody, judgeHead, judgeBody, judgeOf};
 
 // ---- a NIL report: nothing after its time

@@ -1,10 +1,10 @@
 // A METAR or SPECI written as its canonical text, over a lent buffer: all of it, or nothing.
 use crate::judge::judge;
-use aerodrome::write::put_qnh;
-use aerodrome::write::put_runways;
-use aerodrome::write::put_station;
-use aerodrome::write::put_temperatures;
-use aerodrome::write::put_time;
+use aerodrome_groups::write::put_qnh;
+use aerodrome_groups::write::put_runways;
+use aerodrome_groups::write::put_station;
+use aerodrome_groups::write::put_temperatures;
+use aerodrome_groups::write::put_time;
 use record::aerodrome::Metar;
 use sky::write::put_sky;
 use text::kinds::Judged;

@@ -18,14 +18,14 @@ use Rattle.record.specs.declared.aerodrome.Metar.{Metar}
 use Rattle.record.specs.declared.aerodrome.Leg.{Leg}
 use Rattle.record.specs.declared.aerodrome.Change.{Change}
 use Rattle.record.specs.declared.aerodrome.Taf.{Taf}
-use Rattle.surface.specs.Judge as surface
+use Rattle.synop_groups.specs.Judge as surface
 use Rattle.elements.specs.Wind.{judgeWind, judgeVariation}
 use Rattle.elements.specs.Visibility.{judgeVisibility}
 use Rattle.elements.specs.Weather.{judgeWeather, judgeRecent, judgeEach, judgeWeathers}
 use Rattle.elements.specs.Sky.{classLayer, judgeLayers, judgeSky}
-use Rattle.aerodrome.specs.Head.{judgeStation, judgeTime}
-use Rattle.aerodrome.specs.Runway.{judgeEachRunway, judgeRunways}
-use Rattle.aerodrome.specs.Temperatures.{judgeTemperatures, judgeQnh}
+use Rattle.aerodrome_groups.specs.Head.{judgeStation, judgeTime}
+use Rattle.aerodrome_groups.specs.Runway.{judgeEachRunway, judgeRunways}
+use Rattle.aerodrome_groups.specs.Temperatures.{judgeTemperatures, judgeQnh}
 use Rattle.synop_row.specs.declared.kinds.Needs.{Needs}
 use Rattle.synop.specs.Write as synop
 use Rattle.metar.specs.Write as metar

@@ -39,7 +39,7 @@ use Rattle.record.specs.declared.values.Tenths.the-variants as tenths
 use Rattle.record.specs.declared.surface.Synop.{Synop}
 use Rattle.record.specs.declared.aerodrome.Metar.{Metar}
 use Rattle.record.specs.declared.aerodrome.Taf.{Taf}
-use Rattle.aerodrome.specs.Temperatures.{classTenths, classPressure}
+use Rattle.aerodrome_groups.specs.Temperatures.{classTenths, classPressure}
 use Rattle.synop_section.specs.declared.kinds.Reading.{Reading as SynopReading}
 use Rattle.metar.specs.declared.kinds.Reading.{Reading as MetarReading}
 use Rattle.taf.specs.declared.kinds.Reading.{Reading as TafReading}

@@ -37,14 +37,14 @@ use Rattle.record.specs.declared.aerodrome.Sky.{Sky}
 use Rattle.record.specs.declared.aerodrome.Change.{Change}
 use Rattle.record.specs.declared.aerodrome.Metar.{Metar}
 use Rattle.record.specs.declared.aerodrome.Taf.{Taf}
-use Rattle.surface.specs.Judge.{amountFits, fallFits}
-use Rattle.surface.specs.Classes.{classBase, classSight, classFall}
-use Rattle.surface.proofs.RoundTripScales.{rain-classed}
+use Rattle.synop_groups.specs.Judge.{amountFits, fallFits}
+use Rattle.synop_groups.specs.Classes.{classBase, classSight, classFall}
+use Rattle.synop_groups.proofs.RoundTripScales.{rain-classed}
 use Rattle.shapes.proofs.Patterns.{both}
 use Rattle.elements.specs.Visibility.{classView}
 use Rattle.elements.specs.Sky.{writtenHeight, classLayer, classCover, classSky}
-use Rattle.aerodrome.specs.Runway.{classRange, classRunway}
-use Rattle.aerodrome.specs.Temperatures.{classTenths, classPressure}
+use Rattle.aerodrome_groups.specs.Runway.{classRange, classRunway}
+use Rattle.aerodrome_groups.specs.Temperatures.{classTenths, classPressure}
 use Rattle.taf_row.specs.Row.{row}
 use Rattle.taf.specs.Write.{classChange}
 use Rattle.report_record.specs.declared.kinds.Kind.{Kind}

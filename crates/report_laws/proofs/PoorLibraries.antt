@@ -24,9 +24,9 @@ use Rattle.elements.specs.Wind.{showWind, showVariation}
 use Rattle.elements.specs.Visibility.{showVisibility}
 use Rattle.elements.specs.Weather.{showWeathers, showRecents}
 use Rattle.elements.specs.Sky.{showSky}
-use Rattle.aerodrome.specs.Runway.{showRunways}
-use Rattle.aerodrome.specs.Temperatures.{showTemperatures, showQnh}
-use Rattle.aerodrome.specs.Head.{showTime, judgeStation, judgeTime}
+use Rattle.aerodrome_groups.specs.Runway.{showRunways}
+use Rattle.aerodrome_groups.specs.Temperatures.{showTemperatures, showQnh}
+use Rattle.aerodrome_groups.specs.Head.{showTime, judgeStation, judgeTime}
 use Rattle.metar_row.specs.Row.{row}
 use Rattle.metar.specs.Write as metar
 use Rattle.report_record.specs.declared.kinds.Report.{Report}

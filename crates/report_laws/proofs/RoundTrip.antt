@@ -17,7 +17,7 @@ use Rattle.record.specs.declared.aerodrome.Taf.{Taf}
 use Rattle.record.specs.Blank.{blankSynop}
 use Rattle.record.specs.Metar.{blankMetar}
 use Rattle.record.specs.Taf.{blankTaf}
-use Rattle.aerodrome.specs.Temperatures.{classTenths, classPressure}
+use Rattle.aerodrome_groups.specs.Temperatures.{classTenths, classPressure}
 use Rattle.metar_row.specs.Row as observed-row
 use Rattle.taf_row.specs.Row as forecast-row
 use Rattle.synop.specs.Write as synop

@@ -15,9 +15,9 @@ use Rattle.text.specs.Text.{tailOf}
 use Rattle.places.specs.Engine.{Group, Read, Good, Bad, Outcome, Fault}
 use Rattle.record.specs.declared.surface.Position.{Position}
 use Rattle.record.specs.declared.surface.Synop.{Synop}
-use Rattle.surface.specs.declared.kinds.Said.{Said}
-use Rattle.surface.specs.declared.kinds.Said.the-variants as said
-use Rattle.surface.specs.Reads.{saidTime, saidStation, saidLatitude, saidLongitude, saidIndicators, saidWind}
+use Rattle.synop_groups.specs.declared.kinds.Said.{Said}
+use Rattle.synop_groups.specs.declared.kinds.Said.the-variants as said
+use Rattle.synop_groups.specs.Reads.{saidTime, saidStation, saidLatitude, saidLongitude, saidIndicators, saidWind}
 use Rattle.synop.specs.declared.kinds.Post.{Post as Name}
 use Rattle.synop.specs.declared.kinds.Post.the-variants as name
 use Rattle.synop.specs.declared.kinds.Stage.{Stage}

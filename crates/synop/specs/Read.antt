@@ -25,11 +25,11 @@ use Rattle.record.specs.declared.surface.Surface.{Surface}
 use Rattle.record.specs.declared.surface.Synop.{Synop}
 use Rattle.record.specs.Blank.{blankSynop}
 use Rattle.record.specs.Set.{setStation, setSign, setPosition, setTime, setNil, setSite, setSurface, setIndicators, setWind}
-use Rattle.surface.specs.declared.kinds.Said.{Said}
-use Rattle.surface.specs.declared.kinds.Said.the-variants as said
-use Rattle.surface.specs.Reads.{saidTime, saidStation, saidLatitude, saidLongitude, saidIndicators, saidWind}
-use Rattle.surface.specs.Shows.{showTime, showStation, showSign, showLatitude, showLongitude, showIndicators, showWind}
-use Rattle.surface.specs.Classes.{classIndicators, unsignedPosition, windInTwo}
+use Rattle.synop_groups.specs.declared.kinds.Said.{Said}
+use Rattle.synop_groups.specs.declared.kinds.Said.the-variants as said
+use Rattle.synop_groups.specs.Reads.{saidTime, saidStation, saidLatitude, saidLongitude, saidIndicators, saidWind}
+use Rattle.synop_groups.specs.Shows.{showTime, showStation, showSign, showLatitude, showLongitude, showIndicators, showWind}
+use Rattle.synop_groups.specs.Classes.{classIndicators, unsignedPosition, windInTwo}
 use Rattle.synop_section.specs.declared.kinds.Reading.{Reading}
 use Rattle.synop_row.specs.Row.{withSaid}
 use Rattle.synop_section.specs.Answer.{begun, section, reading, answer}

@@ -34,9 +34,9 @@ use Rattle.record.specs.declared.surface.Observed.{Observed}
 use Rattle.record.specs.declared.surface.Observed.the-variants as observed
 use Rattle.record.specs.declared.surface.Surface.{Surface}
 use Rattle.record.specs.declared.surface.Synop.{Synop}
-use Rattle.surface.specs.Shows.{isMissing, noWeather, noClouds, showTime, showStation, showSign, showLatitude, showLongitude, showIndicators, showWind}
-use Rattle.surface.specs.Judge.{judgeTime, judgeStation, judgeSign, judgePosition, judgeIndicators, judgeWind, judgeAir, judgeMoisture, judgePressure, judgeLevel, judgeTendency, judgeRainfall, judgeWeather, judgeClouds, judgeClock, noSpeed, noFall}
-use Rattle.surface.specs.Classes.{classIndicators, classWind, classRainfall}
+use Rattle.synop_groups.specs.Shows.{isMissing, noWeather, noClouds, showTime, showStation, showSign, showLatitude, showLongitude, showIndicators, showWind}
+use Rattle.synop_groups.specs.Judge.{judgeTime, judgeStation, judgeSign, judgePosition, judgeIndicators, judgeWind, judgeAir, judgeMoisture, judgePressure, judgeLevel, judgeTendency, judgeRainfall, judgeWeather, judgeClouds, judgeClock, noSpeed, noFall}
+use Rattle.synop_groups.specs.Classes.{classIndicators, classWind, classRainfall}
 use Rattle.synop_row.specs.declared.kinds.Needs.{Needs}
 use Rattle.synop_row.specs.Row.{needsOf, row}
 

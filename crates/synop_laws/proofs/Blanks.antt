@@ -31,8 +31,8 @@ use Rattle.record.specs.declared.surface.Observed.{Observed}
 use Rattle.record.specs.declared.surface.Observed.the-variants as observed
 use Rattle.record.specs.declared.surface.Surface.{Surface}
 use Rattle.record.specs.Blank.{blankSign, blankPosition, blankSurface}
-use Rattle.surface.specs.Judge.{noSpeed, noFall}
-use Rattle.surface.proofs.RoundTripFields.{is-missing}
+use Rattle.synop_groups.specs.Judge.{noSpeed, noFall}
+use Rattle.synop_groups.proofs.RoundTripFields.{is-missing}
 use Rattle.synop.specs.Write.{noTenths, noSign, noPosition, noSight, noDirection, noMoist, noHeight, noChange, noClock, noSurface}
 
 tenths-blank : (t : Signed) → noTenths t ≡ true → t ≡ signed.Missing

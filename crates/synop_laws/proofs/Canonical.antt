@@ -25,10 +25,10 @@ use Rattle.record.specs.declared.surface.Synop.{Synop}
 use Rattle.record.specs.Blank.{blankSurface}
 use Rattle.record.specs.Set.{setNil, setSurface}
 use Rattle.text.specs.declared.kinds.Judged.the-variants as judged
-use Rattle.surface.specs.Shows.{isMissing}
-use Rattle.surface.proofs.RoundTripFields.{is-missing}
-use Rattle.surface.specs.Judge.{judgeIndicators, judgeWind, windFits, fallFits}
-use Rattle.surface.proofs.RoundTripHead.{wind-fine, indicators-again, indicators-classed, wind-again, wind-classed}
+use Rattle.synop_groups.specs.Shows.{isMissing}
+use Rattle.synop_groups.proofs.RoundTripFields.{is-missing}
+use Rattle.synop_groups.specs.Judge.{judgeIndicators, judgeWind, windFits, fallFits}
+use Rattle.synop_groups.proofs.RoundTripHead.{wind-fine, indicators-again, indicators-classed, wind-again, wind-classed}
 use Rattle.synop_row.specs.Row.{needsOf, row}
 use Rattle.synop_section.specs.Answer.{section, begun, accepted}
 use Rattle.synop.specs.Read.{posts, walk, fromFirst, readOf}

@@ -15,9 +15,9 @@ use Rattle.scales.specs.Degrees.{signedReading}
 use Rattle.scales.specs.Metres.{land, sea, base, metresFigure, metresReading}
 use Rattle.scales.specs.Rounded.{rainFigure, rainReading, directionFigure, directionReading}
 use Rattle.scales.specs.Scale.{classIn, readIn}
-use Rattle.surface.specs.Judge.{judgeTime, judgeStation, judgeSign, judgePosition, judgeIndicators, judgeWind, judgeAir, judgeMoisture, judgePressure, judgeLevel, judgeTendency, judgeRainfall, judgeWeather, judgeClouds, judgeClock}
-use Rattle.surface.specs.Reads.{timeOf, saidTime, saidStation, latitudeIs, saidLatitude, positionOf, saidLongitude, indicatorsOf, saidIndicators, windBy, saidWind, speedIs, saidSpeed, airIs, saidAir, moistureIs, saidMoisture, saidPressure, levelIs, saidLevel, tendencyIs, saidTendency, saidRainfall, saidWeather, saidClouds, clockIs, saidClock}
-use Rattle.surface.specs.Shows.{showTime, showStation, showSign, showLatitude, showLongitude, showIndicators, showWind, showSpeed, showAir, showMoisture, showPressure, showLevel, showTendency, showRainfall, weatherText, showWeather, cloudsText, showClouds, showClock}
+use Rattle.synop_groups.specs.Judge.{judgeTime, judgeStation, judgeSign, judgePosition, judgeIndicators, judgeWind, judgeAir, judgeMoisture, judgePressure, judgeLevel, judgeTendency, judgeRainfall, judgeWeather, judgeClouds, judgeClock}
+use Rattle.synop_groups.specs.Reads.{timeOf, saidTime, saidStation, latitudeIs, saidLatitude, positionOf, saidLongitude, indicatorsOf, saidIndicators, windBy, saidWind, speedIs, saidSpeed, airIs, saidAir, moistureIs, saidMoisture, saidPressure, levelIs, saidLevel, tendencyIs, saidTendency, saidRainfall, saidWeather, saidClouds, clockIs, saidClock}
+use Rattle.synop_groups.specs.Shows.{showTime, showStation, showSign, showLatitude, showLongitude, showIndicators, showWind, showSpeed, showAir, showMoisture, showPressure, showLevel, showTendency, showRainfall, weatherText, showWeather, cloudsText, showClouds, showClock}
 use Rattle.synop_section.specs.Answer.{section}
 use Rattle.synop.specs.Read.{withHead, signOf, posts, walk, fromFirst, readOf}
 use Rattle.synop_row.specs.Row.{needsOf, withSaid, row, stopWords}

@@ -16,11 +16,11 @@ use Rattle.places.specs.Engine.{Group, Good, Outcome}
 use Rattle.places.proofs.ReadBack.{one-pattern, groupsOf}
 use Rattle.places.proofs.Sizes.{Sized, sized-sign, measured, sized-any, Sizes, sizes-none, sizes-cons, sizes-more}
 use Rattle.record.specs.declared.surface.Synop.{Synop}
-use Rattle.surface.specs.declared.kinds.Said.{Said}
+use Rattle.synop_groups.specs.declared.kinds.Said.{Said}
 use Rattle.text.specs.declared.kinds.Judged.the-variants as judged
-use Rattle.surface.specs.Reads.{saidTime, saidStation, saidLatitude, saidLongitude, saidIndicators, saidWind}
-use Rattle.surface.specs.Judge.{judgeTime, judgeStation, judgeSign, judgePosition, judgeIndicators, judgeWind}
-use Rattle.surface.proofs.RoundTripHead.{Stands, time-back, station-back, sign-back, latitude-back, longitude-back, indicators-back, wind-back}
+use Rattle.synop_groups.specs.Reads.{saidTime, saidStation, saidLatitude, saidLongitude, saidIndicators, saidWind}
+use Rattle.synop_groups.specs.Judge.{judgeTime, judgeStation, judgeSign, judgePosition, judgeIndicators, judgeWind}
+use Rattle.synop_groups.proofs.RoundTripHead.{Stands, time-back, station-back, sign-back, latitude-back, longitude-back, indicators-back, wind-back}
 use Rattle.synop_row.specs.Row.{withSaid}
 use Rattle.synop_section.specs.Answer.{begun}
 use Rattle.synop.specs.Read.{Post, withHead, timePost, stationPost, signOf, signPost, latitudePost, longitudePost, indicatorsPost, windPost, posts, isNil, walk}

@@ -33,10 +33,10 @@ use Rattle.record.specs.declared.surface.Surface.{Surface}
 use Rattle.record.specs.declared.surface.Synop.{Synop}
 use Rattle.text.specs.declared.kinds.Judged.the-variants as judged
 use Rattle.wind.proofs.Promises.{DirectionNear, no-direction, calm, variable, degrees}
-use Rattle.surface.specs.Judge.{amountFits, fallFits, windFits}
-use Rattle.surface.specs.Classes.{classBase, classSight, classDirection, classRain, classFall}
-use Rattle.surface.proofs.RoundTripFields.{oneFigure}
-use Rattle.surface.proofs.RoundTripScales.{direction-written, rain-classed}
+use Rattle.synop_groups.specs.Judge.{amountFits, fallFits, windFits}
+use Rattle.synop_groups.specs.Classes.{classBase, classSight, classDirection, classRain, classFall}
+use Rattle.synop_groups.proofs.RoundTripFields.{oneFigure}
+use Rattle.synop_groups.proofs.RoundTripScales.{direction-written, rain-classed}
 use Rattle.text.specs.declared.kinds.Verdict.the-variants as verdict
 use Rattle.synop.specs.Read.{readOf}
 use Rattle.synop.specs.Write.{judgeOf, canonicalOf, classedOf}

@@ -25,13 +25,13 @@ use Rattle.record.specs.declared.surface.Surface.{Surface}
 use Rattle.record.specs.declared.surface.Synop.{Synop}
 use Rattle.record.specs.Set.{setSurface}
 use Rattle.record.specs.Blank.{blankSurface}
-use Rattle.surface.specs.declared.kinds.Said.{Said}
+use Rattle.synop_groups.specs.declared.kinds.Said.{Said}
 use Rattle.text.specs.declared.kinds.Judged.the-variants as judged
-use Rattle.surface.specs.Classes.{classIndicators, classWind, classRainfall}
-use Rattle.surface.specs.Shows.{isGale, speedGroup, showSpeed}
-use Rattle.surface.specs.Judge.{fallFits, noFall, judgeWind, judgeAir, judgeMoisture, judgePressure, judgeLevel, judgeTendency, judgeRainfall, judgeWeather, judgeClouds, judgeClock}
-use Rattle.surface.specs.Classes.{speedInTwo, windInTwo}
-use Rattle.surface.proofs.RoundTrip.{Back, none, one, Each, back-shaped, meantSpeed, speed-back, air-back, moisture-back, moisture-covered, pressure-back, level-back, tendency-back, rainfall-back, weather-back, clouds-back, clock-back, rainfall-again, rainfall-classed}
+use Rattle.synop_groups.specs.Classes.{classIndicators, classWind, classRainfall}
+use Rattle.synop_groups.specs.Shows.{isGale, speedGroup, showSpeed}
+use Rattle.synop_groups.specs.Judge.{fallFits, noFall, judgeWind, judgeAir, judgeMoisture, judgePressure, judgeLevel, judgeTendency, judgeRainfall, judgeWeather, judgeClouds, judgeClock}
+use Rattle.synop_groups.specs.Classes.{speedInTwo, windInTwo}
+use Rattle.synop_groups.proofs.RoundTrip.{Back, none, one, Each, back-shaped, meantSpeed, speed-back, air-back, moisture-back, moisture-covered, pressure-back, level-back, tendency-back, rainfall-back, weather-back, clouds-back, clock-back, rainfall-again, rainfall-classed}
 use Rattle.synop_row.specs.declared.kinds.Needs.{Needs}
 use Rattle.synop_row.specs.Row.{needsOf, setSpeed, withSaid, placeFor, row, stopWords}
 use Rattle.synop_section.specs.Answer.{section}

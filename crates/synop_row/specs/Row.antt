@@ -15,11 +15,11 @@ use Rattle.record.specs.declared.values.Speed.{Speed}
 use Rattle.record.specs.declared.values.Speed.the-variants as speed
 use Rattle.record.specs.declared.surface.Surface.{Surface}
 use Rattle.record.specs.Set.{setIndicators, setWind, setAir, setMoisture, setPressure, setLevel, setTendency, setRainfall, setWeather, setClouds, setClock}
-use Rattle.surface.specs.declared.kinds.Said.{Said}
-use Rattle.surface.specs.declared.kinds.Said.the-variants as said
-use Rattle.surface.specs.Reads.{saidSpeed, saidAir, saidMoisture, saidPressure, saidLevel, saidTendency, saidRainfall, saidWeather, saidClouds, saidClock}
-use Rattle.surface.specs.Shows.{isGale, moistureSpoken, showSpeed, showAir, showMoisture, showPressure, showLevel, showTendency, showRainfall, showWeather, showClouds, showClock}
-use Rattle.surface.specs.Classes.{classRainfall}
+use Rattle.synop_groups.specs.declared.kinds.Said.{Said}
+use Rattle.synop_groups.specs.declared.kinds.Said.the-variants as said
+use Rattle.synop_groups.specs.Reads.{saidSpeed, saidAir, saidMoisture, saidPressure, saidLevel, saidTendency, saidRainfall, saidWeather, saidClouds, saidClock}
+use Rattle.synop_groups.specs.Shows.{isGale, moistureSpoken, showSpeed, showAir, showMoisture, showPressure, showLevel, showTendency, showRainfall, showWeather, showClouds, showClock}
+use Rattle.synop_groups.specs.Classes.{classRainfall}
 use Rattle.synop_row.specs.declared.kinds.Needs.{Needs}
 
 -- What iR, ix and ff say of the groups to come: "iR 0 or 1 requires the 6 group, ix 1, 4 or 7 the 7 group (absent: 8); other figures forbid it"; "ff 99

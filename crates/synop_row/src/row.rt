@@ -9,7 +9,7 @@ ghost use mathlib.Core.Path.{_≡_};
 ghost use Rattle.shapes.specs.Pattern.{hasAny};
 ghost use Rattle.places.specs.Seek.{findOf};
 ghost use Rattle.places.specs.Engine.{standsOf, mustsOf};
-ghost use Rattle.surface.specs.Shows.{isGale};
+ghost use Rattle.synop_groups.specs.Shows.{isGale};
 ghost use Rattle.synop_row.specs.Row.{rainDue, weatherDue, figureIs, needsOf, row, stopWords, shapesOf};
 
 // iR 0 or 1 requires the 6 group.

@@ -25,8 +25,8 @@ use Rattle.places.proofs.Going.{closes, step-word, step-by, going, going-over, 
 use Rattle.places.proofs.kinds.Found as found
 use Rattle.record.specs.declared.surface.Surface.{Surface}
 use Rattle.record.specs.declared.surface.Synop.{Synop}
-use Rattle.surface.specs.declared.kinds.Said.{Said}
-use Rattle.surface.specs.declared.kinds.Said.the-variants as said
+use Rattle.synop_groups.specs.declared.kinds.Said.{Said}
+use Rattle.synop_groups.specs.declared.kinds.Said.the-variants as said
 use Rattle.synop_row.specs.declared.kinds.Needs.{Needs}
 use Rattle.synop_row.specs.Row.{withSaid, row, stopWords}
 use Rattle.synop_row.proofs.Tests.{row-length}

@@ -4,7 +4,7 @@ use Prim.Native.Nat.{ℕ}
 use mathlib.Core.Path.{_≡_}
 use Rattle.places.specs.Engine.{Group, Read, Good, Bad, placeAt, Step, On, Halt, Stop, step}
 use Rattle.record.specs.declared.surface.Surface.{Surface}
-use Rattle.surface.specs.declared.kinds.Said.{Said}
+use Rattle.synop_groups.specs.declared.kinds.Said.{Said}
 use Rattle.synop_row.specs.declared.kinds.Needs.{Needs}
 use Rattle.synop_row.specs.Row.{withSaid, row, stopWords}
 use Rattle.synop_section.specs.declared.kinds.Next.the-variants as next

@@ -23,7 +23,7 @@ use Rattle.elements.specs.Visibility.{readVisibility, showVisibility, judgeVisi
 use Rattle.elements.specs.Weather.{codesOf, areCodes, signedCodes, hasWeather, hasRecent, saidWeather, readWeather, readRecent, showWeather, showRecent, showWeathers, judgeWeather, judgeRecent, judgeWeathers}
 use Rattle.elements.specs.Wind.{windBy, readWind, readVariation, showWind, showVariation, judgeWind, judgeVariation}
 use Rattle.taf.specs.Read.{openedBy, withPart, bodyOf, fromFirst, readOf}
-use Rattle.aerodrome.specs.Head.{stationOf, readTime, showTime, judgeStation, judgeTime}
+use Rattle.aerodrome_groups.specs.Head.{stationOf, readTime, showTime, judgeStation, judgeTime}
 use Rattle.taf_row.specs.Row.{readPeriod, showPeriod, readForecast, row, changeWords}
 use Rattle.taf.specs.Write.{judgePart, judgeChange, noPart, judgeChanges, foreignBlank, judgeOf, showChange, groupsOf, canonicalOf, classChange, classedOf}
 use Rattle.text.specs.Refusals.{numberOf}

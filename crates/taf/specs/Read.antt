@@ -24,7 +24,7 @@ use Rattle.record.specs.declared.aerodrome.Changes.{Changes}
 use Rattle.record.specs.declared.aerodrome.Taf.{Taf}
 use Rattle.record.specs.Taf.{blankInstant, blankLeg, blankTaf, setPeriod}
 use Rattle.elements.specs.Parts.{figured, provided}
-use Rattle.aerodrome.specs.Head.{isDay, isHour, isMinute}
+use Rattle.aerodrome_groups.specs.Head.{isDay, isHour, isMinute}
 use Rattle.taf_row.specs.declared.kinds.Part.{Part}
 use Rattle.taf_row.specs.declared.kinds.Part.the-variants as part
 use Rattle.taf.specs.declared.kinds.Going.{Going}

@@ -28,7 +28,7 @@ use Rattle.elements.specs.Wind.{judgeWind, isBlankWind}
 use Rattle.elements.specs.Visibility.{isCavok, judgeVisibility, noView}
 use Rattle.elements.specs.Weather.{judgeWeather, threeFit, judgeWeathers, noWeathers}
 use Rattle.elements.specs.Sky.{judgeSky, noSky}
-use Rattle.aerodrome.specs.Head.{fieldOf, present, isDay, isHour, isMinute, judgeStation, judgeTime}
+use Rattle.aerodrome_groups.specs.Head.{fieldOf, present, isDay, isHour, isMinute, judgeStation, judgeTime}
 use Rattle.taf_row.specs.declared.kinds.Part.{Part}
 use Rattle.taf_row.specs.declared.kinds.Part.the-variants as part
 use Rattle.taf_row.specs.Row.{isMain, isWhole, isEndHour, row}

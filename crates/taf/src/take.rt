@@ -1,9 +1,9 @@
 // What each group says goes into its part of the report, or refuses it: one function for each place of the row.
 use crate::kinds::PeriodRead;
 use crate::kinds::Told;
-use aerodrome::kinds::InstantRead;
-use aerodrome::read::read_time;
-use aerodrome::read::station_of;
+use aerodrome_groups::kinds::InstantRead;
+use aerodrome_groups::read::read_time;
+use aerodrome_groups::read::station_of;
 use elements::kinds::VisibilityRead;
 use elements::kinds::WeatherRead;
 use elements::kinds::WindRead;
@@ -33,7 +33,7 @@ ghost use Rattle.elements.specs.Wind.{readWind};
 ghost use Rattle.elements.specs.Visibility.{readVisibility, isCavok};
 ghost use Rattle.elements.specs.Weather.{readWeather, withWeather};
 ghost use Rattle.elements.specs.Sky.{readSky};
-ghost use Rattle.aerodrome.specs.Head.{stationOf, readTime};
+ghost use Rattle.aerodrome_groups.specs.Head.{stationOf, readTime};
 ghost use Rattle.taf_row.specs.Row.{onto, correctionOf, hourOf, readPeriod, besideOthers, nswStands, readForecast};
 ghost use Rattle.taf.specs.Step.{asPeriod, toldOf};
 

@@ -25,7 +25,7 @@ use Rattle.elements.specs.Visibility.{isCavok, judgeVisibility, noView}
 use Rattle.elements.specs.Weather.{showWeathers}
 use Rattle.elements.specs.Sky.{showSky, judgeSky}
 use Rattle.elements.proofs.Classed.{cavok-classed, view-classed, cover-classed}
-use Rattle.aerodrome.specs.Head.{judgeStation, judgeTime}
+use Rattle.aerodrome_groups.specs.Head.{judgeStation, judgeTime}
 use Rattle.taf_row.specs.declared.kinds.Part.{Part}
 use Rattle.taf_row.specs.declared.kinds.Part.the-variants as part
 use Rattle.taf_row.specs.Row.{isMain, row}

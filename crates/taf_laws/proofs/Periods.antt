@@ -22,7 +22,7 @@ use Rattle.record.specs.declared.aerodrome.Instant.{Instant}
 use Rattle.record.specs.declared.aerodrome.Period.{Period}
 use Rattle.record.specs.declared.aerodrome.Opening.the-variants as opening
 use Rattle.record.specs.Taf.{blankInstant, blankLeg, setPeriod}
-use Rattle.aerodrome.specs.Head.{present, isDay, isHour, isMinute}
+use Rattle.aerodrome_groups.specs.Head.{present, isDay, isHour, isMinute}
 use Rattle.elements.specs.Judge.{isMissing}
 use Rattle.elements.proofs.Blanks.{number-blank}
 use Rattle.taf_row.specs.declared.kinds.Part.the-variants as part

@@ -36,7 +36,7 @@ use Rattle.elements.specs.Visibility.{visibilityShapes, isCavok, showVisibility
 use Rattle.elements.specs.Weather.{codesOf, weatherCover, weatherSpoken, hasWeather, hasUnknown, phenomenaFit, isMissingWeather, readWeather, withWeather, showWeather, showWeathers, judgeWeather, threeFit, judgeWeathers}
 use Rattle.elements.specs.Sky.{layerShape, aloneShapes, hasSky, readSky, showSky, judgeSky, classSky}
 use Rattle.elements.proofs.Fills.{filled, filled-items}
-use Rattle.aerodrome.specs.Head.{stationShape, stationOf, timeShape, showTime, judgeStation, judgeTime}
+use Rattle.aerodrome_groups.specs.Head.{stationShape, stationOf, timeShape, showTime, judgeStation, judgeTime}
 use Rattle.wind.proofs.RoundTripWind.{wind-shaped, wind-back}
 use Rattle.wind.proofs.RoundTripVisibility.{visibility-shaped, visibility-back}
 use Rattle.weather.proofs.Covers.{weather-covered}
@@ -44,7 +44,7 @@ use Rattle.weather.proofs.RoundTrip.{weather-shaped, weather-back, weather-size
 use Rattle.weather.proofs.Lists.{addEach as addWeathers, EachFine, weathers-each, weathers-back, weathers-all, weathers-three}
 use Rattle.weather.proofs.Spoken.{weather-spoken}
 use Rattle.sky.proofs.RoundTrip.{addEach as addSky, sky-shaped, sky-few, sky-back}
-use Rattle.aerodrome.proofs.HeadBack.{station-shaped, station-whole, time-shaped, time-back}
+use Rattle.aerodrome_groups.proofs.HeadBack.{station-shaped, station-whole, time-shaped, time-back}
 use Rattle.taf_row.specs.declared.kinds.Part.{Part}
 use Rattle.taf_row.specs.declared.kinds.Part.the-variants as part
 use Rattle.taf_row.specs.Row.{isMain, isWhole, hasPeriod, openIn, word, onto, periodShape, showPeriod, hasForecast, forecastSpoken, besideOthers, readForecast, showForecast, row}

@@ -25,7 +25,7 @@ use Rattle.elements.specs.Wind.{windShape, readWind, showWind, classWind, isBla
 use Rattle.elements.specs.Visibility.{visibilityShapes, readVisibility, isCavok, showVisibility, classVisibility, noView}
 use Rattle.elements.specs.Weather.{weatherCover, weatherSpoken, hasWeather, readWeather, withWeather, showWeathers}
 use Rattle.elements.specs.Sky.{layerShape, aloneShapes, hasSky, readSky, showSky, classSky}
-use Rattle.aerodrome.specs.Head.{stationShape, stationOf, timeShape, readTime, showTime, fieldOf, isDay, isHour}
+use Rattle.aerodrome_groups.specs.Head.{stationShape, stationOf, timeShape, readTime, showTime, fieldOf, isDay, isHour}
 use Rattle.taf_row.specs.declared.kinds.Part.{Part}
 use Rattle.taf_row.specs.declared.kinds.Part.the-variants as part
 

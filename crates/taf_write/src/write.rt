@@ -1,7 +1,7 @@
 // A TAF written as its canonical text, over a lent buffer: all of it, or nothing.
-use aerodrome::write::put_station;
-use aerodrome::write::put_time;
-use aerodrome::write::put_two;
+use aerodrome_groups::write::put_station;
+use aerodrome_groups::write::put_time;
+use aerodrome_groups::write::put_two;
 use elements::blank::no_view;
 use elements::blank::no_wind;
 use figures::put::put_byte;

@@ -3,8 +3,8 @@
 use borrow.Author.Needs.{needs}
 use mathlib.Core.Path.{sym, _∙_}
 use Rattle.record.specs.Metar.{setQnh}
-use Rattle.aerodrome.specs.Temperatures.{readQnh}
-use Rattle.aerodrome.proofs.Answers.{qnh-is}
+use Rattle.aerodrome_groups.specs.Temperatures.{readQnh}
+use Rattle.aerodrome_groups.proofs.Answers.{qnh-is}
 use Rattle.metar.proofs.Steps.{took}
 use Rattle.metar.proofs.take.take_qnh.Statement.{statement}
 use Rattle.metar.proofs.take.take_qnh.Tie as tie

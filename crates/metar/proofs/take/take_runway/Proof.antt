@@ -5,8 +5,8 @@ use mathlib.Core.Path.{sym, ap, _∙_}
 use Rattle.places.specs.Engine.{Good}
 use Rattle.record.specs.declared.aerodrome.Runways.{Runways}
 use Rattle.record.specs.Metar.{setRunways}
-use Rattle.aerodrome.specs.Runway.{readRunway, withRunway}
-use Rattle.aerodrome.proofs.Answers.{runway-is}
+use Rattle.aerodrome_groups.specs.Runway.{readRunway, withRunway}
+use Rattle.aerodrome_groups.proofs.Answers.{runway-is}
 use Rattle.metar.specs.Step.{toldOf}
 use Rattle.metar.proofs.Steps.{took}
 use Rattle.metar.proofs.take.take_runway.Statement.{statement}

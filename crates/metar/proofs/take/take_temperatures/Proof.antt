@@ -3,8 +3,8 @@
 use borrow.Author.Needs.{needs}
 use mathlib.Core.Path.{sym, _∙_}
 use Rattle.record.specs.Metar.{setTemperatures}
-use Rattle.aerodrome.specs.Temperatures.{readTemperatures}
-use Rattle.aerodrome.proofs.Answers.{temperatures-is}
+use Rattle.aerodrome_groups.specs.Temperatures.{readTemperatures}
+use Rattle.aerodrome_groups.proofs.Answers.{temperatures-is}
 use Rattle.metar.proofs.Steps.{took}
 use Rattle.metar.proofs.take.take_temperatures.Statement.{statement}
 use Rattle.metar.proofs.take.take_temperatures.Tie as tie

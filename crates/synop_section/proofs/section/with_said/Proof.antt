@@ -7,9 +7,9 @@ use mathlib.Core.List.{List, [], _∷_}
 use types.Run.{OneOf, miss}
 use denote.Enum.Declared.{tagOf}
 use Rattle.record.specs.declared.surface.Surface.{Surface}
-use Rattle.surface.specs.declared.kinds.Said.{Said}
-use Rattle.surface.specs.declared.kinds.Said.the-variants as said
-use Rattle.surface.proofs.kinds.Said as says
+use Rattle.synop_groups.specs.declared.kinds.Said.{Said}
+use Rattle.synop_groups.specs.declared.kinds.Said.the-variants as said
+use Rattle.synop_groups.proofs.kinds.Said as says
 use Rattle.synop_row.specs.Row.{withSaid}
 use Rattle.synop_section.specs.Section.{saidOnto}
 use Rattle.synop_section.proofs.section.with_said.Statement.{statement}

@@ -1,7 +1,7 @@
 -- `taf::take::read_period` meets its contract: field by field.
 -- Assumes nothing.
 use borrow.Author.Needs.{needs}
-use Rattle.aerodrome.proofs.Readings.{no-figure}
+use Rattle.aerodrome_groups.proofs.Readings.{no-figure}
 use Rattle.taf_row.specs.Row.{readPeriod}
 use Rattle.taf.specs.Step.{asPeriod}
 use Rattle.taf.proofs.take.read_period.Statement.{statement}

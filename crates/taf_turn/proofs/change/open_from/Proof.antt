@@ -2,7 +2,7 @@
 -- Assumes nothing.
 use borrow.Author.Needs.{needs}
 use mathlib.Core.Path.{_∙_}
-use Rattle.aerodrome.proofs.Readings.{no-figure}
+use Rattle.aerodrome_groups.proofs.Readings.{no-figure}
 use Rattle.taf.specs.Step.{openedAs}
 use Rattle.taf_turn.proofs.change.open_from.Statement.{statement}
 use Rattle.taf_turn.proofs.change.open_from.Tie as tie

@@ -1,0 +1,20 @@
+-- `synop_groups_judge::judge::judge_clouds` meets its contract, by what its parts are judged.
+-- Assumes nothing.
+use Rattle.synop_groups.specs.Judge.{judgeClouds}
+use Rattle.synop_groups_judge.proofs.judge.judge_clouds.Statement.{statement}
+use Rattle.synop_groups_judge.proofs.judge.judge_clouds.Tie as tie
+
+pub judge-clouds-spec : {M : Type 1} → statement M
+judge-clouds-spec =
+    tie.close
+    (tie.spec
+    (λ c κs. tt)
+    (λ c κs. tt)
+    (λ c κs. tt)
+    (λ c κs. tt)
+    (λ c κs. tt)
+    (λ c.
+    let d = c .before .before .before in
+    let e = d .before in
+    unfold judgeClouds in
+    rw (c .judge .ensures, e .optional-between .ensures, d .optional-between2 .ensures, c .before .before .optional-between3 .ensures, c .before .optional-between4 .ensures)))
