@@ -1,22 +1,14 @@
--- The row's tests say the row: the stop words, where a group goes, and how NIL ends the report.
+-- The row's tests say the row: the stop words, and how NIL ends the report.
 -- Assumes nothing.
 use Prim.Native.Nat.{ℕ}
 use mathlib.Core.Path.{_≡_, refl, sym, ap, _∙_}
 use mathlib.Core.Bool.{Bool, true, false, cond, _||_, or-false}
-use mathlib.Core.List.{List}
 use lib.Dec.{eqb}
 use Rattle.figures.specs.Quote.{bytes}
 use Rattle.shapes.specs.Pattern.{hasPattern, hasAny}
-use Rattle.places.specs.Seek.{stands, findOf}
-use Rattle.places.specs.Engine.{Group, standsOf, mustsOf, onward}
-use Rattle.places.proofs.Rows.{row-stands, ends-at}
-use Rattle.metar_row.specs.Row.{row, stopWords, shapesOf, mostsOf}
-
--- the three arrays say the row
-pub found-at : (g : Group) (c k : ℕ) {hs us : List Bool} {ms : List ℕ} → hs ≡ shapesOf g → ms ≡ mostsOf → us ≡ mustsOf row
-    → findOf (stands hs ms us) c k ≡ findOf (standsOf row g) c k
-unfolding shapesOf mostsOf
-found-at g c k p q r = rw (p, q, r, row-stands row g)
+use Rattle.places.specs.Engine.{Group, onward}
+use Rattle.places.proofs.Rows.{ends-at}
+use Rattle.metar_row.specs.Row.{row, stopWords}
 
 any-of : (a b c d e : Bool) → ((((a || b) || c) || d) || e) ≡ (a || (b || (c || (d || (e || false)))))
 any-of true b c d e = refl

@@ -4,7 +4,7 @@
 use Prim.Native.Nat.{ℕ}
 use Prim.Native.String.{String}
 use mathlib.Core.Bool.{Bool, true, false, not, _||_, cond}
-use mathlib.Core.List.{List, [], _∷_, _++_, map}
+use mathlib.Core.List.{List, [], _∷_, _++_}
 use Rattle.figures.specs.Quote.{bytes}
 use Rattle.shapes.specs.Pattern.{Pattern, hasPattern, hasAny}
 use Rattle.shapes.specs.Shape.{hasShape, partsOf, spellings}
@@ -91,12 +91,3 @@ row =
 -- "in METAR and SPECI at NOSIG, BECMG, TEMPO, WS or RMK"
 unfoldable pub stopWords : List Pattern
 stopWords = bytes "NOSIG" ∷ bytes "BECMG" ∷ bytes "TEMPO" ∷ bytes "WS" ∷ bytes "RMK" ∷ []
-
--- ---- the row's tests
-
--- which places have the group's shape, how many groups may stand at each
-unfoldable pub shapesOf : Group → List Bool
-shapesOf g = map (λ (p : Place Metar). p .has g) row
-
-unfoldable pub mostsOf : List ℕ
-mostsOf = map (λ (p : Place Metar). p .most) row

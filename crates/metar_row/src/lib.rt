@@ -1,7 +1,10 @@
 // The tests of the row of METAR and SPECI: its words, the shapes of its places, how many groups may or must stand at each, and where a group goes.
 use aerodrome_groups::read::has_runway;
 use aerodrome_groups::read::has_temperatures;
+use places::found_at;
 use places::kinds::Found;
+use places::may_answer;
+use places::most_at;
 use shapes::has_pattern;
 use sky::read::has_sky;
 use weather::read::has_recent;
@@ -10,10 +13,12 @@ use wind::read::has_variation;
 use wind::read::has_visibility;
 use wind::read::has_wind;
 ghost use mathlib.Core.Path.{_≡_};
+ghost use mathlib.Core.Bool.{_&&_};
 ghost use Rattle.shapes.specs.Pattern.{hasAny};
-ghost use Rattle.places.specs.Seek.{findOf};
-ghost use Rattle.places.specs.Engine.{standsOf, mustsOf, onward};
-ghost use Rattle.metar_row.specs.Row.{isName, row, stopWords, shapesOf, mostsOf};
+ghost use lib.ListN.{drop};
+ghost use Rattle.places.specs.Seek.{answers, fitFrom, findOf};
+ghost use Rattle.places.specs.Engine.{placeAt, standsOf, mustsOf, mostsOf, onward};
+ghost use Rattle.metar_row.specs.Row.{isName, row, stopWords};
 
 // METAR or SPECI
 pub fn is_name(g: &[u8]) -> bool
@@ -35,32 +40,33 @@ pub fn is_stop_word(g: &[u8]) -> bool
     nosig | becoming | temporary | shear | remarks
 }
 
-// Which places have the group's shape?
-fn shapes_of(g: &[u8]) -> [bool; 15]
-    ensures { λ r. ⌜ r ≡ shapesOf (now (g .entry)) ⌝ }
+// Has the group the shape of this place?
+fn has_at(place: usize, g: &[u8]) -> bool
+    ensures { λ r. ⌜ r ≡ placeAt row place .has (now (g .entry)) ⌝ }
 {
-    [
-        is_name(g),
-        has_pattern(g, b"COR"),
-        has_pattern(g, b"@@@@"),
-        has_pattern(g, b"######Z"),
-        has_pattern(g, b"NIL"),
-        has_pattern(g, b"AUTO"),
-        has_wind(g),
-        has_variation(g),
-        has_visibility(g),
-        has_runway(g),
-        has_weather(g),
-        has_sky(g),
-        has_temperatures(g),
-        has_pattern(g, b"Q####"),
-        has_recent(g),
-    ]
+    match place {
+        0 => is_name(g),
+        1 => has_pattern(g, b"COR"),
+        2 => has_pattern(g, b"@@@@"),
+        3 => has_pattern(g, b"######Z"),
+        4 => has_pattern(g, b"NIL"),
+        5 => has_pattern(g, b"AUTO"),
+        6 => has_wind(g),
+        7 => has_variation(g),
+        8 => has_visibility(g),
+        9 => has_runway(g),
+        10 => has_weather(g),
+        11 => has_sky(g),
+        12 => has_temperatures(g),
+        13 => has_pattern(g, b"Q####"),
+        14 => has_recent(g),
+        _ => false,
+    }
 }
 
 // How many groups may stand at each place?
 fn mosts() -> [u8; 15]
-    ensures { λ r. ⌜ r ≡ mostsOf ⌝ }
+    ensures { λ r. ⌜ r ≡ mostsOf row ⌝ }
 {
     [1, 1, 1, 1, 1, 1, 1, 1, 1, 4, 3, 4, 1, 1, 3]
 }
@@ -88,14 +94,49 @@ pub fn musts() -> [bool; 15]
     ]
 }
 
+// May this place, where `count` groups stand, answer for the group, and has it the group's shape? A shape is asked for only where it may.
+fn is_fit(all: bool, place: usize, count: usize, g: &[u8]) -> bool
+    ensures { λ r. ⌜ r ≡ (answers all count (placeAt row place .most) && placeAt row place .has (now (g .entry))) ⌝ }
+{
+    let most = mosts();
+    if may_answer(all, count, most_at(&most, place)) {
+        has_at(place, g)
+    } else {
+        false
+    }
+}
+
+// The first such place from `place` on.
+fn fit_from(all: bool, place: usize, count: usize, g: &[u8]) -> usize
+    ensures { λ r. ⌜ r ≡ fitFrom all place count (drop place (standsOf row (now (g .entry)))) ⌝ }
+{
+    let mut i = place;
+    let mut k = count;
+    while i < 15 {
+        if is_fit(all, i, k, g) {
+            return i;
+        }
+        i += 1;
+        k = 0;
+    }
+    i
+}
+
 // The place that the group goes to.
 pub fn find(place: usize, count: usize, g: &[u8]) -> Found
     ensures { λ r. ⌜ r ≡ findOf (standsOf row (now (g .entry))) place count ⌝ }
 {
-    let has = shapes_of(g);
-    let most = mosts();
-    let must = musts();
-    places::find_place(&has, &most, &must, place, count)
+    let fit = fit_from(false, place, count, g);
+    if fit < 15 {
+        let most = mosts();
+        let must = musts();
+        return found_at(&most, &must, place, count, fit);
+    }
+    if fit_from(true, 0, 0, g) < 15 {
+        Found::Earlier
+    } else {
+        Found::Unknown
+    }
 }
 
 // Past NIL reading is past the row.

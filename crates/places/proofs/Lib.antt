@@ -1,8 +1,12 @@
 -- What the proofs of several functions use, and the laws for other crates.
 pub mod Seek
 pub mod Rows
+pub mod Fits
 pub mod Going
 pub mod ReadBack
 pub mod Examples
 pub mod Sizes
 pub mod Kept
+pub mod Lift
+pub mod Parts
+pub mod Turns

@@ -1,15 +1,15 @@
 -- A row of places as the search sees it, and what a place that takes a group has: room for it, and its shape.
 -- Assumes nothing.
-use Prim.Native.Nat.{ℕ, zero, suc, _+_, _<_}
+use Prim.Native.Nat.{ℕ, zero, suc, _+_, _≤_, _<_}
 use native.Mathlib.Omega.{arith}
 use native.Mathlib.Numerals.{add-one}
 use mathlib.Core.Path.{_≡_, refl, sym, ap, _∙_}
 use mathlib.Core.Bool.{Bool, true, false, _&&_, _||_, not, and-eq-true-iff, false≢true}
 use mathlib.Core.List.{List, [], _∷_, _++_, map, append-assoc}
-use lib.ListN.{length, getD, take, drop, take-append-drop, length-map, List·getD-map}
+use lib.ListN.{length, getD, take, drop, take-append-drop, length-map, List·getD-map, List·getD-eq-default}
 use lib.Dec.{ltb, eqb, eqb·zero-suc, eqb·suc-zero, eqb·suc-suc}
 use borrow.Author.Tests.{ltb-true, not-true}
-use Rattle.places.specs.Seek.{Stand, stands, seek, anywhere, orEarlier, findOf}
+use Rattle.places.specs.Seek.{Stand, seek, anywhere, orEarlier, findOf}
 use Rattle.places.specs.Engine.{Group, Place, nowhere, placeAt, standing, standsOf, mustsOf, written}
 use Rattle.places.specs.declared.kinds.Found.{Found}
 use Rattle.places.specs.declared.kinds.Found.the-variants.{Take, Skips, Full, Earlier, Unknown}
@@ -43,6 +43,27 @@ module _ {A : Type 0} where
   drop-map f [] (suc i) = refl
   drop-map f (x ∷ xs) zero = refl
   drop-map f (x ∷ xs) (suc i) = drop-map f xs i
+
+-- ---- a place that is none of the first n, as the last arm of a `match` has it
+
+abbrev pub Others : ℕ → ℕ → Type 0
+Others zero i = Unit {0}
+Others (suc n) i = Others n i × (i ≡ n → ⊥)
+
+pub beyond : (n i : ℕ) → Others n i → n ≤ i
+beyond zero i e = omega arith
+beyond (suc n) i e =
+    let low = beyond n i (e .0) in
+    let other = e .1 in
+    omega arith
+
+module _ {R : Type 0} (row : List (Place R)) (g : Group) where
+  -- the shape of a place by its number, and that past the row there is none
+  pub has-at : (n : ℕ) {i : ℕ} {b : Bool} → i ≡ n → b ≡ placeAt row n .has g → b ≡ placeAt row i .has g
+  has-at n e h = rw e h
+
+  pub has-nowhere : (i : ℕ) → length row ≤ i → false ≡ placeAt row i .has g
+  has-nowhere i h = rw (List·getD-eq-default row (nowhere {R = R}) {n = i} h)
 
 -- ---- a place that takes a group
 
@@ -98,13 +119,6 @@ unfolding findOf
 find-fits ps c k j n e = seek-fits ps (drop c ps) c k false j n refl (found (anywhere ps) (seek c k false (drop c ps)) j n e)
 
 module _ {R : Type 0} where
-  -- the row's three lists, as a kind's arrays hold them, say the row
-  pub row-stands : (row : List (Place R)) (g : Group)
-      → stands (map (λ (p : Place R). p .has g) row) (map (λ (p : Place R). p .most) row) (mustsOf row) ≡ standsOf row g
-  unfolding stands
-  row-stands [] g = refl
-  row-stands (p ∷ ps) g = ap (λ (l : List Stand). standing g p ∷ l) (row-stands ps g)
-
   -- A GROUP THAT IS TAKEN GOES TO A PLACE OF THE ROW THAT HAS ROOM FOR IT AND HAS ITS SHAPE.
   pub record Open (row : List (Place R)) (g : Group) (j n : ℕ) : Type 0 where
     pub within : j < length row

@@ -24,6 +24,11 @@ pub data Read (R : Type 0) : Type 0 where
   Good : R → Read R
   Bad : Refusal → Read R
 
+-- what is read goes on, or the refusal stands
+abbrev pub then : {A B : Type 0} → Read B → (B → Read A) → Read A
+then (Good b) k = k b
+then (Bad f) k = Bad f
+
 -- A place of a report; `R` is the record.
 pub record Place (R : Type 0) : Type 0 where
   -- a group has the place's shape; and patterns of which every such group fits one
@@ -60,7 +65,7 @@ module _ {R : Type 0} where
   abbrev pub placeAt : List (Place R) → ℕ → Place R
   placeAt row i = getD row i nowhere
 
-  -- a row as it stands to a group; which of its places must have one
+  -- a row as it stands to a group; which of its places must have one, how many may stand at each
   abbrev pub standing : Group → Place R → Stand
   standing g p = record { has = p .has g; most = p .most; must = p .must }
 
@@ -69,6 +74,9 @@ module _ {R : Type 0} where
 
   abbrev pub mustsOf : List (Place R) → List Bool
   mustsOf row = map (λ (p : Place R). p .must) row
+
+  abbrev pub mostsOf : List (Place R) → List ℕ
+  mostsOf row = map (λ (p : Place R). p .most) row
 
   abbrev pub taken : ℕ → ℕ → Read R → Step R
   taken i n (Good r) = On i n r

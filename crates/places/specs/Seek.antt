@@ -1,9 +1,9 @@
 -- Where a group goes in a row of places: "every other group is taken at the first place still open whose shape it has".
 -- Assumes nothing: these are definitions.
-use Prim.Native.Nat.{ℕ, _+_}
+use Prim.Native.Nat.{ℕ, _+_, _-_}
 use mathlib.Core.Bool.{Bool, false, _&&_, _||_, cond}
 use mathlib.Core.List.{List, [], _∷_}
-use lib.ListN.{drop}
+use lib.ListN.{getD, take, drop}
 use lib.Dec.{ltb, eqb}
 use Rattle.text.specs.declared.kinds.Refusal.{Refusal}
 use Rattle.text.specs.declared.kinds.Refusal.the-variants as refusal
@@ -15,13 +15,6 @@ pub record Stand : Type 0 where
   pub has : Bool
   pub most : ℕ
   pub must : Bool
-
--- the same from three lists, as the code has them
-unfoldable pub stands : List Bool → List ℕ → List Bool → List Stand
-stands [] ms us = []
-stands (h ∷ hs) [] us = []
-stands (h ∷ hs) (m ∷ ms) [] = []
-stands (h ∷ hs) (m ∷ ms) (u ∷ us) = record { has = h; most = m; must = u } ∷ stands hs ms us
 
 -- The first place from i on, k groups standing at i, that is open and has the group's shape. A place that one group may stand at is closed by
 -- it; one where more may stand stays open, and a group too many there is over the limit. `late`: a place that must have a group was passed.
@@ -47,6 +40,17 @@ orEarlier here Unknown = cond here Earlier Unknown
 unfoldable pub findOf : List Stand → ℕ → ℕ → Found
 findOf ps c k = orEarlier (anywhere ps) (seek c k false (drop c ps))
 
+-- ---- the same in the code's steps: the first place that may answer for the group, then what it answers
+
+-- a place that may answer: a group may still stand there, or it repeats and is full; `all`: closed ones too
+abbrev pub answers : Bool → ℕ → ℕ → Bool
+answers all k most = all || (ltb k most || ltb 1 most)
+
+-- the first such place from i on, where k groups stand, that has the group's shape; the row's length where none is
+unfoldable pub fitFrom : Bool → ℕ → ℕ → List Stand → ℕ
+fitFrom all i k [] = i
+fitFrom all i k (p ∷ ps) = cond (answers all k (p .most) && p .has) i (fitFrom all (i + 1) 0 ps)
+
 -- "a required group is absent": is one left to come, where k groups stand at the first of these places
 unfoldable pub owed : ℕ → List Bool → Bool
 owed k [] = false
@@ -63,3 +67,8 @@ refusalOf Full = refusal.Limit
 refusalOf Earlier = refusal.Order
 -- "a group with no shape known in this report"
 refusalOf Unknown = refusal.Shape
+
+-- what a group comes to at place f, the first from c on that answers for it; how many may stand at each place, and which must have one
+unfoldable pub foundAt : List ℕ → List Bool → ℕ → ℕ → ℕ → Found
+foundAt ms us c k f =
+    cond (ltb (cond (eqb f c) k 0) (getD ms f 0)) (cond (owed k (take (f - c) (drop c us))) Skips (Take f (cond (eqb f c) k 0))) Full

@@ -5,72 +5,26 @@ pub mod kinds;
 use kinds::Found;
 use text::kinds::Refusal;
 ghost use mathlib.Core.Path.{_≡_};
-ghost use mathlib.Core.Bool.{false};
-ghost use lib.ListN.{drop};
-ghost use Rattle.places.specs.Seek.{stands, seek, anywhere, findOf, owed, refusalOf};
+ghost use Prim.Native.Nat.{_-_};
+ghost use mathlib.Core.Bool.{cond};
+ghost use lib.Dec.{eqb};
+ghost use lib.ListN.{getD, take, drop};
+ghost use Rattle.places.specs.Seek.{answers, foundAt, owed, refusalOf};
 
-// The first place from `place` on, `count` groups standing there, that is open and has the group's shape; Unknown where none is.
-fn seek_from(has: &[bool], most: &[u8], must: &[bool], place: usize, count: usize) -> Found
-    ensures { λ r. ⌜ r ≡ seek place count false (drop place (stands (now (has .entry)) (now (most .entry)) (now (must .entry)))) ⌝ }
+// May a place answer for a group where `count` groups stand and `most` may? One more may stand there, or it repeats and is full; `all`: in any case.
+pub fn may_answer(all: bool, count: usize, most: usize) -> bool
+    ensures { λ r. ⌜ r ≡ answers all count most ⌝ }
+{
+    all | ((count < most) | (1 < most))
+}
+
+// Is a required group left to come at a place from `place` up to `end`, where `count` groups stand at `place`?
+fn is_owed_before(must: &[bool], place: usize, count: usize, end: usize) -> bool
+    ensures { λ r. ⌜ r ≡ owed count (take (end - place) (drop place (now (must .entry)))) ⌝ }
 {
     let mut i = place;
     let mut k = count;
-    let mut late = false;
-    while (i < has.len()) & (i < most.len()) & (i < must.len()) {
-        let limit = most[i] as usize;
-        if has[i] & (k < limit) {
-            if late {
-                return Found::Skips;
-            }
-            return Found::Take { place: i, count: k };
-        }
-        if has[i] & (1 < limit) {
-            return Found::Full;
-        }
-        late = late | (must[i] & (k == 0));
-        i += 1;
-        k = 0;
-    }
-    Found::Unknown
-}
-
-// Has some place of the row the group's shape?
-fn is_anywhere(has: &[bool], most: &[u8], must: &[bool]) -> bool
-    ensures { λ r. ⌜ r ≡ anywhere (stands (now (has .entry)) (now (most .entry)) (now (must .entry))) ⌝ }
-{
-    let mut i = 0;
-    while (i < has.len()) & (i < most.len()) & (i < must.len()) {
-        if has[i] {
-            return true;
-        }
-        i += 1;
-    }
-    false
-}
-
-// Where a group goes, reading standing at `place` with `count` groups there.
-pub fn find_place(has: &[bool], most: &[u8], must: &[bool], place: usize, count: usize) -> Found
-    ensures { λ r. ⌜ r ≡ findOf (stands (now (has .entry)) (now (most .entry)) (now (must .entry))) place count ⌝ }
-{
-    let found = seek_from(has, most, must, place, count);
-    if let Found::Unknown = found {
-        if is_anywhere(has, most, must) {
-            Found::Earlier
-        } else {
-            Found::Unknown
-        }
-    } else {
-        found
-    }
-}
-
-// Is a required group left to come, from `place` on, where `count` groups stand?
-pub fn is_owed(must: &[bool], place: usize, count: usize) -> bool
-    ensures { λ r. ⌜ r ≡ owed count (drop place (now (must .entry))) ⌝ }
-{
-    let mut i = place;
-    let mut k = count;
-    while i < must.len() {
+    while (i < end) & (i < must.len()) {
         if must[i] & (k == 0) {
             return true;
         }
@@ -78,6 +32,13 @@ pub fn is_owed(must: &[bool], place: usize, count: usize) -> bool
         k = 0;
     }
     false
+}
+
+// The same up to the row's end.
+pub fn is_owed(must: &[bool], place: usize, count: usize) -> bool
+    ensures { λ r. ⌜ r ≡ owed count (drop place (now (must .entry))) ⌝ }
+{
+    is_owed_before(must, place, count, must.len())
 }
 
 // The refusal of a group that no place takes.
@@ -90,5 +51,42 @@ pub fn refusal_of(found: Found) -> Refusal
         Found::Full => Refusal::Limit,
         Found::Earlier => Refusal::Order,
         Found::Unknown => Refusal::Shape,
+    }
+}
+
+// How many groups may stand at a place; none past the row.
+pub fn most_at(most: &[u8], place: usize) -> usize
+    ensures { λ r. ⌜ r ≡ getD (now (most .entry)) place 0 ⌝ }
+{
+    if place < most.len() {
+        most[place] as usize
+    } else {
+        0
+    }
+}
+
+// How many groups stand at a later place, or at the one where reading stands, which has `count`?
+fn standing_at(later: usize, place: usize, count: usize) -> usize
+    ensures { λ r. ⌜ r ≡ cond (eqb later place) count 0 ⌝ }
+{
+    if later == place { count } else { 0 }
+}
+
+// What a group comes to at `fit`, the first place from `place` on that answers for it, `count` groups standing at `place`.
+pub fn found_at(most: &[u8], must: &[bool], place: usize, count: usize, fit: usize) -> Found
+    ensures { λ r. ⌜ r ≡ foundAt (now (most .entry)) (now (must .entry)) place count fit ⌝ }
+{
+    let standing = standing_at(fit, place, count);
+    if standing < most_at(most, fit) {
+        if is_owed_before(must, place, count, fit) {
+            Found::Skips
+        } else {
+            Found::Take {
+                place: fit,
+                count: standing,
+            }
+        }
+    } else {
+        Found::Full
     }
 }

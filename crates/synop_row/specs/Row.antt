@@ -3,12 +3,13 @@
 -- Assumes nothing: these are definitions.
 use Prim.Native.Nat.{ℕ}
 use Prim.Native.String.{String}
+use mathlib.Core.Path.{_≡_}
 use mathlib.Core.Bool.{Bool, false, not, _||_}
 use mathlib.Core.List.{List, [], _∷_}
 use lib.Dec.{eqb}
 use Rattle.figures.specs.Quote.{bytes}
 use Rattle.shapes.specs.Pattern.{Pattern, hasPattern}
-use Rattle.places.specs.Engine.{Group, Read, Good, Bad, Place}
+use Rattle.places.specs.Engine.{Group, Read, Good, Bad, Place, mostsOf}
 use Rattle.record.specs.declared.values.Number.{Number}
 use Rattle.record.specs.declared.values.Number.the-variants as number
 use Rattle.record.specs.declared.values.Speed.{Speed}
@@ -99,17 +100,6 @@ row n =
 unfoldable pub stopWords : List Pattern
 stopWords = bytes "222??" ∷ bytes "333" ∷ bytes "444" ∷ bytes "555" ∷ []
 
--- which places of the row have the group's shape
-unfoldable pub shapesOf : Group → List Bool
-shapesOf g =
-    hasPattern g (bytes "00###")
-    ∷ hasPattern g (bytes "1####")
-    ∷ hasPattern g (bytes "2####")
-    ∷ hasPattern g (bytes "3####")
-    ∷ hasPattern g (bytes "4####")
-    ∷ hasPattern g (bytes "5####")
-    ∷ hasPattern g (bytes "6####")
-    ∷ hasPattern g (bytes "7####")
-    ∷ hasPattern g (bytes "8####")
-    ∷ hasPattern g (bytes "9####")
-    ∷ []
+-- how many groups may stand at each place, whatever was read before
+abbrev pub Mosts : List ℕ → Type 0
+Mosts ms = (n : Needs) → ms ≡ mostsOf (row n)

@@ -13,7 +13,7 @@ use Rattle.text.specs.Text.{equalsAt, bytesOf, junkFrom, tailOf, trimmedEnd, tr
 use Rattle.shapes.specs.Pattern.{low, high, fits, hasPattern, hasAny, clash, clashEach, allApart}
 use Rattle.shapes.specs.Shape.{leading, split, partsOf, begins, valueOf, pickOf, scanParts, answered, scanOf, hasShape, filled, printParts, printOf, spellings, unled, unledEach, clear, printable, sound, shapesApart}
 use Rattle.places.specs.Engine.{step, run}
-use Rattle.places.specs.Seek.{stands, seek, anywhere, findOf, owed}
+use Rattle.places.specs.Seek.{seek, anywhere, findOf, owed}
 use Rattle.scales.specs.Degrees.{wholeDegrees, roundedDegrees, degreesOf, degreesReading, signedReading}
 use Rattle.scales.specs.Metres.{land, sea, base, visibility, runway, cloud, sameRange, metresFigure, metresReading, rangeFigure, rangeReading}
 use Rattle.scales.specs.Rounded.{pressureFigure, pressureReading, roundedPressure, rainFigure, rainReading, roundedRain, rainRank, directionFigure, directionReading, roundedDirection}

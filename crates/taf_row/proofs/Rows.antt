@@ -7,14 +7,13 @@ use mathlib.Core.List.{List, [], _∷_}
 use lib.ListN.{length, drop}
 use Rattle.figures.specs.Quote.{bytes}
 use Rattle.shapes.specs.Pattern.{hasPattern, hasAny}
-use Rattle.places.specs.Seek.{stands, findOf, owed}
-use Rattle.places.specs.Engine.{Group, standsOf, mustsOf}
-use Rattle.places.proofs.Rows.{row-stands}
+use Rattle.places.specs.Seek.{owed}
+use Rattle.places.specs.Engine.{Group, mustsOf, mostsOf}
 use Rattle.record.specs.declared.aerodrome.Leg.{Leg}
 use Rattle.taf_row.specs.declared.kinds.Part.{Part}
 use Rattle.taf_row.specs.declared.kinds.Part.the-variants as part
 use Rattle.taf_row.specs.Row.{isMain, isWhole, hasPeriod, row, changeWords}
-use Rattle.taf_row.specs.Tests.{Shapes, mostsOf, hasElement, lacks}
+use Rattle.taf_row.specs.Tests.{hasElement, lacks}
 
 -- ---- the row
 
@@ -33,15 +32,9 @@ pub musts-by : (w : Part) {m p a : Bool} → m ≡ isMain w → p ≡ hasPeriod 
 musts-by w m p a = rw (m, p, a) (musts-so w)
 
 pub mosts-by : (w : Part) {m p : Bool} {i j : ℕ} → m ≡ isMain w → i ≡ cond m 1 0 → p ≡ hasPeriod w → j ≡ cond p 1 0
-    → (i ∷ i ∷ i ∷ i ∷ i ∷ j ∷ i ∷ 1 ∷ 1 ∷ 3 ∷ 4 ∷ []) ≡ mostsOf w
-unfolding mostsOf row
+    → (i ∷ i ∷ i ∷ i ∷ i ∷ j ∷ i ∷ 1 ∷ 1 ∷ 3 ∷ 4 ∷ []) ≡ mostsOf (row w)
+unfolding row
 mosts-by w m i p j = rw (i, m, j, p)
-
--- the three arrays say the row
-pub found-at : (w : Part) (g : Group) (c k : ℕ) {hs us : List Bool} {ms : List ℕ} → Shapes g hs → ms ≡ mostsOf w → us ≡ mustsOf (row w)
-    → findOf (stands hs ms us) c k ≡ findOf (standsOf (row w) g) c k
-unfolding mostsOf
-found-at w g c k p q r = rw (p w, q, r, row-stands (row w) g)
 
 any-of : (a b c d : Bool) → (((a || b) || c) || d) ≡ (a || (b || (c || (d || false))))
 any-of true b c d = refl

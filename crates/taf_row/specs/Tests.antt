@@ -1,13 +1,12 @@
--- What the row's arrays in the code say, and the tests that decide at a group or at a part's end.
+-- What the row's tests in the code say, and those that decide at a group or at a part's end.
 -- Assumes nothing: these are definitions.
 use Prim.Native.Nat.{ℕ}
 use mathlib.Core.Path.{_≡_}
 use mathlib.Core.Bool.{Bool, true, false, not, _&&_, _||_}
-use mathlib.Core.List.{List, map}
 use lib.ListN.{drop}
 use lib.Dec.{leb, ltb}
 use Rattle.places.specs.Seek.{owed}
-use Rattle.places.specs.Engine.{Group, Place, mustsOf}
+use Rattle.places.specs.Engine.{Group, placeAt, mustsOf}
 use Rattle.record.specs.declared.aerodrome.Opening.{Opening}
 use Rattle.record.specs.declared.aerodrome.Opening.the-variants as opening
 use Rattle.record.specs.declared.aerodrome.Leg.{Leg}
@@ -17,14 +16,11 @@ use Rattle.elements.specs.Sky.{isLayers}
 use Rattle.taf_row.specs.declared.kinds.Part.{Part}
 use Rattle.taf_row.specs.Row.{isMain, word, row}
 
--- ---- the row's arrays
+-- ---- the row
 
--- which places of the row have the group's shape, in any part; how many groups may stand at each
-abbrev pub Shapes : Group → List Bool → Type 0
-Shapes g hs = (w : Part) → hs ≡ map (λ (p : Place Leg). p .has g) (row w)
-
-unfoldable pub mostsOf : Part → List ℕ
-mostsOf w = map (λ (p : Place Leg). p .most) (row w)
+-- whether place i has the group's shape, in any part
+abbrev pub HasAt : ℕ → Group → Bool → Type 0
+HasAt i g b = (w : Part) → b ≡ placeAt (row w) i .has g
 
 -- ---- TEMPO at once after PROB30 or PROB40
 

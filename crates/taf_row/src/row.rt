@@ -1,18 +1,22 @@
 // What a part's row has, in the code's words: which places have a group's shape, how many may and must stand, and which place a group goes to.
 use crate::kinds::Part;
+use places::found_at;
 use places::kinds::Found;
+use places::may_answer;
+use places::most_at;
 use shapes::has_pattern;
 use sky::read::has_sky;
 use weather::read::has_weather;
 use wind::read::has_visibility;
 use wind::read::has_wind;
 ghost use mathlib.Core.Path.{_≡_};
-ghost use mathlib.Core.Bool.{cond};
+ghost use mathlib.Core.Bool.{cond, _&&_};
+ghost use lib.ListN.{drop};
 ghost use Rattle.shapes.specs.Pattern.{hasAny};
-ghost use Rattle.places.specs.Seek.{findOf};
-ghost use Rattle.places.specs.Engine.{standsOf, mustsOf};
+ghost use Rattle.places.specs.Seek.{answers, fitFrom, findOf};
+ghost use Rattle.places.specs.Engine.{placeAt, standsOf, mustsOf, mostsOf};
 ghost use Rattle.taf_row.specs.Row.{isMain, isWhole, hasPeriod, isCorrection, hasForecast, row, changeWords};
-ghost use Rattle.taf_row.specs.Tests.{Shapes, mostsOf};
+ghost use Rattle.taf_row.specs.Tests.{HasAt};
 
 pub fn is_main(part: Part) -> bool
     ensures { λ r. ⌜ r ≡ isMain part ⌝ }
@@ -71,23 +75,24 @@ pub fn is_change_word(g: &[u8]) -> bool
     becoming | temporary | probable | from
 }
 
-// Which places have the group's shape? In every part the same.
-fn shapes_of(g: &[u8]) -> [bool; 11]
-    ensures { λ r. ⌜ Shapes (now (g .entry)) r ⌝ }
+// Has the group the shape of this place? In every part the same.
+fn has_at(place: usize, g: &[u8]) -> bool
+    ensures { λ r. ⌜ HasAt place (now (g .entry)) r ⌝ }
 {
-    [
-        has_pattern(g, b"TAF"),
-        is_correction(g),
-        has_pattern(g, b"@@@@"),
-        has_pattern(g, b"######Z"),
-        has_pattern(g, b"NIL"),
-        has_pattern(g, b"####/####"),
-        has_pattern(g, b"CNL"),
-        has_wind(g),
-        has_visibility(g),
-        has_forecast(g),
-        has_sky(g),
-    ]
+    match place {
+        0 => has_pattern(g, b"TAF"),
+        1 => is_correction(g),
+        2 => has_pattern(g, b"@@@@"),
+        3 => has_pattern(g, b"######Z"),
+        4 => has_pattern(g, b"NIL"),
+        5 => has_pattern(g, b"####/####"),
+        6 => has_pattern(g, b"CNL"),
+        7 => has_wind(g),
+        8 => has_visibility(g),
+        9 => has_forecast(g),
+        10 => has_sky(g),
+        _ => false,
+    }
 }
 
 // One group may stand where the place is open.
@@ -99,7 +104,7 @@ fn one_if(free: bool) -> u8
 
 // How many groups may stand at each place?
 fn mosts(part: Part) -> [u8; 11]
-    ensures { λ r. ⌜ r ≡ mostsOf part ⌝ }
+    ensures { λ r. ⌜ r ≡ mostsOf (row part) ⌝ }
 {
     let main = is_main(part);
     let head = one_if(main);
@@ -130,12 +135,47 @@ pub fn musts(part: Part) -> [bool; 11]
     ]
 }
 
+// May this place, where `count` groups stand, answer for the group, and has it the group's shape? A shape is asked for only where it may.
+fn is_fit(part: Part, all: bool, place: usize, count: usize, g: &[u8]) -> bool
+    ensures { λ r. ⌜ r ≡ (answers all count (placeAt (row part) place .most) && placeAt (row part) place .has (now (g .entry))) ⌝ }
+{
+    let most = mosts(part);
+    if may_answer(all, count, most_at(&most, place)) {
+        has_at(place, g)
+    } else {
+        false
+    }
+}
+
+// The first such place from `place` on.
+fn fit_from(part: Part, all: bool, place: usize, count: usize, g: &[u8]) -> usize
+    ensures { λ r. ⌜ r ≡ fitFrom all place count (drop place (standsOf (row part) (now (g .entry)))) ⌝ }
+{
+    let mut i = place;
+    let mut k = count;
+    while i < 11 {
+        if is_fit(part, all, i, k, g) {
+            return i;
+        }
+        i += 1;
+        k = 0;
+    }
+    i
+}
+
 // The place that the group goes to.
 pub fn find(part: Part, place: usize, count: usize, g: &[u8]) -> Found
     ensures { λ r. ⌜ r ≡ findOf (standsOf (row part) (now (g .entry))) place count ⌝ }
 {
-    let has = shapes_of(g);
-    let most = mosts(part);
-    let must = musts(part);
-    places::find_place(&has, &most, &must, place, count)
+    let fit = fit_from(part, false, place, count, g);
+    if fit < 11 {
+        let most = mosts(part);
+        let must = musts(part);
+        return found_at(&most, &must, place, count, fit);
+    }
+    if fit_from(part, true, 0, 0, g) < 11 {
+        Found::Earlier
+    } else {
+        Found::Unknown
+    }
 }

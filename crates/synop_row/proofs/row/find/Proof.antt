@@ -1,8 +1,13 @@
--- `row::find` meets its contract.
+-- `synop_row::row::find` meets its contract: by the first place that may answer for the group.
 -- Assumes nothing.
+use native.Mathlib.Omega.{arith}
 use borrow.Author.Needs.{needs}
-use mathlib.Core.Path.{_∙_}
-use Rattle.synop_row.proofs.Tests.{found-at}
+use borrow.Author.Tests.{lt-ltb, le-ltb}
+use mathlib.Core.Bool.{true, false}
+use lib.ListN.{length}
+use Rattle.places.proofs.Fits.{find-fit, find-none}
+use Rattle.synop_row.specs.Row.{row}
+use Rattle.synop_row.proofs.Tests.{row-length}
 use Rattle.synop_row.proofs.row.find.Statement.{statement}
 use Rattle.synop_row.proofs.row.find.Tie as tie
 
@@ -10,7 +15,17 @@ pub find-spec : {M : Type 1} → statement M
 find-spec =
     tie.close
     (tie.spec
-    (λ c κs. search needs) (λ c κs. search needs) (λ c. search needs) (λ c. search needs) (λ c. search needs) (λ c κs. search needs)
+    (λ c κs. search needs) (λ c κs. search needs) (λ c κs. search needs) (λ c. search needs) (λ c. search needs) (λ c κs. search needs)
     (λ c.
-    let a = c .before .before .before .before .before .before .before .args in
-    c .find-place .ensures ∙ found-at (a .needs) (a .g .now) (a .place) (a .count) (c .before .before .before .before .before .shapes-of .ensures) (c .before .before .before .before .musts-of .ensures)))
+    let a = c .before .before .before .before .before .before .before .before .args in
+    find-fit (row (a .needs)) (a .g .now) (a .place) (a .count) (c .before .before .before .before .before .before .fit-from .ensures) (rw (row-length (a .needs)) (omega arith))
+    (rw (← c .before .before .before .before .mosts .ensures (a .needs), ← c .before .before .before .musts-of .ensures) (c .found-at .ensures)))
+    (λ c κs. search needs)
+    (λ c.
+    let a = c .before .before .before .before .before .args in
+    let e = c .before .fit-from2 .result in
+    find-none (row (a .needs)) (a .g .now) (a .place) (a .count) (c .before .before .before .fit-from .ensures) e (rw (row-length (a .needs)) (omega arith)) (c .before .fit-from2 .ensures) true (lt-ltb e (length (row (a .needs))) (rw (row-length (a .needs)) (omega arith))))
+    (λ c.
+    let a = c .before .before .before .before .before .args in
+    let e = c .before .fit-from2 .result in
+    find-none (row (a .needs)) (a .g .now) (a .place) (a .count) (c .before .before .before .fit-from .ensures) e (rw (row-length (a .needs)) (omega arith)) (c .before .fit-from2 .ensures) false (le-ltb e (length (row (a .needs))) (rw (row-length (a .needs)) (omega arith)))))
