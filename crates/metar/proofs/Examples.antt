@@ -59,5 +59,5 @@ examples =
     ∷ []
 
 pub worked : map (λ (e : Example). said (readOf (e .text))) examples ≡ map (λ (e : Example). e .answer) examples
-unfolding stationOf figures scan fieldAt numberText slashes fieldText splice after signedOf lead lastEnd groupsIn groupsFrom cutAt pastParting nextOf partOf spaced parted join placed written equalsAt bytesOf junkFrom tailOf trimmedEnd trimmedOf low high fits hasPattern hasAny clash clashEach allApart leading split partsOf begins valueOf pickOf scanParts answered scanOf hasShape filled printParts printOf spellings unled unledEach clear printable sound shapesApart step run stands seek anywhere findOf owed wholeDegrees roundedDegrees degreesOf degreesReading signedReading land sea base visibility runway cloud sameRange metresFigure metresReading rangeFigure rangeReading pressureFigure pressureReading roundedPressure rainFigure rainReading roundedRain rainRank directionFigure directionReading roundedDirection classes classIn lengthIn lastIn readIn rising unlike distinct readLayer readAlone readSky showLayer showSky judgeSky readVisibility showVisibility judgeVisibility codesOf areCodes signedCodes hasWeather hasRecent saidWeather readWeather readRecent showWeather showRecent showWeathers showRecents judgeWeather judgeRecent judgeWeathers windBy readWind readVariation showWind showVariation judgeWind judgeVariation fromFirst readOf readTime readRunway readTemperatures readQnh showTime showRunway showTemperatures showQnh row stopWords showRunways judgeRunways judgeStation judgeTime judgeTemperatures judgeQnh judgeHead noBody judgeBody judgeOf canonicalOf classedOf
+unfolding stationOf figures scan fieldAt numberText slashes fieldText splice after signedOf lead lastEnd groupsIn groupsFrom cutAt pastParting nextOf partOf spaced parted join placed written equalsAt bytesOf junkFrom tailOf trimmedEnd trimmedOf low high fits hasPattern hasAny clash clashEach allApart leading split partsOf begins valueOf pickOf scanParts answered scanOf hasShape filled printParts printOf spellings unled unledEach clear printable sound shapesApart step run seek anywhere findOf owed wholeDegrees roundedDegrees degreesOf degreesReading signedReading land sea base visibility runway cloud sameRange metresFigure metresReading rangeFigure rangeReading pressureFigure pressureReading roundedPressure rainFigure rainReading roundedRain rainRank directionFigure directionReading roundedDirection classes classIn lengthIn lastIn readIn rising unlike distinct readLayer readAlone readSky showLayer showSky judgeSky readVisibility showVisibility judgeVisibility codesOf areCodes signedCodes hasWeather hasRecent saidWeather readWeather readRecent showWeather showRecent showWeathers showRecents judgeWeather judgeRecent judgeWeathers windBy readWind readVariation showWind showVariation judgeWind judgeVariation fromFirst readOf readTime readRunway readTemperatures readQnh showTime showRunway showTemperatures showQnh row stopWords showRunways judgeRunways judgeStation judgeTime judgeTemperatures judgeQnh judgeHead noBody judgeBody judgeOf canonicalOf classedOf
 worked = refl

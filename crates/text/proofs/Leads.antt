@@ -1,7 +1,7 @@
 -- How far a run of bytes reaches, and where the last byte that parts no groups ends: what the loops over a text go by.
 -- Assumes nothing.
 use mathlib.Core.Path.{_≡_, refl, sym, ap, _∙_}
-use mathlib.Core.Bool.{Bool, true, false, and-false}
+use mathlib.Core.Bool.{Bool, true, false, _&&_, and-false, and-eq-true-iff, false≢true}
 use mathlib.Core.List.{List, [], _∷_, _++_}
 use Prim.Native.Nat.{ℕ, zero, suc, _+_, _-_, _≤_, _<_}
 use native.Mathlib.Numerals.{add-one, sub-one}
@@ -9,6 +9,7 @@ use native.Mathlib.Omega.{arith}
 use lib.ListN.{length, getD, take, drop, drop-of-length-le}
 use lib.Seq.{drop-cons, take-suc, take-length, length-take-le}
 use lib.Dec.{eqb·suc-zero}
+use Rattle.figures.specs.Figures.{every}
 use Rattle.text.specs.Bytes.{parting, lead, lastEnd}
 
 -- ---- any test of a byte
@@ -52,6 +53,31 @@ module _ (P : ℕ → Bool) where
       go : (b : Bool) → P x ≡ b → (lead P xs < length xs → P (getD xs (lead P xs) 0) ≡ false) → P (getD (x ∷ xs) (lead P (x ∷ xs)) 0) ≡ false
       go true e ih = rw (lead-cons-yes x xs e) (ih (omega (arith, lead-cons-yes x xs e)))
       go false e ih = rw (lead-cons-no x xs e) e
+
+  -- ---- whether every byte passes
+
+  pub every-next : (t : List ℕ) (i : ℕ) → i < length t → every P (drop i t) ≡ (P (getD t i 0) && every P (drop (i + 1) t))
+  every-next t i h = rw (add-one i, drop-cons t i 0 h)
+
+  pub every-end : (t : List ℕ) (i : ℕ) → length t ≤ i → every P (drop i t) ≡ true
+  every-end t i h = rw (drop-of-length-le t h)
+
+  -- then they reach to the end, and else not
+  pub lead-all : (l : List ℕ) → every P l ≡ true → lead P l ≡ length l
+  unfolding lead
+  lead-all [] e = refl
+  lead-all (x ∷ xs) e =
+      let both = and-eq-true-iff (P x) (every P xs) .0 e in
+      lead-cons-yes x xs (both .0) ∙ ap suc (lead-all xs (both .1))
+
+  pub lead-some : (l : List ℕ) → every P l ≡ false → lead P l < length l
+  unfolding lead
+  lead-some [] e = absurd (false≢true (sym e))
+  lead-some (x ∷ xs) e = go (P x) refl e (lead-some xs)
+    where
+      go : (b : Bool) → P x ≡ b → (b && every P xs) ≡ false → (every P xs ≡ false → lead P xs < length xs) → lead P (x ∷ xs) < length (x ∷ xs)
+      go true p e ih = rw (p, lead) (let h = ih e in omega arith)
+      go false p e ih = rw (p, lead) (omega arith)
 
 -- ---- the end of the last byte that is no parting byte
 last-nothing : (x : ℕ) (xs : List ℕ) → parting x ≡ true → lastEnd xs ≡ 0 → lastEnd (x ∷ xs) ≡ 0

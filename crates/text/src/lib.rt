@@ -11,6 +11,7 @@ ghost use mathlib.Core.Path.{_≡_};
 ghost use mathlib.Core.List.{_∷_, []};
 ghost use Prim.Native.Nat.{_+_};
 ghost use lib.ListN.{drop};
+ghost use Rattle.figures.specs.Figures.{every};
 ghost use Rattle.text.specs.Refusals.{numberOf};
 ghost use Rattle.text.specs.Bytes.{parting, inner, allowed, passes, lead, lastEnd};
 ghost use Rattle.text.specs.Groups.{nextOf, partOf};
@@ -156,7 +157,20 @@ fn find_last_end(text: &[u8]) -> usize
     0
 }
 
-// Refusals 1 and 2 over the whole text.
+// Are all bytes of the text allowed? The loop looks at every byte and does not leave early, so that the compiler takes many bytes at a time.
+fn are_allowed(text: &[u8]) -> bool
+    ensures { λ r. ⌜ r ≡ every allowed (now (text .entry)) ⌝ }
+{
+    let mut fine = true;
+    let mut i = 0;
+    while i < text.len() {
+        fine = fine & is_allowed(text[i]);
+        i += 1;
+    }
+    fine
+}
+
+// Refusals 1 and 2 over the whole text; the place of a byte that is not allowed is looked for only where there is one.
 pub fn judge_bytes(text: &[u8]) -> Bytes
     ensures { λ r. ⌜ r ≡ bytesOf (now (text .entry)) ⌝ }
 {
@@ -166,11 +180,10 @@ pub fn judge_bytes(text: &[u8]) -> Bytes
     if 2048 < text.len() {
         return Bytes::Length;
     }
-    let bad = reach(text, 0, Run::Allowed);
-    if bad < text.len() {
-        Bytes::Byte(bad)
-    } else {
+    if are_allowed(text) {
         Bytes::Sound
+    } else {
+        Bytes::Byte(reach(text, 0, Run::Allowed))
     }
 }
 
