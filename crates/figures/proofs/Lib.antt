@@ -2,3 +2,4 @@ pub mod Puts
 pub mod Fields
 pub mod Figures
 pub mod Signs
+pub mod Every

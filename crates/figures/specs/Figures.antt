@@ -55,7 +55,7 @@ Fits w Missing = Unit {0}
 Fits w Mixed = ⊥
 Fits w Other = ⊥
 
--- every byte of a text is of a kind
-abbrev pub every : (ℕ → Bool) → List ℕ → Bool
+-- every byte of a text, or every element of a list, is of a kind
+abbrev pub every : {A : Type 0} → (A → Bool) → List A → Bool
 every kind [] = true
 every kind (b ∷ bs) = kind b && every kind bs
