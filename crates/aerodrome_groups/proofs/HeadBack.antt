@@ -23,7 +23,8 @@ use Rattle.record.specs.declared.values.Number.{Number}
 use Rattle.record.specs.declared.values.Number.the-variants as number
 use Rattle.record.specs.declared.aerodrome.Instant.{Instant}
 use Rattle.record.specs.declared.aerodrome.Station.{Station}
-use Rattle.aerodrome_groups.specs.Head.{stationShape, timeShape, isDay, isHour, isMinute, readTime, showTime, present, judgeStation, judgeTime}
+use Rattle.aerodrome_groups.specs.Head.{stationShape, timeShape, isDay, isHour, isMinute, readTime, showTime, judgeStation, judgeTime}
+use Rattle.record.specs.Missing.{present}
 
 -- ---- the station
 

@@ -14,8 +14,7 @@ use Rattle.text.specs.declared.kinds.Judged.the-variants as judged
 use Rattle.text.specs.Judge.{judge}
 use Rattle.record.specs.declared.aerodrome.Runway.{Runway}
 use Rattle.record.specs.Metar.{blankRunway}
-use Rattle.elements.specs.Judge.{isMissing}
-use Rattle.aerodrome_groups.specs.Runway.{noSide, noCourse, allBlank, judgeEachRunway}
+use Rattle.aerodrome_groups.specs.Runway.{judgeEachRunway}
 use Rattle.aerodrome_groups.proofs.RunwayBack.{runwayFits}
 
 -- the four letters of a station
@@ -28,20 +27,8 @@ four-letters (a ∷ b ∷ c ∷ []) e = absurd (omega arith)
 four-letters (a ∷ b ∷ c ∷ d ∷ []) e = rw (and-true (isLetter d)) (and-assoc (isLetter a) (isLetter b) (isLetter c && isLetter d))
 four-letters (a ∷ b ∷ c ∷ d ∷ x ∷ l) e = absurd (omega arith)
 
-abbrev isBlank : Runway → Bool
-isBlank w = isMissing (w .number) && noSide (w .side) && isMissing (w .range) && noCourse (w .course)
-
 -- one slot more, a slot at fault, and the end
 module _ (ws : List Runway) (i : ℕ) where
-  pub blank-next : i < length ws → isBlank (getD ws i blankRunway) ≡ true → allBlank (drop i ws) ≡ allBlank (drop (i + 1) ws)
-  blank-next h e = rw (add-one, drop-cons ws i blankRunway, e)
-
-  pub blank-stop : i < length ws → isBlank (getD ws i blankRunway) ≡ false → allBlank (drop i ws) ≡ false
-  blank-stop h e = rw (drop-cons ws i blankRunway, e)
-
-  pub blank-end : length ws ≤ i → allBlank (drop i ws) ≡ true
-  blank-end h = ap allBlank (drop-of-length-le ws {i = i} h)
-
   pub each-next : i < length ws → runwayFits (getD ws i blankRunway) ≡ true → judgeEachRunway (drop i ws) ≡ judgeEachRunway (drop (i + 1) ws)
   each-next h e = rw (add-one, drop-cons ws i blankRunway, e)
 

@@ -4,12 +4,12 @@ use Prim.Native.Nat.{ℕ, zero, suc, _+_, _-_, _≤_}
 use native.Mathlib.Nat.{add-zero, zero-add, suc-add}
 use native.Mathlib.Omega.{arith}
 use mathlib.Core.Path.{_≡_, refl, sym, ap, _∙_}
-use mathlib.Core.Bool.{true, _&&_, false≢true}
+use mathlib.Core.Bool.{true, _&&_}
 use mathlib.Core.List.{List, [], _∷_, _++_, map, append-assoc, map-append}
 use lib.ListN.{length, take, drop, replicate, length-append, length-take, length-drop, length-map, take-append-drop}
 use lib.Seq.{set-at, length-take-le}
-use lib.Dec.{leb, eqb}
-use borrow.Author.Tests.{leb-true, le-leb, lt-ltb, eqb-true}
+use lib.Dec.{leb}
+use borrow.Author.Tests.{leb-true, le-leb, lt-ltb}
 use Rattle.text.specs.declared.kinds.Judged.the-variants as judged
 use Rattle.text.specs.Judge.{judge}
 use Rattle.text.proofs.Judging.{fine, and-then}
@@ -17,18 +17,15 @@ use Rattle.shapes.proofs.Patterns.{both}
 use Rattle.places.specs.Engine.{Group, Read, Good}
 use Rattle.places.proofs.Rows.{drop-map}
 use Rattle.places.proofs.ReadBack.{All}
-use Rattle.record.specs.declared.values.Number.{Number}
-use Rattle.record.specs.declared.values.Number.the-variants as number
-use Rattle.record.specs.declared.aerodrome.Side.{Side}
-use Rattle.record.specs.declared.aerodrome.Side.the-variants as side
-use Rattle.record.specs.declared.aerodrome.Course.{Course}
-use Rattle.record.specs.declared.aerodrome.Course.the-variants as course
 use Rattle.record.specs.declared.aerodrome.Runway.{Runway}
 use Rattle.record.specs.declared.aerodrome.Runways.{Runways}
 use Rattle.record.specs.Metar.{blankRunway, blankRunways}
 use Rattle.elements.specs.Parts.{then}
-use Rattle.elements.specs.Judge.{isMissing}
-use Rattle.aerodrome_groups.specs.Runway.{runwayShape, readRunway, withRunway, showRunway, showRunways, noSide, noCourse, allBlank, judgeEachRunway, judgeRunways, classRunway, classRunways}
+use Rattle.record.specs.SilentAerodrome.{isBlankRunway}
+use Rattle.record.proofs.AerodromeBlanks.{runway-blank}
+use Rattle.figures.specs.Figures.{every}
+use Rattle.figures.proofs.Every.{every-is}
+use Rattle.aerodrome_groups.specs.Runway.{runwayShape, readRunway, withRunway, showRunway, showRunways, judgeEachRunway, judgeRunways, classRunway, classRunways}
 use Rattle.aerodrome_groups.proofs.Printed.{Shaped}
 use Rattle.aerodrome_groups.proofs.RunwayBack.{runwayFits, runway-shaped, runway-back, runway-again, runway-classed}
 
@@ -53,66 +50,29 @@ each-fine (w ∷ ws) f = rw (f .0) (each-fine ws (f .1))
 
 record RunwaysFit (rs : Runways) : Type 0 where
   few : rs .count ≤ 4
-  past : allBlank (drop (rs .count) (rs .items)) ≡ true
+  past : every isBlankRunway (drop (rs .count) (rs .items)) ≡ true
   each : EachFits (take (rs .count) (rs .items))
 
 runways-fit : (rs : Runways) → judgeRunways rs ≡ judged.Fine → RunwaysFit rs
 unfolding judgeRunways
 runways-fit rs e =
-    let t = and-then (judge (leb (rs .count) 4 && allBlank (drop (rs .count) (rs .items))) true) (judgeEachRunway (take (rs .count) (rs .items))) e in
-    let u = both (leb (rs .count) 4) (allBlank (drop (rs .count) (rs .items))) (fine _ true (t .0) .0) in
+    let t = and-then (judge (leb (rs .count) 4 && every isBlankRunway (drop (rs .count) (rs .items))) true) (judgeEachRunway (take (rs .count) (rs .items))) e in
+    let u = both (leb (rs .count) 4) (every isBlankRunway (drop (rs .count) (rs .items))) (fine _ true (t .0) .0) in
     record { few = leb-true (rs .count) 4 (u .0); past = u .1; each = each-fits (take (rs .count) (rs .items)) (t .1) }
 
 -- ---- blank runways
 
-missing : (n : Number) → isMissing n ≡ true → n ≡ number.Missing
-missing number.Missing e = refl
-missing (number.Is n) e = absurd (false≢true e)
-
-no-side : (s : Side) → noSide s ≡ true → s ≡ side.None
-no-side side.None e = refl
-no-side side.Left e = absurd (false≢true e)
-no-side side.Centre e = absurd (false≢true e)
-no-side side.Right e = absurd (false≢true e)
-
-no-course : (c : Course) → noCourse c ≡ true → c ≡ course.None
-no-course course.None e = refl
-no-course course.Up e = absurd (false≢true e)
-no-course course.Down e = absurd (false≢true e)
-no-course course.NoChange e = absurd (false≢true e)
-
-blank-is : (n : Number) (s : Side) (x : Number) (c : Course) → (isMissing n && noSide s && isMissing x && noCourse c) ≡ true
-    → record { number = n; side = s; range = x; course = c } ≡ blankRunway
-blank-is n s x c e =
-    let t = both (isMissing n && noSide s && isMissing x) (noCourse c) e in
-    let u = both (isMissing n && noSide s) (isMissing x) (t .0) in
-    let v = both (isMissing n) (noSide s) (u .0) in
-    rw (missing n (v .0), no-side s (v .1), missing x (u .1), no-course c (t .1))
-
-blanks : (ws : List Runway) → allBlank ws ≡ true → ws ≡ replicate (length ws) blankRunway
-blanks [] e = refl
-blanks (w ∷ ws) e =
-    let t = both (isMissing (w .number) && noSide (w .side) && isMissing (w .range) && noCourse (w .course)) (allBlank ws) e in
-    let same : w ≡ blankRunway = blank-is (w .number) (w .side) (w .range) (w .course) (t .0) in
-    rw (same, ← blanks ws (t .1))
+blanks : (ws : List Runway) → every isBlankRunway ws ≡ true → ws ≡ replicate (length ws) blankRunway
+blanks ws e = every-is isBlankRunway blankRunway runway-blank ws e
 
 -- the class of a blank runway is blank
 blanks-classed : (n : ℕ) → map classRunway (replicate n blankRunway) ≡ replicate n blankRunway
 blanks-classed zero = refl
 blanks-classed (suc n) = ap (λ (l : List Runway). blankRunway ∷ l) (blanks-classed n)
 
-blanks-blank : (n : ℕ) → allBlank (replicate n blankRunway) ≡ true
+blanks-blank : (n : ℕ) → every isBlankRunway (replicate n blankRunway) ≡ true
 blanks-blank zero = refl
 blanks-blank (suc n) = blanks-blank n
-
-pub runways-blank : (rs : Runways) → length (rs .items) ≡ 4 → (eqb (rs .count) 0 && allBlank (rs .items)) ≡ true → rs ≡ blankRunways
-runways-blank rs four e = make (rs .items) (rs .count) (blanks (rs .items) (t .1) ∙ rw four) (eqb-true (rs .count) 0 (t .0))
-  where
-    t : (eqb (rs .count) 0 ≡ true) × (allBlank (rs .items) ≡ true)
-    t = both (eqb (rs .count) 0) (allBlank (rs .items)) e
-
-    make : (ws : List Runway) (n : ℕ) → ws ≡ replicate 4 blankRunway → n ≡ 0 → record { items = ws; count = n } ≡ blankRunways
-    make ws n e z = rw (e, z)
 
 -- ---- what is written
 

@@ -7,7 +7,7 @@ use mathlib.Core.Bool.{Bool, true, false, cond, _&&_}
 use mathlib.Core.List.{[], _∷_, append-nil}
 use mathlib.Core.Logic.{⊎-elim}
 use lib.ListN.{replicate}
-use lib.Dec.{eqb}
+use lib.Dec.{leb, leb·zero, eqb}
 use lib.IntN.{ℤ, pos, negsuc, natAbs, _*ℤ_}
 use lib.Signed.{leZ}
 use borrow.Author.Tests.{leb-true, le-leb}
@@ -37,10 +37,10 @@ use Rattle.record.specs.declared.values.Tenths.{Tenths as Signed}
 use Rattle.record.specs.declared.values.Tenths.the-variants as signed
 use Rattle.record.specs.declared.aerodrome.Temperatures.{Temperatures}
 use Rattle.record.specs.declared.aerodrome.Qnh.{Qnh}
-use Rattle.elements.specs.Judge.{metresFit}
+use Rattle.record.specs.Missing.{optional}
 use Rattle.elements.specs.Parts.{mayMiss, used}
 use Rattle.elements.specs.Wind.{chosen, numbered}
-use Rattle.aerodrome_groups.specs.Temperatures.{temperaturesShape, readDegrees, readTemperatures, degreesValues, showTemperatures, tenthsFit, judgeTemperatures, classTenths, classTemperatures, qnhShape, readQnh, pressureField, showQnh, judgeQnh, classPressure, classQnh}
+use Rattle.aerodrome_groups.specs.Temperatures.{temperaturesShape, readDegrees, readTemperatures, degreesValues, showTemperatures, tenthsFit, isPressure, judgeTemperatures, classTenths, classTemperatures, qnhShape, readQnh, pressureField, showQnh, judgeQnh, classPressure, classQnh}
 use Rattle.aerodrome_groups.proofs.Printed.{SaidAt, Shaped, Printed, printed}
 
 pub temperatures-covered : (g : Group) → hasShape temperaturesShape g ≡ true → hasAny (spellings (partsOf temperaturesShape)) g ≡ true
@@ -156,14 +156,14 @@ module _ (t : Temperatures) (e : judgeTemperatures t ≡ judged.Fine) where
 
 -- ---- Q
 
-pressure-fits : (n : Number) → metresFit false n ≡ true → Fits 4 (pressureField n)
+pressure-fits : (n : Number) → optional isPressure n ≡ true → Fits 4 (pressureField n)
 pressure-fits number.Missing e = tt
-pressure-fits (number.Is p) e = omega (arith, leb-true p 99999 e)
+pressure-fits (number.Is p) e = omega (arith, leb-true p 99999 (both (leb 0 p) (leb p 99999) e .1))
 
 module _ (q : Qnh) (e : judgeQnh q ≡ judged.Fine) where
   four : Fits 4 (pressureField (q .is))
   unfolding judgeQnh
-  four = pressure-fits (q .is) (fine (metresFit false (q .is)) true e .0)
+  four = pressure-fits (q .is) (fine (optional isPressure (q .is)) true e .0)
 
   pub qnh-shaped : hasPattern (showQnh q) qnhShape ≡ true
   unfolding showQnh hasPattern fits low high
@@ -177,20 +177,20 @@ module _ (q : Qnh) (e : judgeQnh q ≡ judged.Fine) where
 
   pub qnh-back : readQnh (showQnh q) ≡ Good (classQnh q)
   unfolding readQnh judgeQnh
-  qnh-back = rw field-is (by (q .is) (fine (metresFit false (q .is)) true e .0))
+  qnh-back = rw field-is (by (q .is) (fine (optional isPressure (q .is)) true e .0))
     where
-      by : (n : Number) → metresFit false n ≡ true
+      by : (n : Number) → optional isPressure n ≡ true
           → mayMiss {A = Qnh} (pressureField n) (Good (record { is = number.Missing })) (λ n. used (pressureReading n) (λ p. Good (record { is = number.Is p }))) ≡ Good (record { is = classPressure n })
       by number.Missing h = refl
-      by (number.Is p) h = rw (← pressures.read (p / 10) (omega (arith, leb-true p 99999 h)))
+      by (number.Is p) h = rw (← pressures.read (p / 10) (omega (arith, leb-true p 99999 (both (leb 0 p) (leb p 99999) h .1))))
 
   pub qnh-classed : judgeQnh (classQnh q) ≡ judged.Fine
   unfolding judgeQnh
-  qnh-classed = rw (by (q .is) (fine (metresFit false (q .is)) true e .0))
+  qnh-classed = rw (by (q .is) (fine (optional isPressure (q .is)) true e .0))
     where
-      by : (n : Number) → metresFit false n ≡ true → metresFit false (classPressure n) ≡ true
+      by : (n : Number) → optional isPressure n ≡ true → optional isPressure (classPressure n) ≡ true
       by number.Missing h = refl
-      by (number.Is p) h = le-leb (p / 10 * 10) 99999 (omega (arith, leb-true p 99999 h))
+      by (number.Is p) h = rw (leb·zero (p / 10 * 10)) (le-leb (p / 10 * 10) 99999 (omega (arith, leb-true p 99999 (both (leb 0 p) (leb p 99999) h .1))))
 
 pub qnh-again : (q : Qnh) → showQnh (classQnh q) ≡ showQnh q
 unfolding showQnh

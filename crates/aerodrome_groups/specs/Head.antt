@@ -17,6 +17,7 @@ use Rattle.record.specs.declared.values.Number.{Number}
 use Rattle.record.specs.declared.values.Number.the-variants as number
 use Rattle.record.specs.declared.aerodrome.Instant.{Instant}
 use Rattle.record.specs.declared.aerodrome.Station.{Station}
+use Rattle.record.specs.Missing.{present}
 use Rattle.elements.specs.Parts.{figured, provided}
 
 abbrev pub stationShape : Pattern
@@ -55,10 +56,6 @@ unfoldable pub showTime : Instant → Group
 showTime t = fieldText 2 (fieldOf (t .day)) ++ fieldText 2 (fieldOf (t .hour)) ++ fieldText 2 (fieldOf (t .minute)) ++ bytes "Z"
 
 -- ---- judging: a station has four letters, and a time is there
-
-abbrev pub present : (ℕ → Bool) → Number → Bool
-present ok number.Missing = false
-present ok (number.Is n) = ok n
 
 unfoldable pub judgeStation : Station → Judged
 judgeStation s = judge (eqb (length (s .letters)) 4 && every isLetter (s .letters)) true

@@ -6,6 +6,7 @@ use mathlib.Core.List.{List, [], _∷_, map}
 use lib.ListN.{take, drop, set}
 use lib.Dec.{leb, ltb, eqb}
 use Rattle.figures.specs.Quote.{bytes}
+use Rattle.figures.specs.Figures.{every}
 use Rattle.figures.specs.declared.kinds.Field.the-variants as field
 use Rattle.text.specs.declared.kinds.Judged.{Judged}
 use Rattle.text.specs.declared.kinds.Judged.the-variants as judged
@@ -25,7 +26,9 @@ use Rattle.record.specs.declared.aerodrome.Course.{Course}
 use Rattle.record.specs.declared.aerodrome.Course.the-variants as course
 use Rattle.record.specs.declared.aerodrome.Runway.{Runway}
 use Rattle.record.specs.declared.aerodrome.Runways.{Runways}
-use Rattle.elements.specs.Judge.{isMissing, metresFit}
+use Rattle.elements.specs.Judge.{metresFit}
+use Rattle.record.specs.Missing.{between, present}
+use Rattle.record.specs.SilentAerodrome.{isBlankRunway}
 use Rattle.elements.specs.Parts.{figured, mayMiss, used, provided, then, valueAt}
 use Rattle.elements.specs.Wind.{chosen, numbered}
 use Rattle.aerodrome_groups.specs.Head.{fieldOf}
@@ -105,29 +108,8 @@ showRunways rs = map showRunway (take (rs .count) (rs .items))
 
 -- ---- judging: "a count over its limit, a slot past its count .. that is not blank", then each in turn
 
-abbrev pub noSide : Side → Bool
-noSide side.None = true
-noSide side.Left = false
-noSide side.Centre = false
-noSide side.Right = false
-
-abbrev pub noCourse : Course → Bool
-noCourse course.None = true
-noCourse course.Up = false
-noCourse course.Down = false
-noCourse course.NoChange = false
-
-abbrev pub allBlank : List Runway → Bool
-allBlank [] = true
-allBlank (w ∷ ws) = isMissing (w .number) && noSide (w .side) && isMissing (w .range) && noCourse (w .course) && allBlank ws
-
--- nothing is said of them
-abbrev pub noRunways : Runways → Bool
-noRunways rs = eqb (rs .count) 0 && allBlank (rs .items)
-
 abbrev pub isRunway : Number → Bool
-isRunway number.Missing = false
-isRunway (number.Is n) = leb 1 n && leb n 36
+isRunway = present (between 1 36)
 
 abbrev pub judgeEachRunway : List Runway → Judged
 judgeEachRunway [] = judged.Fine
@@ -135,7 +117,7 @@ judgeEachRunway (w ∷ ws) = andThen (judge (isRunway (w .number) && metresFit f
 
 unfoldable pub judgeRunways : Runways → Judged
 judgeRunways w =
-    andThen (judge (leb (w .count) 4 && allBlank (drop (w .count) (w .items))) true) (judgeEachRunway (take (w .count) (w .items)))
+    andThen (judge (leb (w .count) 4 && every isBlankRunway (drop (w .count) (w .items))) true) (judgeEachRunway (take (w .count) (w .items)))
 
 -- ---- what is read back
 

@@ -28,7 +28,7 @@ use Rattle.record.specs.declared.values.Tenths.{Tenths as Signed}
 use Rattle.record.specs.declared.values.Tenths.the-variants as signed
 use Rattle.record.specs.declared.aerodrome.Temperatures.{Temperatures}
 use Rattle.record.specs.declared.aerodrome.Qnh.{Qnh}
-use Rattle.elements.specs.Judge.{metresFit}
+use Rattle.record.specs.Missing.{between, optional}
 use Rattle.elements.specs.Parts.{wrong, mayMiss, used, provided, then, valueAt}
 use Rattle.elements.specs.Wind.{chosen, numbered}
 
@@ -92,19 +92,15 @@ abbrev pub tenthsFit : Signed → Bool
 tenthsFit signed.Missing = true
 tenthsFit (signed.Is t) = leZ (negsuc 994) t && leZ t (pos 994)
 
--- nothing is said of them
-abbrev pub noTenths : Signed → Bool
-noTenths signed.Missing = true
-noTenths (signed.Is t) = false
-
-abbrev pub noTemperatures : Temperatures → Bool
-noTemperatures t = noTenths (t .air) && noTenths (t .dew)
-
 unfoldable pub judgeTemperatures : Temperatures → Judged
 judgeTemperatures t = judge (tenthsFit (t .air) && tenthsFit (t .dew)) true
 
+-- 0.0 to 9,999.9 hPa: what four figures of whole hPa can say
+abbrev pub isPressure : ℕ → Bool
+isPressure = between 0 99999
+
 unfoldable pub judgeQnh : Qnh → Judged
-judgeQnh q = judge (metresFit false (q .is)) true
+judgeQnh q = judge (optional isPressure (q .is)) true
 
 -- ---- what is read back
 

@@ -5,8 +5,9 @@ use Rattle.record.specs.declared.aerodrome.View.{View}
 use Rattle.record.specs.declared.aerodrome.View.the-variants as view
 use Rattle.record.specs.declared.aerodrome.Cover.{Cover}
 use Rattle.record.specs.declared.aerodrome.Cover.the-variants as cover
-use Rattle.elements.specs.Visibility.{isCavok, classView, noView}
-use Rattle.elements.specs.Sky.{isLayers, classCover}
+use Rattle.elements.specs.Visibility.{isCavok, classView}
+use Rattle.record.specs.SilentAerodrome.{noView, isLayers}
+use Rattle.elements.specs.Sky.{classCover}
 
 pub cavok-classed : (v : View) → isCavok (record { is = classView v }) ≡ isCavok (record { is = v })
 cavok-classed view.Missing = refl

@@ -1,5 +1,4 @@
 pub mod Answers
 pub mod Fills
 pub mod Scanned
-pub mod Blanks
 pub mod Classed

@@ -1,13 +1,9 @@
--- What the writer judges of a number: that it is not there; and of a number of metres, "0 to 99,999 may be written", in a TAF not missing.
+-- What the writer judges of a number of metres: "0 to 99,999 may be written", in a TAF not missing.
 -- Assumes nothing: these are definitions.
-use mathlib.Core.Bool.{Bool, true, false, not}
+use mathlib.Core.Bool.{Bool, not}
 use lib.Dec.{leb}
 use Rattle.record.specs.declared.values.Number.{Number}
 use Rattle.record.specs.declared.values.Number.the-variants as number
-
-abbrev pub isMissing : Number → Bool
-isMissing number.Missing = true
-isMissing (number.Is n) = false
 
 abbrev pub metresFit : Bool → Number → Bool
 metresFit forecast number.Missing = not forecast

@@ -8,7 +8,7 @@ use lib.ListN.{length, take, drop, set, replicate}
 use lib.Dec.{leb, ltb, eqb}
 use Rattle.figures.specs.Quote.{bytes}
 use Rattle.figures.specs.declared.kinds.Field.{Field}
-use Rattle.figures.specs.Figures.{fieldAt, fieldText}
+use Rattle.figures.specs.Figures.{fieldAt, fieldText, every}
 use Rattle.figures.specs.declared.kinds.Field.the-variants as field
 use Rattle.shapes.specs.declared.kinds.Value.{Value}
 use Rattle.shapes.specs.Pattern.{Pattern, hasPattern, hasAny}
@@ -26,6 +26,7 @@ use Rattle.record.specs.declared.aerodrome.Layer.{Layer}
 use Rattle.record.specs.declared.aerodrome.Cover.{Cover}
 use Rattle.record.specs.declared.aerodrome.Cover.the-variants as cover
 use Rattle.record.specs.declared.aerodrome.Sky.{Sky}
+use Rattle.record.specs.SilentAerodrome.{noAmount, isBlankLayer, isLayers}
 use Rattle.text.specs.declared.kinds.Judged.{Judged}
 use Rattle.text.specs.declared.kinds.Judged.the-variants as judged
 use Rattle.text.specs.declared.kinds.Refusal.the-variants as refusal
@@ -82,13 +83,6 @@ notAbove (number.Is a) (number.Is b) = leb a b
 abbrev pub rises : List Layer → Number → Bool
 rises [] h = true
 rises (l ∷ ls) h = notAbove (l .height) h && rises ls h
-
-abbrev pub isLayers : Cover → Bool
-isLayers cover.Layers = true
-isLayers cover.Clear = false
-isLayers cover.NoneSignificant = false
-isLayers cover.NoneDetected = false
-isLayers (cover.Vertical h) = false
 
 -- one more layer where k stand; past the fourth there is no room
 abbrev pub addLayer : ℕ → Sky → Layer → Sky
@@ -149,27 +143,7 @@ abbrev pub judgeCover : Bool → Bool → Cover → Judged
 judgeCover forecast cavok c = judge (coverFits forecast c) (not cavok || isLayers c)
 
 abbrev pub hasAmount : Amount → Bool
-hasAmount amount.None = false
-hasAmount amount.Few = true
-hasAmount amount.Scattered = true
-hasAmount amount.Broken = true
-hasAmount amount.Overcast = true
-
-abbrev pub isNoHeight : Number → Bool
-isNoHeight number.Missing = true
-isNoHeight (number.Is m) = false
-
-abbrev pub isNoConvective : Convective → Bool
-isNoConvective convective.None = true
-isNoConvective convective.Cumulonimbus = false
-isNoConvective convective.ToweringCumulus = false
-
-abbrev pub isBlankLayer : Layer → Bool
-isBlankLayer l = not (hasAmount (l .amount)) && isNoHeight (l .height) && isNoConvective (l .convective)
-
-abbrev pub allBlank : List Layer → Bool
-allBlank [] = true
-allBlank (l ∷ ls) = isBlankLayer l && allBlank ls
+hasAmount a = not (noAmount a)
 
 -- heights as they would be written
 abbrev pub writtenHeight : Number → Number
@@ -189,7 +163,7 @@ judgeLayers forecast beside before (l ∷ ls) =
 unfoldable pub judgeSky : Bool → Bool → Sky → Judged
 judgeSky forecast cavok s =
     andThen (judgeCover forecast cavok (s .cover))
-    (andThen (judge (leb (s .count) 4 && allBlank (drop (s .count) (s .layers))) true)
+    (andThen (judge (leb (s .count) 4 && every isBlankLayer (drop (s .count) (s .layers))) true)
     (judgeLayers forecast (cavok || not (isLayers (s .cover))) [] (take (s .count) (s .layers))))
 
 -- ---- what is read back
@@ -203,7 +177,3 @@ classCover (cover.Vertical h) = cover.Vertical (writtenHeight h)
 
 abbrev pub classSky : Sky → Sky
 classSky s = record { cover = classCover (s .cover); layers = map classLayer (s .layers); count = s .count }
-
--- nothing is said of it
-abbrev pub noSky : Sky → Bool
-noSky s = isLayers (s .cover) && eqb (s .count) 0 && allBlank (s .layers)

@@ -54,9 +54,3 @@ classView (view.Metres m) = view.Metres (footOf visibility m)
 
 abbrev pub classVisibility : Visibility → Visibility
 classVisibility v = record { is = classView (v .is) }
-
--- nothing is said of it
-abbrev pub noView : View → Bool
-noView view.Missing = true
-noView view.Cavok = false
-noView (view.Metres m) = false

@@ -7,6 +7,7 @@ use mathlib.Core.List.{List, [], _∷_, _++_, map}
 use lib.ListN.{length, getD, take, drop, set}
 use lib.Dec.{leb, ltb, eqb}
 use Rattle.figures.specs.Quote.{bytes}
+use Rattle.figures.specs.Figures.{every}
 use Rattle.shapes.specs.Pattern.{Pattern, hasPattern}
 use Rattle.places.specs.Engine.{Group, Read, Good, Bad}
 use Rattle.record.specs.declared.aerodrome.Intensity.{Intensity}
@@ -17,6 +18,7 @@ use Rattle.record.specs.declared.aerodrome.Phenomena.{Phenomena}
 use Rattle.record.specs.declared.aerodrome.Phenomena.the-variants as phenomena
 use Rattle.record.specs.declared.aerodrome.Weather.{Weather}
 use Rattle.record.specs.declared.aerodrome.Weathers.{Weathers}
+use Rattle.record.specs.SilentAerodrome.{isBlankWeather}
 use Rattle.text.specs.declared.kinds.Judged.{Judged}
 use Rattle.text.specs.declared.kinds.Judged.the-variants as judged
 use Rattle.text.specs.Judge.{judge, andThen}
@@ -287,34 +289,22 @@ abbrev pub phenomenaFit : Phenomena → Bool
 phenomenaFit phenomena.Missing = false
 phenomenaFit (phenomena.Is i d a b c) = isDescribed d && gapless a b c && intensityFits i (under d (listed a (listed b (listed c []))))
 
-abbrev pub isMissingWeather : Phenomena → Bool
-isMissingWeather phenomena.Missing = true
-isMissingWeather (phenomena.Is i d a b c) = false
-
 -- beside: CAVOK or NSW stands for the weather
 unfoldable pub judgeWeather : Bool → Bool → Bool → Weather → Judged
 judgeWeather forecast automatic beside w =
-    judge (phenomenaFit (w .is) || (not forecast && isMissingWeather (w .is))) (not beside && (automatic || not (hasUnknown (w .is))))
+    judge (phenomenaFit (w .is) || (not forecast && isBlankWeather w)) (not beside && (automatic || not (hasUnknown (w .is))))
 
 unfoldable pub judgeRecent : Bool → Weather → Judged
 judgeRecent automatic w = judge (phenomenaFit (w .is) && isPlain (w .is)) (automatic || not (hasUnknown (w .is)))
 
 -- ---- up to three: "a count over its limit, a slot past its count .. that is not blank", then each in turn
 
-abbrev pub allMissing : List Weather → Bool
-allMissing [] = true
-allMissing (w ∷ ws) = isMissingWeather (w .is) && allMissing ws
-
 abbrev pub judgeEach : (Weather → Judged) → List Weather → Judged
 judgeEach test [] = judged.Fine
 judgeEach test (w ∷ ws) = andThen (test w) (judgeEach test ws)
 
 abbrev pub threeFit : Weathers → Bool
-threeFit ws = leb (ws .count) 3 && allMissing (drop (ws .count) (ws .items))
+threeFit ws = leb (ws .count) 3 && every isBlankWeather (drop (ws .count) (ws .items))
 
 unfoldable pub judgeWeathers : (Weather → Judged) → Weathers → Judged
 judgeWeathers test ws = andThen (judge (threeFit ws) true) (judgeEach test (take (ws .count) (ws .items)))
-
--- nothing is said of it
-abbrev pub noWeathers : Weathers → Bool
-noWeathers ws = eqb (ws .count) 0 && allMissing (ws .items)

@@ -28,6 +28,8 @@ use Rattle.record.specs.declared.aerodrome.Wind.{Wind}
 use Rattle.record.specs.declared.aerodrome.Extremes.{Extremes}
 use Rattle.record.specs.declared.aerodrome.Extremes.the-variants as extremes
 use Rattle.record.specs.declared.aerodrome.Variation.{Variation}
+use Rattle.record.specs.Missing.{noSpeed}
+use Rattle.record.specs.SilentAerodrome.{noUnit}
 use Rattle.text.specs.declared.kinds.Judged.{Judged}
 use Rattle.text.specs.Judge.{judge}
 use Rattle.elements.specs.Parts.{wrong, disagrees, figured, mayMiss, provided, agreeing, then, valueAt, isMissing}
@@ -154,35 +156,18 @@ showVariation v = extremesGroup (v .is)
 -- ---- judging: a wind in range, missing as a whole (in a TAF not at all), with a unit
 
 abbrev pub hasUnit : Unit → Bool
-hasUnit unit.Missing = false
-hasUnit unit.Knots = true
-hasUnit unit.MetresPerSecond = true
-hasUnit unit.KilometresPerHour = true
+hasUnit u = not (noUnit u)
 
 abbrev pub gustFits : Speed → Bool
 gustFits speed.Missing = true
 gustFits (speed.Is g) = leb g 199
-
-abbrev pub noGust : Speed → Bool
-noGust speed.Missing = true
-noGust (speed.Is g) = false
-
--- no wind at all: nothing of it is there, its unit neither
-abbrev pub noDirection : Direction → Bool
-noDirection direction.Missing = true
-noDirection direction.Calm = false
-noDirection direction.Variable = false
-noDirection (direction.Degrees d) = false
-
-abbrev pub isBlankWind : Wind → Bool
-isBlankWind w = noDirection (w .direction) && noGust (w .speed) && noGust (w .gust) && not (hasUnit (w .unit))
 
 abbrev pub speedFits : Speed → Bool
 speedFits speed.Missing = false
 speedFits (speed.Is s) = leb s 199
 
 abbrev pub windFits : Bool → Direction → Speed → Speed → Bool
-windFits forecast direction.Missing s g = not forecast && noGust s && noGust g
+windFits forecast direction.Missing s g = not forecast && noSpeed s && noSpeed g
 windFits forecast direction.Calm s g = speedFits s && gustFits g
 windFits forecast direction.Variable s g = speedFits s && gustFits g
 windFits forecast (direction.Degrees d) s g = leb d 359 && speedFits s && gustFits g
@@ -227,8 +212,3 @@ classExtremes (extremes.Between a b) = extremes.Between (readDegrees a) (readDeg
 
 abbrev pub classVariation : Variation → Variation
 classVariation v = record { is = classExtremes (v .is) }
-
--- nothing is said of it
-abbrev pub noExtremes : Extremes → Bool
-noExtremes extremes.Missing = true
-noExtremes (extremes.Between a b) = false

@@ -27,7 +27,8 @@ use Rattle.aerodrome_groups.specs.Head.{stationOf, readTime, showTime, judgeSta
 use Rattle.aerodrome_groups.specs.Runway.{readRunway, showRunway, showRunways, judgeRunways}
 use Rattle.aerodrome_groups.specs.Temperatures.{readTemperatures, readQnh, showTemperatures, showQnh, judgeTemperatures, judgeQnh}
 use Rattle.metar_row.specs.Row.{row, stopWords}
-use Rattle.metar.specs.Write.{judgeHead, noBody, judgeBody, judgeOf, canonicalOf, classedOf}
+use Rattle.metar.specs.Write.{judgeHead, judgeBody, judgeOf, canonicalOf, classedOf}
+use Rattle.record.specs.SilentAerodrome.{noBody}
 use Rattle.text.specs.Refusals.{numberOf}
 use Rattle.text.specs.Example.{Example, reads, refuses}
 use Rattle.text.specs.declared.kinds.Judged.the-variants as judged

@@ -12,23 +12,17 @@ use Rattle.text.specs.Groups.{join}
 use Rattle.places.specs.Engine.{written, putAll}
 use Rattle.record.specs.declared.aerodrome.Metar.{Metar}
 use Rattle.record.specs.Metar.{blankMetar}
-use Rattle.elements.specs.Judge.{isMissing}
-use Rattle.elements.specs.Wind.{isBlankWind, noExtremes, judgeWind, judgeVariation}
-use Rattle.elements.specs.Visibility.{isCavok, noView, judgeVisibility}
-use Rattle.elements.specs.Weather.{noWeathers, judgeWeather, judgeRecent, judgeWeathers}
-use Rattle.elements.specs.Sky.{noSky, judgeSky}
+use Rattle.record.specs.SilentAerodrome.{noBody}
+use Rattle.elements.specs.Wind.{judgeWind, judgeVariation}
+use Rattle.elements.specs.Visibility.{isCavok, judgeVisibility}
+use Rattle.elements.specs.Weather.{judgeWeather, judgeRecent, judgeWeathers}
+use Rattle.elements.specs.Sky.{judgeSky}
 use Rattle.aerodrome_groups.specs.Head.{judgeStation, judgeTime}
-use Rattle.aerodrome_groups.specs.Runway.{noRunways, judgeRunways}
-use Rattle.aerodrome_groups.specs.Temperatures.{noTemperatures, judgeTemperatures, judgeQnh}
+use Rattle.aerodrome_groups.specs.Runway.{judgeRunways}
+use Rattle.aerodrome_groups.specs.Temperatures.{judgeTemperatures, judgeQnh}
 use Rattle.metar_row.specs.Row.{row}
 
 -- ---- foreign fields: a NIL report has nothing after its time
-
-unfoldable pub noBody : Metar → Bool
-noBody r =
-    not (r .automatic) && isBlankWind (r .wind) && noExtremes (r .variation .is) && noView (r .visibility .is)
-    && noRunways (r .runways) && noWeathers (r .weathers) && noSky (r .sky)
-    && noTemperatures (r .temperatures) && isMissing (r .qnh .is) && noWeathers (r .recents)
 
 unfoldable pub judgeHead : Metar → Judged
 judgeHead r = andThen (judgeStation (r .station)) (judgeTime (r .time))

@@ -32,8 +32,8 @@ use Rattle.metar_laws.proofs.Rows.{row-covered}
 use Rattle.metar_laws.proofs.Report.{fair, FairBody, fair-body, fair-bare, sizes, kept-row}
 use Rattle.elements.proofs.Classed.{cavok-classed}
 use Rattle.metar_laws.proofs.Places.{name, name-named}
-use Rattle.metar_laws.proofs.Blanks.{Bare}
-pub use Rattle.metar_laws.proofs.Blanks.{Arrays}
+use Rattle.record.proofs.AerodromeBlanks.{Bare}
+use Rattle.record.specs.Arrays.{MetarArrays}
 
 -- ---- how long it is
 
@@ -47,11 +47,11 @@ unfolding row
 some-written r = omega arith
 
 -- The groups of a record can be joined and cut, and hold only bytes that a text may hold.
-pub groups-sizes : (r : Metar) → Arrays r → judgeOf r ≡ judged.Fine → Sizes 256 (written row r)
+pub groups-sizes : (r : Metar) → MetarArrays r → judgeOf r ≡ judged.Fine → Sizes 256 (written row r)
 groups-sizes r arrays e = sizes-more room-is (kept-sizes (kept-row r arrays e))
 
 -- HOW LONG THE CANONICAL TEXT IS, at most.
-pub length-canonical : (r : Metar) → Arrays r → judgeOf r ≡ judged.Fine → length (canonicalOf r) ≤ 256
+pub length-canonical : (r : Metar) → MetarArrays r → judgeOf r ≡ judged.Fine → length (canonicalOf r) ≤ 256
 unfolding canonicalOf
 length-canonical r arrays e =
     let short = text-short row stopWords sizes r blankMetar (kept-row r arrays e) (some-written r) in
@@ -69,7 +69,7 @@ from-first r end (g ∷ gs) are =
     rw (here, name-named (r .special))
 
 -- THE CANONICAL TEXT OF A RECORD IS READ BACK, to its end, as the record's classes.
-pub read-canonical : (r : Metar) → Arrays r → judgeOf r ≡ judged.Fine → readOf (canonicalOf r) ≡ accepted (length (canonicalOf r)) (classedOf r)
+pub read-canonical : (r : Metar) → MetarArrays r → judgeOf r ≡ judged.Fine → readOf (canonicalOf r) ≡ accepted (length (canonicalOf r)) (classedOf r)
 unfolding readOf canonicalOf classedOf
 read-canonical r arrays e =
     let kept = kept-row r arrays e in
@@ -105,7 +105,7 @@ nil-classed r b =
     rw (b .automatic, b .wind, b .variation, b .visibility, b .runways, b .weathers, b .sky, b .temperatures, b .qnh, b .recents)
 
 -- THE RECORD THAT IS READ BACK IS WRITTEN AS THE SAME TEXT.
-pub written-again : (r : Metar) → Arrays r → judgeOf r ≡ judged.Fine → canonicalOf (classedOf r) ≡ canonicalOf r
+pub written-again : (r : Metar) → MetarArrays r → judgeOf r ≡ judged.Fine → canonicalOf (classedOf r) ≡ canonicalOf r
 written-again r arrays e = go (r .nil) refl
   where
     go : (b : Bool) → r .nil ≡ b → canonicalOf (classedOf r) ≡ canonicalOf r
@@ -133,7 +133,7 @@ unfolding judgeBody judgeOf judgeHead row classedOf
 full-classed r e n = let f = fair r e in rw (n, f .station, f .time) (body-classed r (fair-body r e n))
 
 -- AND THE WRITER ACCEPTS IT.
-pub classed-fine : (r : Metar) → Arrays r → judgeOf r ≡ judged.Fine → judgeOf (classedOf r) ≡ judged.Fine
+pub classed-fine : (r : Metar) → MetarArrays r → judgeOf r ≡ judged.Fine → judgeOf (classedOf r) ≡ judged.Fine
 classed-fine r arrays e = go (r .nil) refl
   where
     go : (b : Bool) → r .nil ≡ b → judgeOf (classedOf r) ≡ judged.Fine

@@ -15,7 +15,8 @@ use Rattle.aerodrome_groups.proofs.Promises.{RunwaysKept, runways-kept, Tempera
 use Rattle.metar_row.specs.Row.{row}
 use Rattle.metar.specs.Read.{readOf}
 use Rattle.metar.specs.Write.{judgeOf, canonicalOf, classedOf}
-use Rattle.metar_laws.proofs.Blanks.{Arrays, Bare}
+use Rattle.record.specs.Arrays.{MetarArrays}
+use Rattle.record.proofs.AerodromeBlanks.{Bare}
 use Rattle.metar_laws.proofs.Report.{FairBody, fair-body, fair-bare}
 use Rattle.metar_laws.proofs.Canonical.{read-canonical}
 
@@ -62,7 +63,7 @@ near-full r f =
       fits = fine (viewFits false (r .visibility .is)) true (f .visibility) .0;
     }
 
-near : (r : Metar) → Arrays r → judgeOf r ≡ judged.Fine → Near r (classedOf r)
+near : (r : Metar) → MetarArrays r → judgeOf r ≡ judged.Fine → Near r (classedOf r)
 near r arrays e = go (r .nil) refl
   where
     go : (b : Bool) → r .nil ≡ b → Near r (classedOf r)
@@ -94,6 +95,6 @@ record-read r n =
     }
 
 -- WHAT IS WRITTEN OF A RECORD THAT THE WRITER ACCEPTS IS READ, to the text's end, as a record that says the same.
-pub promise : (r : Metar) → Arrays r → judgeOf r ≡ judged.Fine
+pub promise : (r : Metar) → MetarArrays r → judgeOf r ≡ judged.Fine
     → (readOf (canonicalOf r) .verdict ≡ verdict.Accepted (length (canonicalOf r))) × RecordRead r (readOf (canonicalOf r) .report)
 promise r arrays e = rw (read-canonical r arrays e) (refl, record-read r (near r arrays e))

@@ -20,8 +20,10 @@ use Rattle.aerodrome_groups.specs.Head.{judgeStation, judgeTime}
 use Rattle.aerodrome_groups.specs.Runway.{showRunways, judgeRunways}
 use Rattle.aerodrome_groups.specs.Temperatures.{judgeTemperatures, judgeQnh}
 use Rattle.metar_row.specs.Row.{row}
-use Rattle.metar.specs.Write.{noBody, judgeHead, judgeBody, judgeOf}
-use Rattle.metar_laws.proofs.Blanks.{Arrays, Bare, bare}
+use Rattle.metar.specs.Write.{judgeHead, judgeBody, judgeOf}
+use Rattle.record.specs.SilentAerodrome.{noBody}
+use Rattle.record.specs.Arrays.{MetarArrays}
+use Rattle.record.proofs.AerodromeBlanks.{Bare, bare}
 use Rattle.elements.proofs.Classed.{cavok-classed}
 use Rattle.metar_laws.proofs.Places.{kept-name, kept-corrected, kept-station, kept-time, kept-nil, kept-automatic, kept-wind, kept-variation, kept-visibility, kept-temperatures, kept-qnh}
 use Rattle.metar_laws.proofs.Several.{kept-runways, kept-weathers, kept-sky, kept-recents}
@@ -81,7 +83,7 @@ pub fair-body : (r : Metar) → judgeOf r ≡ judged.Fine → r .nil ≡ false �
 unfolding judgeBody
 fair-body r e full = fair-parts r (rw full at (fair r e .body))
 
-pub fair-bare : (r : Metar) → Arrays r → judgeOf r ≡ judged.Fine → r .nil ≡ true → Bare r
+pub fair-bare : (r : Metar) → MetarArrays r → judgeOf r ≡ judged.Fine → r .nil ≡ true → Bare r
 unfolding noBody
 fair-bare r arrays e nil = bare r arrays (rw nil at (fair r e .blank))
 
@@ -105,7 +107,7 @@ unfolding row
 nil-put r b =
     rw (b .automatic, b .wind, b .variation, b .visibility, b .runways, b .weathers, b .sky, b .temperatures, b .qnh, b .recents)
 
-kept-body : (r : Metar) → Arrays r → FairBody r → r .nil ≡ false → KeptRow (drop 5 sizes) (drop 5 row) r (headed r)
+kept-body : (r : Metar) → MetarArrays r → FairBody r → r .nil ≡ false → KeptRow (drop 5 sizes) (drop 5 row) r (headed r)
 unfolding row
 kept-body r arrays f full =
     more (kept-automatic r _ refl) refl
@@ -120,7 +122,7 @@ kept-body r arrays f full =
     (more (kept-recents r _ refl refl (arrays .recents) (f .recents)) refl done)))))))))
 
 -- THE ROW KEEPS WHAT IS WRITTEN OF A RECORD THAT THE WRITER ACCEPTS.
-pub kept-row : (r : Metar) → Arrays r → judgeOf r ≡ judged.Fine → KeptRow sizes row r blankMetar
+pub kept-row : (r : Metar) → MetarArrays r → judgeOf r ≡ judged.Fine → KeptRow sizes row r blankMetar
 unfolding row
 kept-row r arrays e =
     let f = fair r e in

@@ -21,7 +21,8 @@ use Rattle.record.specs.declared.aerodrome.Weathers.{Weathers}
 use Rattle.record.specs.declared.aerodrome.Metar.{Metar}
 use Rattle.record.specs.Metar.{blankRunways, blankWeathers, blankSky, setRunways, setWeathers, setSky, setRecents}
 use Rattle.elements.specs.Visibility.{isCavok}
-use Rattle.elements.specs.Weather.{weatherCover, hasWeather, hasRecent, hasUnknown, phenomenaFit, isMissingWeather, readWeather, readRecent, withWeather, showWeather, showRecent, showWeathers, showRecents, judgeWeather, judgeRecent, judgeWeathers}
+use Rattle.elements.specs.Weather.{weatherCover, hasWeather, hasRecent, hasUnknown, phenomenaFit, readWeather, readRecent, withWeather, showWeather, showRecent, showWeathers, showRecents, judgeWeather, judgeRecent, judgeWeathers}
+use Rattle.record.specs.SilentAerodrome.{noPhenomena}
 use Rattle.elements.specs.Sky.{layerShape, aloneShapes, hasSky, readSky, showSky, judgeSky, classSky}
 use Rattle.aerodrome_groups.specs.Runway.{runwayShape, readRunway, withRunway, showRunways, judgeRunways, classRunways}
 use Rattle.weather.proofs.Covers.{weather-covered, recent-covered}
@@ -94,7 +95,7 @@ module _ (r acc : Metar) (blank : setWeathers blankWeathers acc ≡ acc) (seen :
   weather-alone w h =
       let known = r .automatic || not (hasUnknown (w .is)) in
       both (not (isCavok (r .visibility))) known
-      (fine (phenomenaFit (w .is) || (not false && isMissingWeather (w .is))) (not (isCavok (r .visibility)) && known) h .1) .0
+      (fine (phenomenaFit (w .is) || (not false && noPhenomena (w .is))) (not (isCavok (r .visibility)) && known) h .1) .0
 
   weather-read : (w : Weather) → test w ≡ judged.Fine → readsBeside (showWeather w) ≡ Good w
   weather-read w h = rw (same, weather-back false (r .automatic) (isCavok (r .visibility)) w h, seen, weather-alone w h)

@@ -4,22 +4,13 @@ use aerodrome_groups::judge::judge_runways;
 use aerodrome_groups::judge::judge_station;
 use aerodrome_groups::judge::judge_temperatures;
 use aerodrome_groups::judge::judge_time;
-use aerodrome_groups::judge::no_runways;
-use elements::blank::no_extremes;
-use elements::blank::no_view;
-use elements::blank::no_wind;
-use elements::judge::is_missing;
 use record::aerodrome::Metar;
-use record::aerodrome::Temperatures;
-use record::values::Tenths;
 use sky::judge::judge_sky;
-use sky::judge::no_sky;
 use text::judge::and_then;
 use text::judge::judge as judge_pair;
 use text::kinds::Judged;
 use weather_write::judge::judge_recents;
 use weather_write::judge::judge_weathers;
-use weather_write::judge::no_weathers;
 use wind::judge::judge_variation;
 use wind::judge::judge_visibility;
 use wind::judge::judge_wind;
@@ -27,48 +18,7 @@ use wind::read::is_cavok;
 ghost use mathlib.Core.Path.{_≡_};
 ghost use mathlib.Core.Bool.{cond};
 ghost use Rattle.text.specs.declared.kinds.Judged.the-variants as judged;
-ghost use Rattle.aerodrome_groups.specs.Temperatures.{noTenths, noTemperatures};
-ghost use Rattle.metar.specs.Write.{noBody, judgeHead, judgeBody, judgeOf};
-
-// ---- a NIL report: nothing after its time
-
-fn no_tenths(t: Tenths) -> bool
-    ensures { λ r. ⌜ r ≡ noTenths t ⌝ }
-{
-    match t {
-        Tenths::Missing => true,
-        Tenths::Is(_) => false,
-    }
-}
-
-fn no_temperatures(t: Temperatures) -> bool
-    ensures { λ r. ⌜ r ≡ noTemperatures t ⌝ }
-{
-    let air = t.air;
-    let dew = t.dew;
-    no_tenths(air) & no_tenths(dew)
-}
-
-pub fn no_body(r: Metar) -> bool
-    ensures { λ b. ⌜ b ≡ noBody r ⌝ }
-{
-    let automatic = r.automatic;
-    let wind = r.wind;
-    let variation = r.variation;
-    let extremes = variation.is;
-    let visibility = r.visibility;
-    let view = visibility.is;
-    let runways = r.runways;
-    let weathers = r.weathers;
-    let sky = r.sky;
-    let temperatures = r.temperatures;
-    let qnh = r.qnh;
-    let pressure = qnh.is;
-    let recents = r.recents;
-    let seen = !automatic & no_wind(wind) & no_extremes(extremes) & no_view(view);
-    let clouded = seen & no_runways(runways) & no_weathers(weathers) & no_sky(sky);
-    clouded & no_temperatures(temperatures) & is_missing(pressure) & no_weathers(recents)
-}
+ghost use Rattle.metar.specs.Write.{judgeHead, judgeBody, judgeOf};
 
 // ---- the groups in written order
 
@@ -115,7 +65,7 @@ pub fn judge(r: Metar) -> Judged
     ensures { λ j. ⌜ j ≡ judgeOf r ⌝ }
 {
     let nil = r.nil;
-    let foreign = judge_pair(!nil | no_body(r), true);
+    let foreign = judge_pair(!nil | r.has_no_body(), true);
     let stood = and_then(judge_head(r), judge_rest(nil, r));
     and_then(foreign, stood)
 }

@@ -3,5 +3,8 @@
 pub mod aerodrome;
 pub mod blank_aerodrome;
 pub mod blank_surface;
+pub mod letters;
+pub mod silent_aerodrome;
+pub mod silent_surface;
 pub mod surface;
 pub mod values;

@@ -1,4 +1,7 @@
 // Values that may be missing.
+ghost use mathlib.Core.Path.{_≡_};
+ghost use lib.Dec.{leb};
+ghost use Rattle.record.specs.Missing.{isMissing, between, present, optional, noTenths, noDirection, noSpeed};
 
 // A whole number.
 pub enum Number {
@@ -24,4 +27,80 @@ pub enum Direction {
 pub enum Speed {
     Missing,
     Is(u32),
+}
+
+impl Number {
+    pub fn is_missing(self) -> bool
+        ensures { λ r. ⌜ r ≡ isMissing self ⌝ }
+    {
+        match self {
+            Number::Missing => true,
+            Number::Is(_) => false,
+        }
+    }
+
+    // A number that has to be there, and lies in a range.
+    pub fn is_between(self, low: u32, high: u32) -> bool
+        ensures { λ r. ⌜ r ≡ present (between low high) self ⌝ }
+    {
+        match self {
+            Number::Missing => false,
+            Number::Is(n) => (low <= n) & (n <= high),
+        }
+    }
+
+    // A number that has to be there, up to the most.
+    pub fn is_up_to(self, most: u32) -> bool
+        ensures { λ r. ⌜ r ≡ present (λ n. leb n most) self ⌝ }
+    {
+        match self {
+            Number::Missing => false,
+            Number::Is(n) => n <= most,
+        }
+    }
+
+    // A number that may be missing, and else lies in a range.
+    pub fn is_missing_or_between(self, low: u32, high: u32) -> bool
+        ensures { λ r. ⌜ r ≡ optional (between low high) self ⌝ }
+    {
+        match self {
+            Number::Missing => true,
+            Number::Is(n) => (low <= n) & (n <= high),
+        }
+    }
+}
+
+impl Tenths {
+    pub fn is_missing(self) -> bool
+        ensures { λ r. ⌜ r ≡ noTenths self ⌝ }
+    {
+        match self {
+            Tenths::Missing => true,
+            Tenths::Is(_) => false,
+        }
+    }
+}
+
+impl Direction {
+    pub fn is_missing(self) -> bool
+        ensures { λ r. ⌜ r ≡ noDirection self ⌝ }
+    {
+        match self {
+            Direction::Missing => true,
+            Direction::Calm => false,
+            Direction::Variable => false,
+            Direction::Degrees(_) => false,
+        }
+    }
+}
+
+impl Speed {
+    pub fn is_missing(self) -> bool
+        ensures { λ r. ⌜ r ≡ noSpeed self ⌝ }
+    {
+        match self {
+            Speed::Missing => true,
+            Speed::Is(_) => false,
+        }
+    }
 }

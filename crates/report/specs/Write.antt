@@ -12,7 +12,8 @@ use Rattle.text.specs.Write.{answerBy, bufferBy}
 use Rattle.report_record.specs.declared.kinds.Kind.{Kind}
 use Rattle.report_record.specs.declared.kinds.Kind.the-variants as kind
 use Rattle.report_record.specs.declared.kinds.Report.{Report}
-use Rattle.report_record.specs.Blank.{isBlankSynop, isBlankMetar, isBlankTaf}
+use Rattle.record.specs.SilentSurface.{isBlankSynop}
+use Rattle.record.specs.SilentAerodrome.{isBlankMetar, isBlankTaf}
 use Rattle.synop.specs.Write as synop
 use Rattle.metar.specs.Write as metar
 use Rattle.taf.specs.Write as taf

@@ -2,7 +2,6 @@
 // record into a lent buffer, `standing` hands back the one of two texts that stands.
 use report_record::answer::accept;
 use report_record::answer::refuse;
-use report_record::blank;
 use report_record::kinds::Kind;
 use report_record::kinds::Reading;
 use report_record::kinds::Report;
@@ -112,7 +111,7 @@ pub fn rest(text: &[u8]) -> &[u8]
 fn write_surface(report: Report, out: &mut [u8]) -> Written
     ensures { λ w. ⌜ (w ≡ writtenBy kind.Surface report (length (now (out .entry)))) × (now (out .exit) ≡ bufferAfter kind.Surface report (now (out .entry))) ⌝ }
 {
-    if blank::is_blank_metar(report.observed) & blank::is_blank_taf(report.forecast) {
+    if report.observed.is_blank() & report.forecast.is_blank() {
         return synop_write::write::write(report.surface, out);
     }
     Written::Refused(Refusal::Value)
@@ -121,7 +120,7 @@ fn write_surface(report: Report, out: &mut [u8]) -> Written
 fn write_observed(report: Report, out: &mut [u8]) -> Written
     ensures { λ w. ⌜ (w ≡ writtenBy kind.Observed report (length (now (out .entry)))) × (now (out .exit) ≡ bufferAfter kind.Observed report (now (out .entry))) ⌝ }
 {
-    if blank::is_blank_synop(report.surface) & blank::is_blank_taf(report.forecast) {
+    if report.surface.is_blank() & report.forecast.is_blank() {
         return metar_write::write::write(report.observed, out);
     }
     Written::Refused(Refusal::Value)
@@ -130,7 +129,7 @@ fn write_observed(report: Report, out: &mut [u8]) -> Written
 fn write_forecast(report: Report, out: &mut [u8]) -> Written
     ensures { λ w. ⌜ (w ≡ writtenBy kind.Forecast report (length (now (out .entry)))) × (now (out .exit) ≡ bufferAfter kind.Forecast report (now (out .entry))) ⌝ }
 {
-    if blank::is_blank_synop(report.surface) & blank::is_blank_metar(report.observed) {
+    if report.surface.is_blank() & report.observed.is_blank() {
         return taf_write::write::write(report.forecast, out);
     }
     Written::Refused(Refusal::Value)

@@ -1,5 +1,4 @@
 -- The three demands on the library for every kind of report, and the poor libraries that they shut out.
-pub mod Blanks
 pub mod ByName
 pub mod Causes
 pub mod Numbers

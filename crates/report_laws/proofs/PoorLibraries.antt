@@ -20,6 +20,7 @@ use Rattle.text.specs.Groups.{Piece, groupsIn, groupsFrom, join, spaced, parted
 use Rattle.record.specs.declared.values.Number.the-variants as number
 use Rattle.record.specs.declared.aerodrome.Metar.{Metar}
 use Rattle.record.specs.Metar.{setStation, setTime, setNil, blankMetar}
+use Rattle.record.specs.SilentAerodrome.{noBody}
 use Rattle.elements.specs.Wind.{showWind, showVariation}
 use Rattle.elements.specs.Visibility.{showVisibility}
 use Rattle.elements.specs.Weather.{showWeathers, showRecents}
@@ -57,11 +58,11 @@ abbrev otherText : List ℕ
 otherText = bytes "METAR LEMG 011200Z NIL="
 
 fair-one : Fair one
-unfolding nilOf metar.judgeOf metar.noBody metar.judgeHead judgeStation judgeTime
+unfolding nilOf metar.judgeOf noBody metar.judgeHead judgeStation judgeTime
 fair-one = observed (nilOf (bytes "LEMD")) (record { letters = refl; runways = refl; weathers = refl; layers = refl; recents = refl }) refl
 
 fair-other : Fair other
-unfolding nilOf metar.judgeOf metar.noBody metar.judgeHead judgeStation judgeTime
+unfolding nilOf metar.judgeOf noBody metar.judgeHead judgeStation judgeTime
 fair-other = observed (nilOf (bytes "LEMG")) (record { letters = refl; runways = refl; weathers = refl; layers = refl; recents = refl }) refl
 
 text-one : canonicalOf one ≡ oneText

@@ -33,25 +33,28 @@ use Rattle.report_record.specs.declared.kinds.Kind.{Kind}
 use Rattle.report_record.specs.declared.kinds.Kind.the-variants as kind
 use Rattle.report_record.specs.declared.kinds.Report.{Report}
 use Rattle.report_record.specs.Record.{surfaceReport, observedReport, forecastReport, accepted}
-use Rattle.report_record.specs.Blank.{isBlankSynop, isBlankMetar, isBlankTaf}
+use Rattle.record.specs.Arrays.{MetarArrays, TafArrays}
+use Rattle.record.specs.SilentSurface.{noSurface, isBlankSynop}
+use Rattle.record.specs.SilentAerodrome.{noBody, noElements, isBlankMetar, isBlankTaf}
+use Rattle.record.proofs.SurfaceBlanks.{synop-blank}
+use Rattle.record.proofs.AerodromeBlanks.{metar-blank, taf-blank}
 use Rattle.report.specs.Read.{readOf}
 use Rattle.report.specs.Write.{judgeBy, judgeOf, canonicalOf, classedOf}
-use Rattle.report_laws.proofs.Blanks.{synop-blank, metar-blank, taf-blank}
 use Rattle.report_laws.proofs.ByName.{read-surface, read-observed, read-forecast}
 use Rattle.report_laws.proofs.Numbers.{Table, classOn, numbersOf, temperaturesOf, pressuresOf, rainsOf, surface-numbers, observed-numbers, forecast-numbers, amount-is}
 
 -- The record's arrays have the lengths of the code's arrays.
 pub record Arrays (r : Report) : Type 0 where
   pub sign : length (r .surface .site .sign .letters) ≡ 9
-  pub observed : metar-text.Arrays (r .observed)
-  pub forecast : taf-text.Arrays (r .forecast)
+  pub observed : MetarArrays (r .observed)
+  pub forecast : TafArrays (r .forecast)
 
 -- ---- what is judged fine
 
 pub data Fair : Report → Type 0 where
   surface : (s : Synop) → length (s .site .sign .letters) ≡ 9 → synop.judgeOf s ≡ judged.Fine → Fair (surfaceReport s)
-  observed : (m : Metar) → metar-text.Arrays m → metar.judgeOf m ≡ judged.Fine → Fair (observedReport m)
-  forecast : (t : Taf) → taf-text.Arrays t → taf.judgeOf t ≡ judged.Fine → Fair (forecastReport t)
+  observed : (m : Metar) → MetarArrays m → metar.judgeOf m ≡ judged.Fine → Fair (observedReport m)
+  forecast : (t : Taf) → TafArrays t → taf.judgeOf t ≡ judged.Fine → Fair (forecastReport t)
 
 same : {k k′ : Kind} {s s′ : Synop} {m m′ : Metar} {t t′ : Taf} → k ≡ k′ → s ≡ s′ → m ≡ m′ → t ≡ t′
     → Fair (record { kind = k′; surface = s′; observed = m′; forecast = t′ }) → Fair (record { kind = k; surface = s; observed = m; forecast = t })
@@ -87,15 +90,15 @@ comes-back (forecast t arrays e) = read-forecast (taf.canonicalOf t) (length (ta
 -- ---- and written again
 
 blank-metar : isBlankMetar blankMetar ≡ true
-unfolding isBlankMetar metar.noBody
+unfolding isBlankMetar noBody
 blank-metar = refl
 
 blank-taf : isBlankTaf blankTaf ≡ true
-unfolding isBlankTaf taf.noPart
+unfolding isBlankTaf noElements
 blank-taf = refl
 
 blank-synop : isBlankSynop blankSynop ≡ true
-unfolding isBlankSynop synop.noSurface
+unfolding isBlankSynop noSurface
 blank-synop = refl
 
 pub fair-fine : {r : Report} → Fair r → judgeOf r ≡ judged.Fine

@@ -1,13 +1,9 @@
 -- The judging of layers one after the other, and of layers that are blank, as the code comes to them.
 -- Assumes nothing.
-use Prim.Native.Nat.{ℕ, _+_, _≤_, _<_}
 use native.Mathlib.Omega.{arith}
-use native.Mathlib.Numerals.{add-one}
 use mathlib.Core.Path.{_≡_, refl, sym, _∙_}
 use mathlib.Core.Bool.{Bool, true, false, not, _&&_, and-false, and-true, and-assoc}
 use mathlib.Core.List.{List, [], _∷_, _++_}
-use lib.ListN.{length, getD, drop, drop-of-length-le}
-use lib.Seq.{drop-cons}
 use lib.Dec.{leb}
 use borrow.Author.Tests.{leb-true, le-leb}
 use Rattle.text.specs.declared.kinds.Refusal.{Refusal}
@@ -20,7 +16,7 @@ use Rattle.record.specs.declared.values.Number.{Number}
 use Rattle.record.specs.declared.values.Number.the-variants as number
 use Rattle.record.specs.declared.aerodrome.Layer.{Layer}
 use Rattle.elements.specs.Judge.{metresFit}
-use Rattle.elements.specs.Sky.{notAbove, rises, hasAmount, isBlankLayer, allBlank, writtenHeight, classLayer, judgeLayers}
+use Rattle.elements.specs.Sky.{notAbove, rises, hasAmount, writtenHeight, classLayer, judgeLayers}
 use Rattle.sky.specs.Judge.{lastHeight}
 
 -- ---- the heights before a layer
@@ -77,15 +73,3 @@ module _ (forecast beside : Bool) where
           heights = λ n.
               rises-append (g .before) (classLayer l ∷ []) n ∙ rw (g .heights n, and-true (notAbove h n)) (last-greatest last h n rise);
         }
-
--- ---- blank layers, from number i on
-
-module _ (layers : List Layer) (i : ℕ) where
-  pub blank-next : (d : Layer) → i < length layers → isBlankLayer (getD layers i d) ≡ true → allBlank (drop i layers) ≡ allBlank (drop (i + 1) layers)
-  blank-next d h e = rw (add-one, drop-cons layers i d h, e)
-
-  pub blank-stop : (d : Layer) → i < length layers → isBlankLayer (getD layers i d) ≡ false → allBlank (drop i layers) ≡ false
-  blank-stop d h e = rw (drop-cons layers i d h, e)
-
-  pub blank-end : length layers ≤ i → allBlank (drop i layers) ≡ true
-  blank-end h = rw (drop-of-length-le layers {i = i} h)

@@ -21,10 +21,6 @@ use Rattle.places.specs.Engine.{Group, Read, Good}
 use Rattle.places.proofs.ReadBack.{All}
 use Rattle.record.specs.declared.values.Number.{Number}
 use Rattle.record.specs.declared.values.Number.the-variants as number
-use Rattle.record.specs.declared.aerodrome.Amount.{Amount}
-use Rattle.record.specs.declared.aerodrome.Amount.the-variants as amount
-use Rattle.record.specs.declared.aerodrome.Convective.{Convective}
-use Rattle.record.specs.declared.aerodrome.Convective.the-variants as convective
 use Rattle.record.specs.declared.aerodrome.Layer.{Layer}
 use Rattle.record.specs.declared.aerodrome.Cover.{Cover}
 use Rattle.record.specs.declared.aerodrome.Cover.the-variants as cover
@@ -32,7 +28,12 @@ use Rattle.record.specs.declared.aerodrome.Sky.{Sky}
 use Rattle.record.specs.Metar.{blankLayer, blankSky}
 use Rattle.elements.specs.Parts.{then}
 use Rattle.elements.specs.Judge.{metresFit}
-use Rattle.elements.specs.Sky.{layerShape, aloneShapes, hasSky, readAlone, rises, isLayers, addLayer, readSky, showLayer, coverGroups, showSky, coverFits, judgeCover, hasAmount, isNoHeight, isNoConvective, isBlankLayer, allBlank, writtenHeight, classLayer, judgeLayers, judgeSky, classCover, classSky}
+use Rattle.elements.specs.Sky.{layerShape, aloneShapes, hasSky, readAlone, rises, addLayer, readSky, showLayer, coverGroups, showSky, coverFits, judgeCover, hasAmount, writtenHeight, classLayer, judgeLayers, judgeSky, classCover, classSky}
+use Rattle.record.specs.SilentAerodrome.{isLayers, isBlankLayer}
+use Rattle.record.proofs.AerodromeBlanks.{layer-blank, cover-layers}
+use Rattle.record.specs.Missing.{isMissing}
+use Rattle.figures.specs.Figures.{every}
+use Rattle.figures.proofs.Every.{every-is}
 use Rattle.sky.proofs.Heights.{height-again, height-twice, height-classed}
 use Rattle.sky.proofs.Groups.{sky-covered, no-layer, layer-shaped, layer-back, layer-again, vertical, vertical-alone, vertical-back}
 
@@ -54,62 +55,12 @@ All-append P (g ∷ gs) hs a b = (a .0, All-append P gs hs (a .1) b)
 
 -- ---- layers, or what stands alone
 
-the-layers : (c : Cover) → isLayers c ≡ true → c ≡ cover.Layers
-the-layers cover.Layers e = refl
-the-layers cover.Clear e = absurd (false≢true e)
-the-layers cover.NoneSignificant e = absurd (false≢true e)
-the-layers cover.NoneDetected e = absurd (false≢true e)
-the-layers (cover.Vertical h) e = absurd (false≢true e)
-
 one-cover : (c : Cover) → length (coverGroups c) ≤ 1
 one-cover cover.Layers = omega arith
 one-cover cover.Clear = omega arith
 one-cover cover.NoneSignificant = omega arith
 one-cover cover.NoneDetected = omega arith
 one-cover (cover.Vertical h) = omega arith
-
--- ---- blank layers
-
-no-amount : (a : Amount) → not (hasAmount a) ≡ true → a ≡ amount.None
-no-amount amount.None e = refl
-no-amount amount.Few e = absurd (false≢true e)
-no-amount amount.Scattered e = absurd (false≢true e)
-no-amount amount.Broken e = absurd (false≢true e)
-no-amount amount.Overcast e = absurd (false≢true e)
-
-no-height : (h : Number) → isNoHeight h ≡ true → h ≡ number.Missing
-no-height number.Missing e = refl
-no-height (number.Is m) e = absurd (false≢true e)
-
-no-convective : (c : Convective) → isNoConvective c ≡ true → c ≡ convective.None
-no-convective convective.None e = refl
-no-convective convective.Cumulonimbus e = absurd (false≢true e)
-no-convective convective.ToweringCumulus e = absurd (false≢true e)
-
-blank-layer : (l : Layer) → isBlankLayer l ≡ true → l ≡ blankLayer
-blank-layer l e =
-    let t = both (not (hasAmount (l .amount)) && isNoHeight (l .height)) (isNoConvective (l .convective)) e in
-    let u = both (not (hasAmount (l .amount))) (isNoHeight (l .height)) (t .0) in
-    let same : record { amount = l .amount; height = l .height; convective = l .convective } ≡ blankLayer =
-    rw (no-amount (l .amount) (u .0), no-height (l .height) (u .1), no-convective (l .convective) (t .1)) in
-    same
-
-blank-layers : (ls : List Layer) → allBlank ls ≡ true → ls ≡ replicate (length ls) blankLayer
-blank-layers [] e = refl
-blank-layers (l ∷ ls) e =
-    let t = both (isBlankLayer l) (allBlank ls) e in
-    let x = blank-layer l (t .0) in
-    let y = blank-layers ls (t .1) in
-    cc
-
-pub sky-blank : (s : Sky) → length (s .layers) ≡ 4 → (isLayers (s .cover) && eqb (s .count) 0 && allBlank (s .layers)) ≡ true → s ≡ blankSky
-sky-blank s four e =
-    let t = both (isLayers (s .cover) && eqb (s .count) 0) (allBlank (s .layers)) e in
-    let u = both (isLayers (s .cover)) (eqb (s .count) 0) (t .0) in
-    let blank : s .layers ≡ replicate 4 blankLayer = rw four at (blank-layers (s .layers) (t .1)) in
-    let same : record { cover = s .cover; layers = s .layers; count = s .count } ≡ blankSky =
-    rw (the-layers (s .cover) (u .0), eqb-true (s .count) 0 (u .1), blank) in
-    same
 
 -- ---- written again
 
@@ -131,11 +82,11 @@ cover-classed cover.NoneSignificant = refl
 cover-classed cover.NoneDetected = refl
 cover-classed (cover.Vertical h) = refl
 
-missing-classed : (h : Number) → isNoHeight (writtenHeight h) ≡ isNoHeight h
+missing-classed : (h : Number) → isMissing (writtenHeight h) ≡ isMissing h
 missing-classed number.Missing = refl
 missing-classed (number.Is m) = refl
 
-blanks-classed : (ls : List Layer) → allBlank (map classLayer ls) ≡ allBlank ls
+blanks-classed : (ls : List Layer) → every isBlankLayer (map classLayer ls) ≡ every isBlankLayer ls
 blanks-classed [] = refl
 blanks-classed (l ∷ ls) = rw (missing-classed (l .height), blanks-classed ls)
 
@@ -170,7 +121,7 @@ blank-classed zero = refl
 blank-classed (suc n) = rw (blank-classed n)
 
 -- a sky whose layers past the count are blank, as it was read
-all-layers : (s : Sky) → length (s .layers) ≡ 4 → s .count ≤ 4 → allBlank (drop (s .count) (s .layers)) ≡ true → s .cover ≡ cover.Layers
+all-layers : (s : Sky) → length (s .layers) ≡ 4 → s .count ≤ 4 → every isBlankLayer (drop (s .count) (s .layers)) ≡ true → s .cover ≡ cover.Layers
     → skyOf (map classLayer (take (s .count) (s .layers))) ≡ classSky s
 all-layers s four few e is =
     let first = take (s .count) (s .layers) in
@@ -180,7 +131,7 @@ all-layers s four few e is =
     let whole : map classLayer (s .layers) ≡ map classLayer first ++ replicate (4 - s .count) blankLayer =
     ap (map classLayer) (sym (take-append-drop (s .count) (s .layers)))
     ∙ map-append classLayer first rest
-    ∙ ap (λ (ls : List Layer). map classLayer first ++ map classLayer ls) (rw m at (blank-layers rest e))
+    ∙ ap (λ (ls : List Layer). map classLayer first ++ map classLayer ls) (rw m at (every-is isBlankLayer blankLayer layer-blank rest e))
     ∙ rw (blank-classed (4 - s .count)) in
     rw (n, is, whole)
 
@@ -223,17 +174,17 @@ module _ (forecast : Bool) where
       pub cover : coverFits forecast (s .cover) ≡ true
       pub seen : (not cavok || isLayers (s .cover)) ≡ true
       pub count : s .count ≤ 4
-      pub blank : allBlank (drop (s .count) (s .layers)) ≡ true
+      pub blank : every isBlankLayer (drop (s .count) (s .layers)) ≡ true
       pub layers : judgeLayers forecast (cavok || not (isLayers (s .cover))) [] (take (s .count) (s .layers)) ≡ judged.Fine
 
     pub sky-fits : (s : Sky) → judgeSky forecast cavok s ≡ judged.Fine → SkyFits s
     unfolding judgeSky
     sky-fits s e =
-        let counted = leb (s .count) 4 && allBlank (drop (s .count) (s .layers)) in
+        let counted = leb (s .count) 4 && every isBlankLayer (drop (s .count) (s .layers)) in
         let t = and-then (judgeCover forecast cavok (s .cover)) _ e in
         let u = and-then (judge counted true) _ (t .1) in
         let c = fine (coverFits forecast (s .cover)) (not cavok || isLayers (s .cover)) (t .0) in
-        let n = both (leb (s .count) 4) (allBlank (drop (s .count) (s .layers))) (fine counted true (u .0) .0) in
+        let n = both (leb (s .count) 4) (every isBlankLayer (drop (s .count) (s .layers))) (fine counted true (u .0) .0) in
         record { cover = c .0; seen = c .1; count = leb-true (s .count) 4 (n .0); blank = n .1; layers = u .1 }
 
     -- ---- the shapes of the groups
@@ -280,7 +231,7 @@ module _ (forecast : Bool) where
       where
         go : (b : Bool) → isLayers (s .cover) ≡ b → length (coverGroups (s .cover)) + length (map showLayer (take (s .count) (s .layers))) ≤ 4
         go true i =
-            rw (the-layers (s .cover) i, length-map (take (s .count) (s .layers)) showLayer, length-take (s .count) (s .layers))
+            rw (cover-layers (s .cover) i, length-map (take (s .count) (s .layers)) showLayer, length-take (s .count) (s .layers))
             (omega (arith, sky-fits s e .count))
         go false i = rw (no-layers s (sky-fits s e) i) (omega (arith, one-cover (s .cover)))
 
@@ -334,14 +285,14 @@ module _ (forecast : Bool) where
         go : (b : Bool) → isLayers (s .cover) ≡ b
             → addEach forecast cavok 0 (coverGroups (s .cover) ++ map showLayer (take (s .count) (s .layers))) blankSky ≡ Good (classSky s)
         go true i =
-            let c = the-layers (s .cover) i in
+            let c = cover-layers (s .cover) i in
             ap (λ (x : Cover). addEach forecast cavok 0 (coverGroups x ++ map showLayer (take (s .count) (s .layers))) blankSky) c
             ∙ layers-back (take (s .count) (s .layers)) [] (rw (length-take (s .count) (s .layers)) (omega (arith, f .count))) (rw i at (f .layers))
             ∙ ap Good (all-layers s four (f .count) (f .blank) c)
         go false i =
             let none = no-layers s f i in
             let zero : s .count ≡ 0 = omega (arith, length-take (s .count) (s .layers), ap length none) in
-            let blank : s .layers ≡ replicate 4 blankLayer = rw four at (blank-layers (s .layers) (rw zero at (f .blank))) in
+            let blank : s .layers ≡ replicate 4 blankLayer = rw four at (every-is isBlankLayer blankLayer layer-blank (s .layers) (rw zero at (f .blank))) in
             rw (none, append-nil (coverGroups (s .cover)), blank, zero)
             (alone-back (s .cover) (rw (i, or-false (not cavok)) at (f .seen)) i (f .cover))
 

@@ -1,11 +1,8 @@
 // What the writer judges of a sky: the cover, the count and what stands past it, then each layer, first its ranges (refusal 11) and then its
 // agreement (refusal 7).
-use crate::read::is_layers;
 use crate::read::not_above;
 use crate::write::cloud_number;
 use elements::judge::metres_fit;
-use record::aerodrome::Amount;
-use record::aerodrome::Convective;
 use record::aerodrome::Cover;
 use record::aerodrome::Layer;
 use record::aerodrome::Sky;
@@ -18,10 +15,10 @@ use text::kinds::Judged;
 ghost use mathlib.Core.Path.{_≡_};
 ghost use mathlib.Core.Bool.{not, _&&_};
 ghost use mathlib.Core.List.{[]};
-ghost use lib.ListN.{take, drop};
+ghost use lib.ListN.{take};
 ghost use Rattle.text.specs.Judge.{judge};
 ghost use Rattle.elements.specs.Judge.{metresFit};
-ghost use Rattle.elements.specs.Sky.{notAbove, coverFits, judgeCover, hasAmount, isNoHeight, isNoConvective, isBlankLayer, allBlank, writtenHeight, judgeLayers, judgeSky, noSky};
+ghost use Rattle.elements.specs.Sky.{notAbove, coverFits, judgeCover, hasAmount, writtenHeight, judgeLayers, judgeSky};
 ghost use Rattle.sky.specs.Judge.{lastHeight};
 
 fn cover_fits(forecast: bool, c: Cover) -> bool
@@ -39,63 +36,7 @@ fn cover_fits(forecast: bool, c: Cover) -> bool
 fn judge_cover(forecast: bool, cavok: bool, c: Cover) -> Judged
     ensures { λ r. ⌜ r ≡ judgeCover forecast cavok c ⌝ }
 {
-    judge(cover_fits(forecast, c), !cavok | is_layers(c))
-}
-
-fn has_amount(a: Amount) -> bool
-    ensures { λ r. ⌜ r ≡ hasAmount a ⌝ }
-{
-    match a {
-        Amount::None => false,
-        Amount::Few => true,
-        Amount::Scattered => true,
-        Amount::Broken => true,
-        Amount::Overcast => true,
-    }
-}
-
-fn is_no_height(h: Number) -> bool
-    ensures { λ r. ⌜ r ≡ isNoHeight h ⌝ }
-{
-    match h {
-        Number::Missing => true,
-        Number::Is(_) => false,
-    }
-}
-
-fn is_no_convective(c: Convective) -> bool
-    ensures { λ r. ⌜ r ≡ isNoConvective c ⌝ }
-{
-    match c {
-        Convective::None => true,
-        Convective::Cumulonimbus => false,
-        Convective::ToweringCumulus => false,
-    }
-}
-
-fn is_blank_layer(l: Layer) -> bool
-    ensures { λ r. ⌜ r ≡ isBlankLayer l ⌝ }
-{
-    let a = l.amount;
-    let h = l.height;
-    let c = l.convective;
-    !has_amount(a) & is_no_height(h) & is_no_convective(c)
-}
-
-// The layers from number `from` on are blank.
-fn all_blank(layers: [Layer; 4], from: usize) -> bool
-    ensures { λ r. ⌜ r ≡ allBlank (drop from layers) ⌝ }
-{
-    let mut i = from;
-    while i < 4 {
-        let l = layers[i];
-        if is_blank_layer(l) {
-            i += 1;
-        } else {
-            return false;
-        }
-    }
-    true
+    judge(cover_fits(forecast, c), !cavok | c.is_layers())
 }
 
 // A height as it would be read back.
@@ -121,7 +62,7 @@ fn judge_layer(forecast: bool, beside: bool, last: Number, l: Layer, height: Num
     let a = l.amount;
     let h = l.height;
     judge(
-        has_amount(a) & metres_fit(forecast, h),
+        !a.is_none() & metres_fit(forecast, h),
         !beside & not_above(last, height),
     )
 }
@@ -165,17 +106,7 @@ pub fn judge_sky(forecast: bool, cavok: bool, s: Sky) -> Judged
     let c = s.cover;
     let layers = s.layers;
     let count = s.count;
-    let counted = judge((count <= 4) & all_blank(layers, count), true);
-    let layered = judge_layers(forecast, cavok | !is_layers(c), layers, count);
+    let counted = judge((count <= 4) & s.is_blank_from(count), true);
+    let layered = judge_layers(forecast, cavok | !c.is_layers(), layers, count);
     and_then(judge_cover(forecast, cavok, c), and_then(counted, layered))
-}
-
-// Nothing is said of the sky.
-pub fn no_sky(s: Sky) -> bool
-    ensures { λ r. ⌜ r ≡ noSky s ⌝ }
-{
-    let c = s.cover;
-    let layers = s.layers;
-    let count = s.count;
-    is_layers(c) & (count == 0) & all_blank(layers, 0)
 }

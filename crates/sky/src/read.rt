@@ -25,7 +25,7 @@ ghost use Rattle.shapes.specs.Shape.{scanOf, blankValue};
 ghost use Rattle.places.specs.Engine.{Bad};
 ghost use Rattle.elements.specs.Parts.{then};
 ghost use Rattle.elements.specs.Answers.{asLayer, asCover, asSky};
-ghost use Rattle.elements.specs.Sky.{layerShape, aloneShapes, hasSky, heightOf, amountOf, convectiveOf, layerBy, readAlone, notAbove, rises, isLayers, addLayer, withLayer, withAlone, readSky};
+ghost use Rattle.elements.specs.Sky.{layerShape, aloneShapes, hasSky, heightOf, amountOf, convectiveOf, layerBy, readAlone, notAbove, rises, addLayer, withLayer, withAlone, readSky};
 ghost use Rattle.sky.specs.Answers.{asHeight, verticalBy};
 
 // A height that may be missing, or the group's refusal.
@@ -188,18 +188,6 @@ fn rises(layers: [Layer; 4], k: usize, h: Number) -> bool
     true
 }
 
-pub fn is_layers(c: Cover) -> bool
-    ensures { λ r. ⌜ r ≡ isLayers c ⌝ }
-{
-    match c {
-        Cover::Layers => true,
-        Cover::Clear => false,
-        Cover::NoneSignificant => false,
-        Cover::NoneDetected => false,
-        Cover::Vertical(_) => false,
-    }
-}
-
 // The sky as it was, beside a refusal.
 fn refused(s: Sky, refusal: Refusal) -> SkyRead
     ensures { λ r. ⌜ r ≡ asSky s (Bad refusal) ⌝ }
@@ -234,7 +222,7 @@ fn with_layer(cavok: bool, k: usize, s: Sky, l: Layer) -> SkyRead
     let c = s.cover;
     let layers = s.layers;
     let h = l.height;
-    if !cavok & is_layers(c) & rises(layers, k, h) {
+    if !cavok & c.is_layers() & rises(layers, k, h) {
         SkyRead {
             judged: Judged::Fine,
             sky: add_layer(k, s, l),

@@ -1,6 +1,5 @@
 -- Laws that the proofs of several readings use, and the round trip of every group.
 pub mod Readings
-pub mod Signs
 pub mod RoundTripParts
 pub mod RoundTripFields
 pub mod RoundTripScales

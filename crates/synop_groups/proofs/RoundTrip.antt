@@ -56,11 +56,14 @@ use Rattle.text.specs.declared.kinds.Judged.the-variants as judged
 use Rattle.text.specs.Judge.{judge}
 use Rattle.text.proofs.Judging.{fine}
 use Rattle.synop_groups.specs.Reads.{Group, wrong, mayMiss, usedRain, speedIs, saidSpeed, pressureOf, isLevel, airIs, saidAir, moistureIs, saidMoisture, saidPressure, levelIs, saidLevel, tendencyIs, saidTendency, saidRainfall, saidWeather, saidClouds, clockIs, saidClock}
-use Rattle.synop_groups.specs.Shows.{moistureSpoken, fieldOf, fieldBy, isMissing, isGale, speedGroup, showSpeed, signText, airGroup, showAir, moistGroup, showMoisture, pressureGroup, showPressure, levelGroup, showLevel, tendencyGroup, showTendency, rainfallGroup, showRainfall, weatherText, noWeather, showWeather, noClouds, cloudsText, showClouds, clockGroup, showClock}
-use Rattle.synop_groups.specs.Judge.{between, optional, windFits, judgeWind, tenthsFit, judgeAir, moistFits, judgeMoisture, judgePressure, heightFits, judgeLevel, changeFits, changeAgrees, judgeTendency, amountFits, fallFits, noFall, judgeRainfall, judgeWeather, judgeClouds, clockFits, judgeClock}
+use Rattle.synop_groups.specs.Shows.{moistureSpoken, fieldOf, fieldBy, isGale, speedGroup, showSpeed, signText, airGroup, showAir, moistGroup, showMoisture, pressureGroup, showPressure, levelGroup, showLevel, tendencyGroup, showTendency, rainfallGroup, showRainfall, weatherText, showWeather, cloudsText, showClouds, clockGroup, showClock}
+use Rattle.record.specs.Missing.{between, optional}
+use Rattle.record.specs.SilentSurface.{noWeather, noClouds, noFall}
+use Rattle.record.proofs.SurfaceBlanks.{weather-blank, clouds-blank}
+use Rattle.synop_groups.specs.Judge.{windFits, judgeWind, tenthsFit, judgeAir, moistFits, judgeMoisture, judgePressure, heightFits, judgeLevel, changeFits, changeAgrees, judgeTendency, amountFits, fallFits, judgeRainfall, judgeWeather, judgeClouds, clockFits, judgeClock}
 use Rattle.synop_groups.specs.Classes.{classFall, classRainfall, speedInTwo}
 use Rattle.synop_groups.proofs.RoundTripParts.{figures-join, at, Laid, parts}
-use Rattle.synop_groups.proofs.RoundTripFields.{in-range, chosen, optional-fits, oneFigure, one-fits, is-missing, Slot, slot, partsOf, nth, part-is, asked-back}
+use Rattle.synop_groups.proofs.RoundTripFields.{in-range, chosen, optional-fits, oneFigure, one-fits, Slot, slot, partsOf, nth, part-is, asked-back}
 use Rattle.synop_groups.proofs.RoundTripScales.{rain-written, rain-is, rain-again, amount-classed}
 use Rattle.synop_groups.proofs.RoundTripHead.{wind-fine}
 
@@ -400,16 +403,6 @@ weather-laid forbidden w e =
     parts (bytes "7") (partsOf (weatherIn w)) refl refl
     (optional-fits 2 99 (w .present) (omega arith) (s .0), (one-fits (w .past) (s .1), (one-fits (w .past2) (t .1), tt)))
 
-weather-blank : (w : Weather) → noWeather w ≡ true → w ≡ blankSurface .weather
-weather-blank w e =
-    let t = both (isMissing (w .present) && isMissing (w .past)) (isMissing (w .past2)) e in
-    let s = both (isMissing (w .present)) (isMissing (w .past)) (t .0) in
-    same (w .present) (w .past) (w .past2) (is-missing _ (s .0)) (is-missing _ (s .1)) (is-missing _ (t .1))
-  where
-    same : (a b c : Number) → a ≡ number.Missing → b ≡ number.Missing → c ≡ number.Missing
-        → _≡_ {A = Weather} (record { present = a; past = b; past2 = c }) (blankSurface .weather)
-    same a b c d f g = rw (d, f, g)
-
 abbrev weatherOf : List Number → Said
 weatherOf ns = said.Weather (record { present = nth 0 ns; past = nth 1 ns; past2 = nth 2 ns })
 
@@ -445,17 +438,6 @@ clock-back c e = go (c .is) e
         one (l .shaped) (rw (l .holds .0, l .holds .1 .0, t .0, t .1))
 
 -- ---- 8NCCC
-
-clouds-blank : (c : Clouds) → noClouds c ≡ true → c ≡ blankSurface .clouds
-clouds-blank c e =
-    let t = both (isMissing (c .amount) && isMissing (c .low) && isMissing (c .middle)) (isMissing (c .high)) e in
-    let s = both (isMissing (c .amount) && isMissing (c .low)) (isMissing (c .middle)) (t .0) in
-    let r = both (isMissing (c .amount)) (isMissing (c .low)) (s .0) in
-    same (c .amount) (c .low) (c .middle) (c .high) (is-missing _ (r .0)) (is-missing _ (r .1)) (is-missing _ (s .1)) (is-missing _ (t .1))
-  where
-    same : (n l m h : Number) → n ≡ number.Missing → l ≡ number.Missing → m ≡ number.Missing → h ≡ number.Missing
-        → _≡_ {A = Clouds} (record { amount = n; low = l; middle = m; high = h }) (blankSurface .clouds)
-    same n l m h a b d f = rw (a, b, d, f)
 
 abbrev cloudsIn : Clouds → List Slot
 cloudsIn c = slot 1 (c .amount) ∷ slot 1 (c .low) ∷ slot 1 (c .middle) ∷ slot 1 (c .high) ∷ []

@@ -15,8 +15,8 @@ use Rattle.record.specs.declared.values.Number.{Number}
 use Rattle.record.specs.declared.values.Number.the-variants as number
 use Rattle.synop_groups.specs.declared.kinds.Said.{Said}
 use Rattle.synop_groups.specs.Reads.{Group, part}
-use Rattle.synop_groups.specs.Shows.{fieldOf, isMissing}
-use Rattle.synop_groups.specs.Judge.{between, optional}
+use Rattle.synop_groups.specs.Shows.{fieldOf}
+use Rattle.record.specs.Missing.{between, optional}
 use Rattle.synop_groups.proofs.RoundTripParts.{Part, at, Holds}
 
 -- ---- the judgement
@@ -51,10 +51,6 @@ oneFigure = optional (between 0 9)
 
 pub one-fits : (n : Number) → oneFigure n ≡ true → Fits 1 (fieldOf n)
 one-fits n e = optional-fits 1 9 n (omega arith) e
-
-pub is-missing : (n : Number) → isMissing n ≡ true → n ≡ number.Missing
-is-missing number.Missing e = refl
-is-missing (number.Is n) e = absurd (false≢true e)
 
 -- ---- the reader
 

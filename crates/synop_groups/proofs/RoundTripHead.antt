@@ -43,7 +43,8 @@ use Rattle.text.proofs.Judging.{fine}
 use Rattle.synop_groups.specs.Position.{isQuadrant, isSouth, isWest, quadrantOf}
 use Rattle.synop_groups.specs.Reads.{Group, isUnit, timeOf, saidTime, saidStation, latitudeIs, saidLatitude, positionOf, saidLongitude, sightOf, indicatorsOf, saidIndicators, figured, mayMiss, missing, windBy, noWind, saidWind}
 use Rattle.synop_groups.specs.Shows.{fieldOf, magnitudeOf, showTime, showStation, showSign, showLatitude, showLongitude, baseField, sightField, showIndicators, directionField, showWind}
-use Rattle.synop_groups.specs.Judge.{between, present, optional, presentTenths, metres, judgeTime, judgeStation, judgeSign, judgePosition, sightFits, judgeIndicators, windFits, windAgrees, judgeWind}
+use Rattle.synop_groups.specs.Judge.{presentTenths, metres, isStation, judgeTime, judgeStation, judgeSign, judgePosition, sightFits, judgeIndicators, windFits, windAgrees, judgeWind}
+use Rattle.record.specs.Missing.{between, present, optional}
 use Rattle.synop_groups.specs.Classes.{classBase, classSight, classIndicators, classDirection, classWind, unsignedPosition, inTwo, windInTwo}
 use Rattle.synop_groups.proofs.RoundTripParts.{Part, at, parts}
 use Rattle.synop_groups.proofs.RoundTripFields.{in-range, chosen, oneFigure, one-fits, part-is}
@@ -84,7 +85,7 @@ pub station-back : (n : Number) → judgeStation n ≡ judged.Fine → (k : ℕ)
 unfolding judgeStation showStation saidStation
 station-back number.Missing e = absurd (false≢true (fine false true e .0))
 station-back (number.Is k) e =
-    let l = parts [] (at 5 (field.Number k) ∷ []) refl refl (omega (arith, leb-true k 99999 (fine (leb k 99999) true e .0)), tt) in
+    let l = parts [] (at 5 (field.Number k) ∷ []) refl refl (omega (arith, in-range 0 99999 k (fine (isStation k) true e .0) .1), tt) in
     (k, refl, record { shaped = l .shaped; said = rw (l .holds .0) })
 
 -- ---- the call sign

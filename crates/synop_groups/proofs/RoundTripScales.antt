@@ -32,7 +32,8 @@ use Rattle.record.specs.declared.surface.Sight.the-variants as sight
 use Rattle.synop_groups.specs.declared.kinds.Said.{Said}
 use Rattle.synop_groups.specs.Reads.{baseOf, sightOf}
 use Rattle.synop_groups.specs.Shows.{baseField, sightField}
-use Rattle.synop_groups.specs.Judge.{between, optional, metres, sightFits, amountFits}
+use Rattle.synop_groups.specs.Judge.{metres, sightFits, amountFits}
+use Rattle.record.specs.Missing.{between, optional}
 use Rattle.synop_groups.specs.Classes.{classBase, classSight, degreesBy, classRain}
 use Rattle.synop_groups.proofs.RoundTripFields.{in-range}
 

@@ -48,21 +48,10 @@ use Rattle.record.specs.declared.surface.Observed.{Observed}
 use Rattle.record.specs.declared.surface.Observed.the-variants as observed
 use Rattle.record.specs.declared.surface.Clock.{Clock}
 use Rattle.synop_groups.specs.Reads.{isUnit, isLevel, agree}
-use Rattle.synop_groups.specs.Shows.{noWeather}
+use Rattle.record.specs.Missing.{between, present, optional, noLetters}
+use Rattle.record.specs.SilentSurface.{noFall, noWeather}
 
 -- ---- ranges
-
-abbrev pub between : ℕ → ℕ → ℕ → Bool
-between low high n = leb low n && leb n high
-
--- a number that has to be there, and one that may be missing
-abbrev pub present : (ℕ → Bool) → Number → Bool
-present ok number.Missing = false
-present ok (number.Is n) = ok n
-
-abbrev pub optional : (ℕ → Bool) → Number → Bool
-optional ok number.Missing = true
-optional ok (number.Is n) = ok n
 
 abbrev pub presentTenths : (ℤ → Bool) → Signed → Bool
 presentTenths ok signed.Missing = false
@@ -80,8 +69,12 @@ unitFits = present isUnit
 unfoldable pub judgeTime : Time → Judged
 judgeTime t = judge (present (between 1 31) (t .day) && present (between 0 23) (t .hour) && unitFits (t .unit)) true
 
+-- IIiii is 00000 to 99999
+abbrev pub isStation : ℕ → Bool
+isStation = between 0 99999
+
 unfoldable pub judgeStation : Number → Judged
-judgeStation n = judge (present metres n) true
+judgeStation n = judge (present isStation n) true
 
 -- a slot of a name: a letter or figure up to the count, blank past it
 abbrev pub slotFits : Bool → ℕ → Bool
@@ -93,7 +86,7 @@ judgeSign s =
     judge
     (between 3 9 (s .length)
     && every (λ b. isLetter b || isFigure b) (take (s .length) (s .letters))
-    && every (λ b. eqb b 0) (drop (s .length) (s .letters)))
+    && noLetters (drop (s .length) (s .letters)))
     true
 
 -- "Latitude 000-900"; "a record's longitude runs from -179.9 to 180.0"
@@ -115,11 +108,7 @@ unfoldable pub judgeIndicators : Indicators → Judged
 judgeIndicators i =
     judge (present (between 0 4) (i .rain) && present (between 1 7) (i .weather) && optional metres (i .base) && sightFits (i .sight)) true
 
--- the speed beside a missing direction, and beside another
-abbrev pub noSpeed : Speed → Bool
-noSpeed speed.Missing = true
-noSpeed (speed.Is s) = false
-
+-- the speed beside a direction that is not missing
 abbrev pub speedFits : Speed → Bool
 speedFits speed.Missing = false
 speedFits (speed.Is s) = leb s 999
@@ -198,10 +187,6 @@ amountFits (rain.Tenths t) = between 1 99999 t
 abbrev pub fallFits : Fall → Bool
 fallFits fall.Missing = true
 fallFits (fall.Is r t) = amountFits r && optional (between 0 9) t
-
-abbrev pub noFall : Fall → Bool
-noFall fall.Missing = true
-noFall (fall.Is r t) = false
 
 -- forbidden: iR is not 0 or 1
 unfoldable pub judgeRainfall : Bool → Rainfall → Judged

@@ -2,7 +2,7 @@
 -- all of slashes after its first figure reads as absent, and the writer omits it, except that a required 6 or 7 group is written with slashes".
 -- Assumes nothing: these are definitions.
 use Prim.Native.Nat.{ℕ, _%_}
-use mathlib.Core.Bool.{Bool, true, false, cond, _&&_}
+use mathlib.Core.Bool.{Bool, true, false, cond}
 use mathlib.Core.List.{List, [], _∷_, _++_}
 use lib.ListN.{length, take}
 use lib.Dec.{leb}
@@ -50,6 +50,7 @@ use Rattle.record.specs.declared.surface.Clouds.{Clouds}
 use Rattle.record.specs.declared.surface.Observed.{Observed}
 use Rattle.record.specs.declared.surface.Observed.the-variants as observed
 use Rattle.record.specs.declared.surface.Clock.{Clock}
+use Rattle.record.specs.SilentSurface.{noWeather, noClouds}
 use Rattle.shapes.specs.Pattern.{Pattern}
 use Rattle.synop_groups.specs.Position.{quadrantOf}
 use Rattle.synop_groups.specs.Reads.{Group}
@@ -76,10 +77,6 @@ signedValue (signed.Is t) = t
 -- sTTT: the sign's figure and three figures
 abbrev pub signText : ℤ → List ℕ
 signText t = cond (negative t) (bytes "1") (bytes "0") ++ figures 3 (natAbs t)
-
-abbrev pub isMissing : Number → Bool
-isMissing number.Missing = true
-isMissing (number.Is n) = false
 
 -- ---- the groups through Nddff
 
@@ -198,18 +195,12 @@ showRainfall required r = rainfallGroup required (r .is)
 unfoldable pub weatherText : Weather → Group
 weatherText w = bytes "7" ++ fieldText 2 (fieldOf (w .present)) ++ fieldText 1 (fieldOf (w .past)) ++ fieldText 1 (fieldOf (w .past2))
 
-abbrev pub noWeather : Weather → Bool
-noWeather w = isMissing (w .present) && isMissing (w .past) && isMissing (w .past2)
-
 unfoldable pub showWeather : Bool → Weather → List Group
 showWeather required w = cond (noWeather w) (ifRequired required (weatherText w)) (weatherText w ∷ [])
 
 unfoldable pub cloudsText : Clouds → Group
 cloudsText c =
     bytes "8" ++ fieldText 1 (fieldOf (c .amount)) ++ fieldText 1 (fieldOf (c .low)) ++ fieldText 1 (fieldOf (c .middle)) ++ fieldText 1 (fieldOf (c .high))
-
-abbrev pub noClouds : Clouds → Bool
-noClouds c = isMissing (c .amount) && isMissing (c .low) && isMissing (c .middle) && isMissing (c .high)
 
 unfoldable pub showClouds : Clouds → List Group
 showClouds c = cond (noClouds c) [] (cloudsText c ∷ [])

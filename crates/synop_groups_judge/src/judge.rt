@@ -1,8 +1,4 @@
 // What the writer judges of each group before it writes anything: first its ranges (refusal 11), then its agreement (refusal 7).
-use crate::silent::no_fall;
-use crate::silent::no_speed;
-use crate::silent::no_weather;
-use crate::slots::blank_part;
 use crate::slots::name_part;
 use figures::signed;
 use record::surface::Air;
@@ -34,31 +30,10 @@ use synop_groups::sign::slots_fit;
 use text::judge::judge;
 use text::kinds::Judged;
 ghost use mathlib.Core.Path.{_≡_};
-ghost use Rattle.synop_groups.specs.Judge.{between, present, optional};
 ghost use Rattle.synop_groups.specs.Judge.{unitFits, latitudeFits, longitudeFits, sightFits, speedFits, windFits, isStill, windAgrees};
 ghost use Rattle.synop_groups.specs.Judge.{tenthsFit, moistFits, heightFits, changeFits, changeSuits, changeAgrees, amountFits, fallFits, clockFits};
 ghost use Rattle.synop_groups.specs.Judge.{judgeTime, judgeStation, judgeSign, judgePosition, judgeIndicators, judgeWind};
 ghost use Rattle.synop_groups.specs.Judge.{judgeAir, judgeMoisture, judgePressure, judgeLevel, judgeTendency, judgeRainfall, judgeWeather, judgeClouds, judgeClock};
-
-// A number that has to be there.
-fn present_between(n: Number, low: u32, high: u32) -> bool
-    ensures { λ r. ⌜ r ≡ present (between low high) n ⌝ }
-{
-    match n {
-        Number::Missing => false,
-        Number::Is(v) => (low <= v) & (v <= high),
-    }
-}
-
-// A number that may be missing.
-fn optional_between(n: Number, low: u32, high: u32) -> bool
-    ensures { λ r. ⌜ r ≡ optional (between low high) n ⌝ }
-{
-    match n {
-        Number::Missing => true,
-        Number::Is(v) => (low <= v) & (v <= high),
-    }
-}
 
 fn unit_fits(n: Number) -> bool
     ensures { λ r. ⌜ r ≡ unitFits n ⌝ }
@@ -76,7 +51,7 @@ pub fn judge_time(t: Time) -> Judged
     let hour = t.hour;
     let unit = t.unit;
     judge(
-        present_between(day, 1, 31) & present_between(hour, 0, 23) & unit_fits(unit),
+        day.is_between(1, 31) & hour.is_between(0, 23) & unit_fits(unit),
         true,
     )
 }
@@ -84,7 +59,7 @@ pub fn judge_time(t: Time) -> Judged
 pub fn judge_station(n: Number) -> Judged
     ensures { λ r. ⌜ r ≡ judgeStation n ⌝ }
 {
-    judge(present_between(n, 0, 99999), true)
+    judge(n.is_between(0, 99999), true)
 }
 
 pub fn judge_sign(s: CallSign) -> Judged
@@ -93,7 +68,7 @@ pub fn judge_sign(s: CallSign) -> Judged
     let letters = s.letters;
     let length = s.length;
     let name = slots_fit(true, name_part(&letters, length));
-    let blank = slots_fit(false, blank_part(&letters, length));
+    let blank = s.is_blank_from(length);
     judge((3 <= length) & (length <= 9) & name & blank, true)
 }
 
@@ -142,9 +117,9 @@ pub fn judge_indicators(i: Indicators) -> Judged
     let base = i.base;
     let sight = i.sight;
     judge(
-        present_between(rain, 0, 4)
-            & present_between(weather, 1, 7)
-            & optional_between(base, 0, 99999)
+        rain.is_between(0, 4)
+            & weather.is_between(1, 7)
+            & base.is_missing_or_between(0, 99999)
             & sight_fits(sight),
         true,
     )
@@ -164,7 +139,7 @@ fn wind_fits(d: Direction, s: Speed) -> bool
     ensures { λ r. ⌜ r ≡ windFits d s ⌝ }
 {
     match d {
-        Direction::Missing => no_speed(s),
+        Direction::Missing => s.is_missing(),
         Direction::Calm => speed_fits(s),
         Direction::Variable => speed_fits(s),
         Direction::Degrees(d) => (d <= 359) & speed_fits(s),
@@ -199,7 +174,7 @@ pub fn judge_wind(w: Wind) -> Judged
     let d = w.direction;
     let s = w.speed;
     judge(
-        optional_between(cover, 0, 9) & wind_fits(d, s),
+        cover.is_missing_or_between(0, 9) & wind_fits(d, s),
         wind_agrees(d, s),
     )
 }
@@ -241,7 +216,7 @@ pub fn judge_pressure(p: Pressure) -> Judged
     ensures { λ r. ⌜ r ≡ judgePressure p ⌝ }
 {
     let station = p.station;
-    judge(optional_between(station, 1000, 10999), true)
+    judge(station.is_missing_or_between(1000, 10999), true)
 }
 
 fn height_fits(h: Height) -> bool
@@ -315,7 +290,7 @@ fn fall_fits(f: Fall) -> bool
 {
     match f {
         Fall::Missing => true,
-        Fall::Is { amount, period } => amount_fits(amount) & optional_between(period, 0, 9),
+        Fall::Is { amount, period } => amount_fits(amount) & period.is_missing_or_between(0, 9),
     }
 }
 
@@ -323,7 +298,7 @@ pub fn judge_rainfall(forbidden: bool, r: Rainfall) -> Judged
     ensures { λ j. ⌜ j ≡ judgeRainfall forbidden r ⌝ }
 {
     let is = r.is;
-    judge(fall_fits(is), !forbidden | no_fall(is))
+    judge(fall_fits(is), !forbidden | is.is_missing())
 }
 
 pub fn judge_weather(forbidden: bool, w: Weather) -> Judged
@@ -333,10 +308,10 @@ pub fn judge_weather(forbidden: bool, w: Weather) -> Judged
     let past = w.past;
     let past2 = w.past2;
     judge(
-        optional_between(present, 0, 99)
-            & optional_between(past, 0, 9)
-            & optional_between(past2, 0, 9),
-        !forbidden | no_weather(w),
+        present.is_missing_or_between(0, 99)
+            & past.is_missing_or_between(0, 9)
+            & past2.is_missing_or_between(0, 9),
+        !forbidden | w.is_blank(),
     )
 }
 
@@ -348,10 +323,10 @@ pub fn judge_clouds(c: Clouds) -> Judged
     let middle = c.middle;
     let high = c.high;
     judge(
-        optional_between(amount, 0, 9)
-            & optional_between(low, 0, 9)
-            & optional_between(middle, 0, 9)
-            & optional_between(high, 0, 9),
+        amount.is_missing_or_between(0, 9)
+            & low.is_missing_or_between(0, 9)
+            & middle.is_missing_or_between(0, 9)
+            & high.is_missing_or_between(0, 9),
         true,
     )
 }

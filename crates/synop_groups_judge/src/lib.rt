@@ -1,4 +1,3 @@
 // What the writer judges of each group of SYNOP and SHIP before it writes anything.
 pub mod judge;
-pub mod silent;
 pub mod slots;

@@ -37,8 +37,6 @@ use scales::metres::base_figure;
 use scales::metres::land_figure;
 use scales::metres::sea_figure;
 use scales::rain::rain_figure;
-use synop_groups_judge::silent::no_clouds;
-use synop_groups_judge::silent::no_weather;
 use synop_groups_judge::slots::name_part;
 use text::write::open_group;
 use text::write::put_if;
@@ -391,7 +389,7 @@ fn put_weather_group(out: &mut [u8], at: usize, w: Weather) -> usize
 pub fn put_weather(out: &mut [u8], at: usize, required: bool, w: Weather) -> usize
     ensures { λ r. ⌜ Put (now (out .entry)) at (written at (showWeather required w)) r (now (out .exit)) ⌝ }
 {
-    if required | !no_weather(w) {
+    if required | !w.is_blank() {
         put_weather_group(out, at, w)
     } else {
         at
@@ -417,7 +415,7 @@ fn put_clouds_group(out: &mut [u8], at: usize, c: Clouds) -> usize
 pub fn put_clouds(out: &mut [u8], at: usize, c: Clouds) -> usize
     ensures { λ r. ⌜ Put (now (out .entry)) at (written at (showClouds c)) r (now (out .exit)) ⌝ }
 {
-    if no_clouds(c) {
+    if c.is_blank() {
         at
     } else {
         put_clouds_group(out, at, c)

@@ -25,15 +25,16 @@ use Rattle.record.specs.declared.surface.Synop.{Synop}
 use Rattle.record.specs.Blank.{blankSurface}
 use Rattle.record.specs.Set.{setNil, setSurface}
 use Rattle.text.specs.declared.kinds.Judged.the-variants as judged
-use Rattle.synop_groups.specs.Shows.{isMissing}
-use Rattle.synop_groups.proofs.RoundTripFields.{is-missing}
+use Rattle.record.specs.Missing.{isMissing}
+use Rattle.record.proofs.Blanks.{number-blank}
+use Rattle.record.specs.SilentSurface.{noSign, noPosition, noSurface}
+use Rattle.record.proofs.SurfaceBlanks.{sign-blank, position-blank, surface-blank}
 use Rattle.synop_groups.specs.Judge.{judgeIndicators, judgeWind, windFits, fallFits}
 use Rattle.synop_groups.proofs.RoundTripHead.{wind-fine, indicators-again, indicators-classed, wind-again, wind-classed}
 use Rattle.synop_row.specs.Row.{needsOf, row}
 use Rattle.synop_section.specs.Answer.{section, begun, accepted}
 use Rattle.synop.specs.Read.{posts, walk, fromFirst, readOf}
-use Rattle.synop.specs.Write.{noSign, noPosition, noSurface, foreignBlank, judgeSite, judgeSection, judgeSurface, judgeOf, siteGroups, surfaceGroups, groupsOf, canonicalOf, classedOf}
-use Rattle.synop_laws.proofs.Blanks.{sign-blank, position-blank, surface-blank}
+use Rattle.synop.specs.Write.{foreignBlank, judgeSite, judgeSection, judgeSurface, judgeOf, siteGroups, surfaceGroups, groupsOf, canonicalOf, classedOf}
 use Rattle.synop_laws.proofs.Sections.{classedSurface, section-back, section-fall, section-sizes, section-again, section-classed}
 use Rattle.synop_laws.proofs.Heads.{shown, putPosts, walk-stood, sitePosts, surfacePosts, posts-are, site-stood, surface-stood, site-sizes, surface-sizes}
 
@@ -120,7 +121,7 @@ site-put : (ship : Bool) (r : Synop) → r .ship ≡ ship → length (r .site .s
 site-put false r is nine e =
     let f = foreign-land r e is in
     rw (is, sign-blank (r .site .sign) nine (f .0), position-blank (r .site .position) (f .1))
-site-put true r is nine e = rw (is, is-missing (r .site .station) (foreign-ship r e is .0))
+site-put true r is nine e = rw (is, number-blank (r .site .station) (foreign-ship r e is .0))
 
 -- ---- the report as a whole
 

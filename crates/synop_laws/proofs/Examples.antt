@@ -21,7 +21,8 @@ use Rattle.synop_groups.specs.Shows.{showTime, showStation, showSign, showLatit
 use Rattle.synop_section.specs.Answer.{section}
 use Rattle.synop.specs.Read.{withHead, signOf, posts, walk, fromFirst, readOf}
 use Rattle.synop_row.specs.Row.{needsOf, withSaid, row, stopWords}
-use Rattle.synop.specs.Write.{noSurface, foreignBlank, judgeSite, judgeSection, judgeSurface, judgeOf, siteGroups, surfaceGroups, groupsOf, canonicalOf}
+use Rattle.synop.specs.Write.{foreignBlank, judgeSite, judgeSection, judgeSurface, judgeOf, siteGroups, surfaceGroups, groupsOf, canonicalOf}
+use Rattle.record.specs.SilentSurface.{noSurface}
 use Rattle.scales.specs.Scale.{run as classes}
 use Rattle.text.specs.Refusals.{numberOf}
 use Rattle.text.specs.Example.{Example, reads, refuses}

@@ -1,5 +1,4 @@
 -- The round trip of a report, what it promises, and worked examples.
-pub mod Blanks
 pub mod Sections
 pub mod Heads
 pub mod Canonical

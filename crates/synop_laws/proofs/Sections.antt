@@ -29,7 +29,8 @@ use Rattle.synop_groups.specs.declared.kinds.Said.{Said}
 use Rattle.text.specs.declared.kinds.Judged.the-variants as judged
 use Rattle.synop_groups.specs.Classes.{classIndicators, classWind, classRainfall}
 use Rattle.synop_groups.specs.Shows.{isGale, speedGroup, showSpeed}
-use Rattle.synop_groups.specs.Judge.{fallFits, noFall, judgeWind, judgeAir, judgeMoisture, judgePressure, judgeLevel, judgeTendency, judgeRainfall, judgeWeather, judgeClouds, judgeClock}
+use Rattle.synop_groups.specs.Judge.{fallFits, judgeWind, judgeAir, judgeMoisture, judgePressure, judgeLevel, judgeTendency, judgeRainfall, judgeWeather, judgeClouds, judgeClock}
+use Rattle.record.specs.SilentSurface.{noFall}
 use Rattle.synop_groups.specs.Classes.{speedInTwo, windInTwo}
 use Rattle.synop_groups.proofs.RoundTrip.{Back, none, one, Each, back-shaped, meantSpeed, speed-back, air-back, moisture-back, moisture-covered, pressure-back, level-back, tendency-back, rainfall-back, weather-back, clouds-back, clock-back, rainfall-again, rainfall-classed}
 use Rattle.synop_row.specs.declared.kinds.Needs.{Needs}

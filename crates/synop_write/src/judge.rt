@@ -1,18 +1,7 @@
 // What the writer judges of a record before it writes anything: foreign fields first, then the others in written order.
-use record::surface::CallSign;
-use record::surface::Change;
-use record::surface::Height;
-use record::surface::Indicators;
-use record::surface::Moist;
-use record::surface::Observed;
-use record::surface::Position;
-use record::surface::Sight;
 use record::surface::Site;
 use record::surface::Surface;
 use record::surface::Synop;
-use record::values::Direction;
-use record::values::Tenths;
-use synop_groups::sign::slots_fit;
 use synop_groups_judge::judge::judge_air;
 use synop_groups_judge::judge::judge_clock;
 use synop_groups_judge::judge::judge_clouds;
@@ -28,11 +17,6 @@ use synop_groups_judge::judge::judge_tendency;
 use synop_groups_judge::judge::judge_time;
 use synop_groups_judge::judge::judge_weather;
 use synop_groups_judge::judge::judge_wind;
-use synop_groups_judge::silent::is_missing;
-use synop_groups_judge::silent::no_clouds;
-use synop_groups_judge::silent::no_fall;
-use synop_groups_judge::silent::no_speed;
-use synop_groups_judge::silent::no_weather;
 use synop_row::kinds::Needs;
 use synop_row::row::needs_of;
 use text::judge::and_then;
@@ -41,143 +25,9 @@ use text::kinds::Refusal;
 ghost use mathlib.Core.Path.{_≡_};
 ghost use mathlib.Core.Bool.{cond, not, _&&_};
 ghost use Rattle.text.specs.declared.kinds.Judged.the-variants as judged;
-ghost use Rattle.synop_groups.specs.Shows.{isMissing};
-ghost use Rattle.synop.specs.Write.{noTenths, noSign, noPosition, noSight, noDirection, noMoist, noHeight, noChange, noClock, noSurface};
+ghost use Rattle.record.specs.Missing.{isMissing};
+ghost use Rattle.record.specs.SilentSurface.{noSign, noPosition};
 ghost use Rattle.synop.specs.Write.{foreignBlank, foreign, judgeSite, judgeSection, judgeSurface, judgeOf};
-
-fn no_tenths(t: Tenths) -> bool
-    ensures { λ r. ⌜ r ≡ noTenths t ⌝ }
-{
-    match t {
-        Tenths::Missing => true,
-        Tenths::Is(_) => false,
-    }
-}
-
-pub fn no_sign(s: CallSign) -> bool
-    ensures { λ r. ⌜ r ≡ noSign s ⌝ }
-{
-    let letters = s.letters;
-    let length = s.length;
-    let blank = slots_fit(false, &letters);
-    (length == 0) & blank
-}
-
-pub fn no_position(p: Position) -> bool
-    ensures { λ r. ⌜ r ≡ noPosition p ⌝ }
-{
-    let latitude = p.latitude;
-    let longitude = p.longitude;
-    no_tenths(latitude) & no_tenths(longitude)
-}
-
-fn no_sight(s: Sight) -> bool
-    ensures { λ r. ⌜ r ≡ noSight s ⌝ }
-{
-    match s {
-        Sight::Missing => true,
-        Sight::Land(_) => false,
-        Sight::Sea(_) => false,
-    }
-}
-
-fn no_indicators(i: Indicators) -> bool
-    ensures { λ r. ⌜ r ≡ (isMissing (i .rain) && isMissing (i .weather) && isMissing (i .base) && noSight (i .sight)) ⌝ }
-{
-    let rain = i.rain;
-    let weather = i.weather;
-    let base = i.base;
-    let sight = i.sight;
-    is_missing(rain) & is_missing(weather) & is_missing(base) & no_sight(sight)
-}
-
-fn no_direction(d: Direction) -> bool
-    ensures { λ r. ⌜ r ≡ noDirection d ⌝ }
-{
-    match d {
-        Direction::Missing => true,
-        Direction::Calm => false,
-        Direction::Variable => false,
-        Direction::Degrees(_) => false,
-    }
-}
-
-fn no_moist(m: Moist) -> bool
-    ensures { λ r. ⌜ r ≡ noMoist m ⌝ }
-{
-    match m {
-        Moist::Missing => true,
-        Moist::DewPoint(_) => false,
-        Moist::Humidity(_) => false,
-    }
-}
-
-fn no_height(h: Height) -> bool
-    ensures { λ r. ⌜ r ≡ noHeight h ⌝ }
-{
-    match h {
-        Height::Missing => true,
-        Height::SeaLevel(_) => false,
-        Height::Surface {
-            level: _,
-            height: _,
-        } => false,
-    }
-}
-
-fn no_change(c: Change) -> bool
-    ensures { λ r. ⌜ r ≡ noChange c ⌝ }
-{
-    match c {
-        Change::Missing => true,
-        Change::Is {
-            tendency: _,
-            change: _,
-        } => false,
-    }
-}
-
-fn no_clock(o: Observed) -> bool
-    ensures { λ r. ⌜ r ≡ noClock o ⌝ }
-{
-    match o {
-        Observed::Missing => true,
-        Observed::At { hour: _, minute: _ } => false,
-    }
-}
-
-pub fn no_surface(s: Surface) -> bool
-    ensures { λ r. ⌜ r ≡ noSurface s ⌝ }
-{
-    let indicators = s.indicators;
-    let wind = s.wind;
-    let cover = wind.cover;
-    let direction = wind.direction;
-    let speed = wind.speed;
-    let air = s.air;
-    let temperature = air.temperature;
-    let moisture = s.moisture;
-    let moist = moisture.is;
-    let pressure = s.pressure;
-    let station = pressure.station;
-    let level = s.level;
-    let height = level.is;
-    let tendency = s.tendency;
-    let change = tendency.is;
-    let rainfall = s.rainfall;
-    let fall = rainfall.is;
-    let weather = s.weather;
-    let clouds = s.clouds;
-    let clock = s.clock;
-    let observed = clock.is;
-    let first = no_indicators(indicators)
-        & is_missing(cover)
-        & no_direction(direction)
-        & no_speed(speed);
-    let second = first & no_tenths(temperature) & no_moist(moist) & is_missing(station);
-    let third = second & no_height(height) & no_change(change) & no_fall(fall);
-    third & no_weather(weather) & no_clouds(clouds) & no_clock(observed)
-}
 
 // A land report has no call sign and no position, a ship no station number and no NIL.
 fn site_suits(ship: bool, site: Site) -> bool
@@ -188,9 +38,9 @@ fn site_suits(ship: bool, site: Site) -> bool
     let sign = site.sign;
     let position = site.position;
     if ship {
-        is_missing(station) & !nil
+        station.is_missing() & !nil
     } else {
-        no_sign(sign) & no_position(position)
+        sign.is_blank() & position.is_blank()
     }
 }
 
@@ -202,7 +52,7 @@ fn foreign_blank(r: Synop) -> bool
     let site = r.site;
     let nil = site.nil;
     let surface = r.surface;
-    site_suits(ship, site) & (!nil | no_surface(surface))
+    site_suits(ship, site) & (!nil | surface.is_blank())
 }
 
 fn judge_foreign(r: Synop) -> Judged

@@ -25,7 +25,8 @@ use Rattle.elements.specs.Wind.{windBy, readWind, readVariation, showWind, show
 use Rattle.taf.specs.Read.{openedBy, withPart, bodyOf, fromFirst, readOf}
 use Rattle.aerodrome_groups.specs.Head.{stationOf, readTime, showTime, judgeStation, judgeTime}
 use Rattle.taf_row.specs.Row.{readPeriod, showPeriod, readForecast, row, changeWords}
-use Rattle.taf.specs.Write.{judgePart, judgeChange, noPart, judgeChanges, foreignBlank, judgeOf, showChange, groupsOf, canonicalOf, classChange, classedOf}
+use Rattle.taf.specs.Write.{judgePart, judgeChange, judgeChanges, foreignBlank, judgeOf, showChange, groupsOf, canonicalOf, classChange, classedOf}
+use Rattle.record.specs.SilentAerodrome.{noElements}
 use Rattle.text.specs.Refusals.{numberOf}
 use Rattle.text.specs.Example.{Example, reads, refuses}
 use Rattle.text.specs.declared.kinds.Verdict.the-variants as verdict
@@ -56,5 +57,5 @@ examples =
     ∷ []
 
 pub worked : map (λ (e : Example). said (readOf (e .text))) examples ≡ map (λ (e : Example). e .answer) examples
-unfolding stationOf readPeriod showPeriod showTime showWeathers judgeWeathers judgeStation judgeTime judgePart judgeChange noPart judgeChanges foreignBlank judgeOf showChange groupsOf canonicalOf classChange classedOf figures scan fieldAt numberText slashes fieldText splice after signedOf lead lastEnd groupsIn groupsFrom cutAt pastParting nextOf partOf spaced parted join placed written equalsAt bytesOf junkFrom tailOf trimmedEnd trimmedOf low high fits hasPattern hasAny clash clashEach allApart leading split partsOf begins valueOf pickOf scanParts answered scanOf hasShape filled printParts printOf spellings unled unledEach clear printable sound shapesApart step run seek anywhere findOf owed wholeDegrees roundedDegrees degreesOf degreesReading signedReading land sea base visibility runway cloud sameRange metresFigure metresReading rangeFigure rangeReading pressureFigure pressureReading roundedPressure rainFigure rainReading roundedRain rainRank directionFigure directionReading roundedDirection classes classIn lengthIn lastIn readIn rising unlike distinct readLayer readAlone readSky showLayer showSky judgeSky readVisibility showVisibility judgeVisibility codesOf areCodes signedCodes hasWeather hasRecent saidWeather readWeather readRecent showWeather showRecent judgeWeather judgeRecent windBy readWind readVariation showWind showVariation judgeWind judgeVariation openedBy withPart bodyOf fromFirst readOf readTime readForecast row changeWords
+unfolding stationOf readPeriod showPeriod showTime showWeathers judgeWeathers judgeStation judgeTime judgePart judgeChange noElements judgeChanges foreignBlank judgeOf showChange groupsOf canonicalOf classChange classedOf figures scan fieldAt numberText slashes fieldText splice after signedOf lead lastEnd groupsIn groupsFrom cutAt pastParting nextOf partOf spaced parted join placed written equalsAt bytesOf junkFrom tailOf trimmedEnd trimmedOf low high fits hasPattern hasAny clash clashEach allApart leading split partsOf begins valueOf pickOf scanParts answered scanOf hasShape filled printParts printOf spellings unled unledEach clear printable sound shapesApart step run seek anywhere findOf owed wholeDegrees roundedDegrees degreesOf degreesReading signedReading land sea base visibility runway cloud sameRange metresFigure metresReading rangeFigure rangeReading pressureFigure pressureReading roundedPressure rainFigure rainReading roundedRain rainRank directionFigure directionReading roundedDirection classes classIn lengthIn lastIn readIn rising unlike distinct readLayer readAlone readSky showLayer showSky judgeSky readVisibility showVisibility judgeVisibility codesOf areCodes signedCodes hasWeather hasRecent saidWeather readWeather readRecent showWeather showRecent judgeWeather judgeRecent windBy readWind readVariation showWind showVariation judgeWind judgeVariation openedBy withPart bodyOf fromFirst readOf readTime readForecast row changeWords
 worked = refl

@@ -6,7 +6,7 @@ use mathlib.Core.List.{List, [], _∷_, _++_, map}
 use lib.ListN.{take, drop}
 use lib.Dec.{leb, eqb}
 use Rattle.figures.specs.Quote.{bytes}
-use Rattle.figures.specs.Figures.{numberText, fieldText}
+use Rattle.figures.specs.Figures.{numberText, fieldText, every}
 use Rattle.text.specs.declared.kinds.Judged.{Judged}
 use Rattle.text.specs.declared.kinds.Judged.the-variants as judged
 use Rattle.text.specs.declared.kinds.Written.{Written}
@@ -23,12 +23,13 @@ use Rattle.record.specs.declared.aerodrome.Change.{Change}
 use Rattle.record.specs.declared.aerodrome.Changes.{Changes}
 use Rattle.record.specs.declared.aerodrome.Taf.{Taf}
 use Rattle.record.specs.Taf.{blankInstant, blankLeg}
-use Rattle.elements.specs.Judge.{isMissing}
-use Rattle.elements.specs.Wind.{judgeWind, isBlankWind}
-use Rattle.elements.specs.Visibility.{isCavok, judgeVisibility, noView}
-use Rattle.elements.specs.Weather.{judgeWeather, threeFit, judgeWeathers, noWeathers}
-use Rattle.elements.specs.Sky.{judgeSky, noSky}
-use Rattle.aerodrome_groups.specs.Head.{fieldOf, present, isDay, isHour, isMinute, judgeStation, judgeTime}
+use Rattle.record.specs.Missing.{isMissing, present}
+use Rattle.record.specs.SilentAerodrome.{isBlankWind, noView, noInstant, noPeriod, noPart, isBlankChange, noChanges}
+use Rattle.elements.specs.Wind.{judgeWind}
+use Rattle.elements.specs.Visibility.{isCavok, judgeVisibility}
+use Rattle.elements.specs.Weather.{judgeWeather, threeFit, judgeWeathers}
+use Rattle.elements.specs.Sky.{judgeSky}
+use Rattle.aerodrome_groups.specs.Head.{fieldOf, isDay, isHour, isMinute, judgeStation, judgeTime}
 use Rattle.taf_row.specs.declared.kinds.Part.{Part}
 use Rattle.taf_row.specs.declared.kinds.Part.the-variants as part
 use Rattle.taf_row.specs.Row.{isMain, isWhole, isEndHour, row}
@@ -63,14 +64,8 @@ judgePart w r =
 abbrev pub isHourOf : (ℕ → Bool) → Instant → Bool
 isHourOf hour t = present isDay (t .day) && present hour (t .hour) && isMissing (t .minute)
 
-abbrev pub isNoInstant : Instant → Bool
-isNoInstant t = isMissing (t .day) && isMissing (t .hour) && isMissing (t .minute)
-
 abbrev pub periodFits : Period → Bool
 periodFits p = isHourOf isHour (p .from) && isHourOf isEndHour (p .to)
-
-abbrev pub isNoPeriod : Period → Bool
-isNoPeriod p = isNoInstant (p .from) && isNoInstant (p .to)
 
 abbrev pub instantFits : Instant → Bool
 instantFits t = present isDay (t .day) && present isHour (t .hour) && present isMinute (t .minute)
@@ -85,7 +80,7 @@ openingFits opening.Becoming p = periodFits p
 openingFits opening.Temporary p = periodFits p
 openingFits (opening.Probable n) p = isChance n && periodFits p
 openingFits (opening.ProbablyTemporary n) p = isChance n && periodFits p
-openingFits opening.From p = instantFits (p .from) && isNoInstant (p .to)
+openingFits opening.From p = instantFits (p .from) && noInstant (p .to)
 
 abbrev pub partOf : Opening → Part
 partOf opening.None = part.Changing
@@ -119,38 +114,14 @@ abbrev pub judgeEach : List Change → Judged
 judgeEach [] = judged.Fine
 judgeEach (c ∷ cs) = andThen (judgeChange c) (judgeEach cs)
 
--- ---- blanks
-
--- nothing is said of wind, visibility, weather and sky
-unfoldable pub noPart : Leg → Bool
-noPart r = isBlankWind (r .wind) && noView (r .visibility .is) && noWeathers (r .weathers) && not (r .nsw) && noSky (r .sky)
-
-abbrev pub noOpening : Opening → Bool
-noOpening opening.None = true
-noOpening opening.Becoming = false
-noOpening opening.Temporary = false
-noOpening (opening.Probable n) = false
-noOpening (opening.ProbablyTemporary n) = false
-noOpening opening.From = false
-
-abbrev pub isBlankChange : Change → Bool
-isBlankChange c = noOpening (c .opening) && isNoPeriod (c .period) && noPart (legOf c)
-
-abbrev pub allBlankChanges : List Change → Bool
-allBlankChanges [] = true
-allBlankChanges (c ∷ cs) = isBlankChange c && allBlankChanges cs
-
 unfoldable pub judgeChanges : Changes → Judged
-judgeChanges cs = andThen (judge (leb (cs .count) 16 && allBlankChanges (drop (cs .count) (cs .items))) true) (judgeEach (take (cs .count) (cs .items)))
-
-abbrev pub noChanges : Changes → Bool
-noChanges cs = eqb (cs .count) 0 && allBlankChanges (cs .items)
+judgeChanges cs = andThen (judge (leb (cs .count) 16 && every isBlankChange (drop (cs .count) (cs .items))) true) (judgeEach (take (cs .count) (cs .items)))
 
 -- ---- foreign fields: a NIL report has nothing after its time, a cancelled one nothing after its period
 
 unfoldable pub foreignBlank : Taf → Bool
 foreignBlank t =
-    (not (t .leg .nil) || (isNoPeriod (t .leg .period) && not (t .leg .cancelled)))
+    (not (t .leg .nil) || (noPeriod (t .leg .period) && not (t .leg .cancelled)))
     && (not (t .leg .nil || t .leg .cancelled) || (noPart (t .leg) && noChanges (t .changes)))
 
 -- ---- "The writer judges foreign fields first, then the others in written order, 11 before 7 at each"

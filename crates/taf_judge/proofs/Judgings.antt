@@ -4,7 +4,7 @@ use Prim.Native.Nat.{ℕ, _+_, _≤_, _<_}
 use native.Mathlib.Numerals.{add-one}
 use native.Mathlib.Omega.{arith}
 use mathlib.Core.Path.{_≡_, ap}
-use mathlib.Core.Bool.{Bool, true, false, cond}
+use mathlib.Core.Bool.{Bool, false, cond}
 use mathlib.Core.List.{List}
 use lib.ListN.{length, getD, take, drop, drop-of-length-le}
 use lib.Seq.{drop-cons, getD-take, length-take-le}
@@ -13,34 +13,23 @@ use Rattle.text.specs.declared.kinds.Judged.the-variants as judged
 use Rattle.text.specs.declared.kinds.Refusal.{Refusal}
 use Rattle.text.specs.Judge.{andThen}
 use Rattle.record.specs.declared.aerodrome.Change.{Change}
-use Rattle.taf.specs.Write.{isBlankChange, allBlankChanges, judgeChange, judgeEach}
+use Rattle.taf.specs.Write.{judgeChange, judgeEach}
 
--- one slot more, a slot at fault, and the end
-module _ (cs : List Change) (i : ℕ) (d : Change) where
-  pub blank-next : i < length cs → isBlankChange (getD cs i d) ≡ true → allBlankChanges (drop i cs) ≡ allBlankChanges (drop (i + 1) cs)
-  blank-next h e = rw (add-one, drop-cons cs i d h, e)
+-- one slot more, a slot at fault, and the end, of the first `n` slots
+module _ (cs : List Change) (i : ℕ) (d : Change) (n : ℕ) (h : i < n) (k : n ≤ length cs) where
+  abbrev counted : List Change
+  counted = take n cs
 
-  pub blank-stop : i < length cs → isBlankChange (getD cs i d) ≡ false → allBlankChanges (drop i cs) ≡ false
-  blank-stop h e = rw (drop-cons cs i d h, e)
+  here : i < length counted
+  here = omega (arith, length-take-le n cs k)
 
-  -- of the first `n` slots
-  module _ (n : ℕ) (h : i < n) (k : n ≤ length cs) where
-    abbrev counted : List Change
-    counted = take n cs
+  pub each-next : judgeChange (getD cs i d) ≡ judged.Fine → judgeEach (drop i counted) ≡ judgeEach (drop (i + 1) counted)
+  each-next e = rw (add-one, drop-cons counted i d here, getD-take n cs i d h, e)
 
-    here : i < length counted
-    here = omega (arith, length-take-le n cs k)
-
-    pub each-next : judgeChange (getD cs i d) ≡ judged.Fine → judgeEach (drop i counted) ≡ judgeEach (drop (i + 1) counted)
-    each-next e = rw (add-one, drop-cons counted i d here, getD-take n cs i d h, e)
-
-    pub each-stop : {f : Refusal} → judgeChange (getD cs i d) ≡ judged.Refused f → judgeEach (drop i counted) ≡ judged.Refused f
-    each-stop e = rw (drop-cons counted i d here, getD-take n cs i d h, e)
+  pub each-stop : {f : Refusal} → judgeChange (getD cs i d) ≡ judged.Refused f → judgeEach (drop i counted) ≡ judged.Refused f
+  each-stop e = rw (drop-cons counted i d here, getD-take n cs i d h, e)
 
 module _ (cs : List Change) (i : ℕ) where
-  pub blank-end : length cs ≤ i → allBlankChanges (drop i cs) ≡ true
-  blank-end h = ap allBlankChanges (drop-of-length-le cs {i = i} h)
-
   pub each-end : length cs ≤ i → judgeEach (drop i cs) ≡ judged.Fine
   each-end h = ap judgeEach (drop-of-length-le cs {i = i} h)
 

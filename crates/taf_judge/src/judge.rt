@@ -1,24 +1,17 @@
 // What the writer judges of a TAF before it writes anything: that a NIL report has nothing after its time and a cancelled one nothing after its
 // period, then each group in written order.
-use crate::blank::blank_from;
-use crate::blank::leg_of;
-use crate::blank::no_instant;
-use crate::blank::no_part;
-use crate::blank::no_period;
-use aerodrome_groups::judge::is_day;
-use aerodrome_groups::judge::is_up_to;
 use aerodrome_groups::judge::judge_station;
 use aerodrome_groups::judge::judge_time;
-use elements::blank::no_view;
-use elements::blank::no_wind;
-use elements::judge::is_missing;
 use record::aerodrome::Change;
 use record::aerodrome::Changes;
+use record::aerodrome::Correction;
 use record::aerodrome::Instant;
 use record::aerodrome::Leg;
 use record::aerodrome::Opening;
 use record::aerodrome::Period;
 use record::aerodrome::Taf;
+use record::blank_aerodrome::blank_instant;
+use record::blank_aerodrome::blank_station;
 use sky::judge::judge_sky;
 use taf_row::kinds::Part;
 use taf_row::row::is_main;
@@ -40,7 +33,7 @@ ghost use lib.Dec.{leb};
 ghost use Rattle.text.specs.declared.kinds.Judged.the-variants as judged;
 ghost use Rattle.text.specs.Judge.{judge, andThen};
 ghost use Rattle.taf_row.specs.declared.kinds.Part.the-variants as part;
-ghost use Rattle.taf.specs.Write.{unlessAbsent, nswAgrees, judgeForecast, judgePart, isHourOf, periodFits, instantFits, openingFits, partOf, judgeChange, judgeEach, judgeChanges, noChanges, foreignBlank, judgeOf};
+ghost use Rattle.taf.specs.Write.{unlessAbsent, nswAgrees, judgeForecast, judgePart, isHourOf, periodFits, instantFits, openingFits, partOf, judgeChange, judgeEach, judgeChanges, foreignBlank, judgeOf, legOf};
 
 // ---- a part
 
@@ -87,8 +80,8 @@ fn judge_part(w: Part, r: Leg) -> Judged
     let told = judge_pair(is_main(w) | has_element(r), true);
     let from_sky = and_then(judge_sky(true, cavok, sky), told);
     let from_weather = and_then(judge_forecast(w, r), from_sky);
-    let seen = unless_absent(w, no_view(view), judge_visibility(true, visibility));
-    let blown = unless_absent(w, no_wind(wind), judge_wind(true, wind));
+    let seen = unless_absent(w, view.is_missing(), judge_visibility(true, visibility));
+    let blown = unless_absent(w, wind.is_blank(), judge_wind(true, wind));
     and_then(blown, and_then(seen, from_weather))
 }
 
@@ -101,7 +94,7 @@ fn is_hour(t: Instant, last: u32) -> bool
     let day = t.day;
     let hour = t.hour;
     let minute = t.minute;
-    is_day(day) & is_up_to(hour, last) & is_missing(minute)
+    day.is_between(1, 31) & hour.is_up_to(last) & minute.is_missing()
 }
 
 fn period_fits(p: Period) -> bool
@@ -118,7 +111,7 @@ fn instant_fits(t: Instant) -> bool
     let day = t.day;
     let hour = t.hour;
     let minute = t.minute;
-    is_day(day) & is_up_to(hour, 23) & is_up_to(minute, 59)
+    day.is_between(1, 31) & hour.is_up_to(23) & minute.is_up_to(59)
 }
 
 fn opening_fits(o: Opening, p: Period) -> bool
@@ -132,7 +125,7 @@ fn opening_fits(o: Opening, p: Period) -> bool
         Opening::Temporary => period_fits(p),
         Opening::Probable(n) => ((n == 30) | (n == 40)) & period_fits(p),
         Opening::ProbablyTemporary(n) => ((n == 30) | (n == 40)) & period_fits(p),
-        Opening::From => instant_fits(from) & no_instant(to),
+        Opening::From => instant_fits(from) & to.is_blank(),
     }
 }
 
@@ -150,6 +143,34 @@ pub fn part_of(o: Opening) -> Part
 }
 
 // ---- changes
+
+// A change group's part, its head blank.
+pub fn leg_of(c: Change) -> Leg
+    ensures { λ r. ⌜ r ≡ legOf c ⌝ }
+{
+    let correction = Correction::None;
+    let period = c.period;
+    let wind = c.wind;
+    let visibility = c.visibility;
+    let weathers = c.weathers;
+    let nsw = c.nsw;
+    let sky = c.sky;
+    let station = blank_station();
+    let time = blank_instant();
+    Leg {
+        correction,
+        station,
+        time,
+        nil: false,
+        period,
+        cancelled: false,
+        wind,
+        visibility,
+        weathers,
+        nsw,
+        sky,
+    }
+}
 
 fn judge_change(c: Change) -> Judged
     ensures { λ r. ⌜ r ≡ judgeChange c ⌝ }
@@ -182,18 +203,11 @@ fn judge_changes(cs: Changes) -> Judged
     let items = cs.items;
     let count = cs.count;
     if count <= 16 {
-        let past = judge_pair(blank_from(items, count), true);
+        let past = judge_pair(cs.is_blank_from(count), true);
         and_then(past, judge_each(items, count))
     } else {
         judge_pair(false, true)
     }
-}
-
-pub fn no_changes(cs: Changes) -> bool
-    ensures { λ r. ⌜ r ≡ noChanges cs ⌝ }
-{
-    let items = cs.items;
-    (cs.count == 0) & blank_from(items, 0)
 }
 
 // ---- the whole
@@ -207,8 +221,8 @@ fn foreign_blank(t: Taf) -> bool
     let nil = leg.nil;
     let cancelled = leg.cancelled;
     let changes = t.changes;
-    let timed = !nil | (no_period(period) & !cancelled);
-    timed & (!(nil | cancelled) | (no_part(leg) & no_changes(changes)))
+    let timed = !nil | (period.is_blank() & !cancelled);
+    timed & (!(nil | cancelled) | (leg.has_no_part() & changes.is_blank()))
 }
 
 fn judge_main(r: Leg) -> Judged

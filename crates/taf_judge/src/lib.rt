@@ -1,3 +1,2 @@
 // The writer of TAF: a record judged before it is written.
-pub mod blank;
 pub mod judge;

@@ -27,12 +27,12 @@ use Rattle.taf_laws.proofs.Parts.{Fair, fair, fair-part, over-bare, kep
 use Rattle.taf_laws.proofs.Changes.{Listed, listed, none-over, main-room, each-sizes}
 use Rattle.taf_laws.proofs.Reports.{pieces-back}
 use Rattle.taf_laws.proofs.Classes.{main-classed, written-classed, part-judged, each-again, each-judged}
-pub use Rattle.taf_laws.proofs.Blanks.{LegArrays, EachArrays, Arrays}
+use Rattle.record.specs.Arrays.{TafArrays}
 
 -- ---- how long it is
 
 -- the main part and sixteen changes, PROB30 TEMPO each
-report-sizes : (t : Taf) → Arrays t → judgeOf t ≡ judged.Fine → Sizes 1937 (groupsOf t)
+report-sizes : (t : Taf) → TafArrays t → judgeOf t ≡ judged.Fine → Sizes 1937 (groupsOf t)
 unfolding groupsOf
 report-sizes t arrays e =
     let f = fair t e in
@@ -48,11 +48,11 @@ unfolding groupsOf row
 some-groups t = omega arith
 
 -- The groups of a record can be joined and cut, and hold only bytes that a text may hold.
-pub groups-sizes : (t : Taf) → Arrays t → judgeOf t ≡ judged.Fine → Sizes 2048 (groupsOf t)
+pub groups-sizes : (t : Taf) → TafArrays t → judgeOf t ≡ judged.Fine → Sizes 2048 (groupsOf t)
 groups-sizes t arrays e = sizes-more (omega arith) (report-sizes t arrays e)
 
 -- HOW LONG THE CANONICAL TEXT IS, at most.
-pub length-canonical : (t : Taf) → Arrays t → judgeOf t ≡ judged.Fine → length (canonicalOf t) ≤ 1937
+pub length-canonical : (t : Taf) → TafArrays t → judgeOf t ≡ judged.Fine → length (canonicalOf t) ≤ 1937
 unfolding canonicalOf
 length-canonical t arrays e = go (groupsOf t) (some-groups t) (report-sizes t arrays e .short)
   where
@@ -63,7 +63,7 @@ length-canonical t arrays e = go (groupsOf t) (some-groups t) (report-sizes t ar
 -- ---- read back
 
 -- THE CANONICAL TEXT OF A RECORD IS READ BACK, to its end, as the record's classes.
-pub read-canonical : (t : Taf) → Arrays t → judgeOf t ≡ judged.Fine → readOf (canonicalOf t) ≡ accepted (length (canonicalOf t)) (classedOf t)
+pub read-canonical : (t : Taf) → TafArrays t → judgeOf t ≡ judged.Fine → readOf (canonicalOf t) ≡ accepted (length (canonicalOf t)) (classedOf t)
 unfolding readOf canonicalOf
 read-canonical t arrays e =
     let s = groups-sizes t arrays e in
@@ -77,7 +77,7 @@ read-canonical t arrays e =
 -- ---- the record that is read back
 
 -- NIL or cancelled it is as it was
-pub over-classed : (t : Taf) → Arrays t → Fair t → (t .leg .nil || t .leg .cancelled) ≡ true → classedOf t ≡ t
+pub over-classed : (t : Taf) → TafArrays t → Fair t → (t .leg .nil || t .leg .cancelled) ≡ true → classedOf t ≡ t
 unfolding row classedOf
 over-classed t arrays f o =
     let b = over-bare t arrays f o in
@@ -120,7 +120,7 @@ live-judged t f l n c =
     ) (each-judged (its t l) (l .fine))
 
 -- over, or with its changes
-module _ (t : Taf) (arrays : Arrays t) (e : judgeOf t ≡ judged.Fine) (P : Taf → Type 0) (same : P t)
+module _ (t : Taf) (arrays : TafArrays t) (e : judgeOf t ≡ judged.Fine) (P : Taf → Type 0) (same : P t)
     (live : t .leg .nil ≡ false → t .leg .cancelled ≡ false → P (classedOf t)) where
   either-way : P (classedOf t)
   either-way = go (t .leg .nil || t .leg .cancelled) refl
@@ -130,11 +130,11 @@ module _ (t : Taf) (arrays : Arrays t) (e : judgeOf t ≡ judged.Fine) (P : Taf 
       go false o = let n = neither (t .leg .nil) (t .leg .cancelled) (rw o) in live (n .0) (n .1)
 
 -- THE RECORD THAT IS READ BACK IS WRITTEN AS THE SAME TEXT.
-pub written-again : (t : Taf) → Arrays t → judgeOf t ≡ judged.Fine → canonicalOf (classedOf t) ≡ canonicalOf t
+pub written-again : (t : Taf) → TafArrays t → judgeOf t ≡ judged.Fine → canonicalOf (classedOf t) ≡ canonicalOf t
 unfolding canonicalOf
 written-again t arrays e =
     either-way t arrays e (λ q. canonicalOf q ≡ canonicalOf t) refl (λ n c. ap join (live-again t (fair t e) (listed t arrays (fair t e)) n c))
 
 -- AND THE WRITER ACCEPTS IT.
-pub classed-fine : (t : Taf) → Arrays t → judgeOf t ≡ judged.Fine → judgeOf (classedOf t) ≡ judged.Fine
+pub classed-fine : (t : Taf) → TafArrays t → judgeOf t ≡ judged.Fine → judgeOf (classedOf t) ≡ judged.Fine
 classed-fine t arrays e = either-way t arrays e (λ q. judgeOf q ≡ judged.Fine) e (live-judged t (fair t e) (listed t arrays (fair t e)))

@@ -29,9 +29,12 @@ use Rattle.record.specs.Taf.{blankChange}
 use Rattle.taf_row.specs.declared.kinds.Part.{Part}
 use Rattle.taf_row.specs.declared.kinds.Part.the-variants as part
 use Rattle.taf_row.specs.Row.{isMain, row}
-use Rattle.taf.specs.Write.{isNoInstant, periodFits, instantFits, isChance, openingFits, partOf, legOf, judgeChange, judgeEach, isBlankChange, allBlankChanges, noChanges, judgeChanges, showChance, showFrom, showOpening, showChange, showEach}
+use Rattle.taf.specs.Write.{periodFits, instantFits, isChance, openingFits, partOf, legOf, judgeChange, judgeEach, judgeChanges, showChance, showFrom, showOpening, showChange, showEach}
+use Rattle.record.specs.SilentAerodrome.{noInstant, isBlankChange, noChanges}
+use Rattle.figures.specs.Figures.{every}
+use Rattle.record.specs.Arrays.{PartArrays, EachArrays, TafArrays}
+use Rattle.record.proofs.AerodromeBlanks.{change-blank}
 use Rattle.taf_laws.proofs.Periods.{chance-shaped, from-shaped}
-use Rattle.taf_laws.proofs.Blanks.{LegArrays, EachArrays, Arrays, change-blank}
 use Rattle.taf_laws.proofs.Parts.{FairChange, fair-change, Fair, foreign-over, sizes, kept-change}
 
 -- ---- what is judged fine of them
@@ -42,10 +45,10 @@ each-take (suc n) [] a = tt
 each-take (suc n) (c ∷ cs) a = (a .0, each-take n cs (a .1))
 
 -- where the count ends the changes are blank
-blank-past : (n : ℕ) (cs : List Change) → EachArrays cs → allBlankChanges (drop n cs) ≡ true → drop n (replicate (length cs) blankChange) ≡ drop n cs
+blank-past : (n : ℕ) (cs : List Change) → EachArrays cs → every isBlankChange (drop n cs) ≡ true → drop n (replicate (length cs) blankChange) ≡ drop n cs
 blank-past zero [] a e = refl
 blank-past zero (c ∷ cs) a e =
-    let t = both (isBlankChange c) (allBlankChanges cs) e in
+    let t = both (isBlankChange c) (every isBlankChange cs) e in
     rw (change-blank c (a .0) (t .0), blank-past zero cs (a .1) (t .1))
 blank-past (suc n) [] a e = refl
 blank-past (suc n) (c ∷ cs) a e = blank-past n cs (a .1) e
@@ -56,16 +59,16 @@ pub record Listed (t : Taf) : Type 0 where
   pub fine : judgeEach (take (t .changes .count) (t .changes .items)) ≡ judged.Fine
   pub arrays : EachArrays (take (t .changes .count) (t .changes .items))
   pub many : length (take (t .changes .count) (t .changes .items)) ≡ t .changes .count
-  pub past : allBlankChanges (drop (t .changes .count) (t .changes .items)) ≡ true
+  pub past : every isBlankChange (drop (t .changes .count) (t .changes .items)) ≡ true
   pub blank : drop (t .changes .count) (replicate 16 blankChange) ≡ drop (t .changes .count) (t .changes .items)
 
 -- a report that is NIL or cancelled has none
 pub none-over : (t : Taf) → Fair t → (t .leg .nil || t .leg .cancelled) ≡ true → t .changes .count ≡ 0
-none-over t f o = eqb-true (t .changes .count) 0 (both (eqb (t .changes .count) 0) (allBlankChanges (t .changes .items)) (foreign-over t (f .blank) o .1) .0)
+none-over t f o = eqb-true (t .changes .count) 0 (both (eqb (t .changes .count) 0) (every isBlankChange (t .changes .items)) (foreign-over t (f .blank) o .1) .0)
 
-module _ (t : Taf) (arrays : Arrays t) (f : Fair t) where
+module _ (t : Taf) (arrays : TafArrays t) (f : Fair t) where
   counted : (t .changes .count ≤ 16) → judgeEach (take (t .changes .count) (t .changes .items)) ≡ judged.Fine
-      → allBlankChanges (drop (t .changes .count) (t .changes .items)) ≡ true → Listed t
+      → every isBlankChange (drop (t .changes .count) (t .changes .items)) ≡ true → Listed t
   counted few each past =
       record {
         few = few;
@@ -78,22 +81,22 @@ module _ (t : Taf) (arrays : Arrays t) (f : Fair t) where
 
   none-listed : noChanges (t .changes) ≡ true → Listed t
   none-listed e =
-      let s = both (eqb (t .changes .count) 0) (allBlankChanges (t .changes .items)) e in
+      let s = both (eqb (t .changes .count) 0) (every isBlankChange (t .changes .items)) e in
       let z = eqb-true (t .changes .count) 0 (s .0) in
       counted (omega arith) (none (t .changes .count) z) (past (t .changes .count) z (s .1))
     where
       none : (n : ℕ) → n ≡ 0 → judgeEach (take n (t .changes .items)) ≡ judged.Fine
       none n z = rw z
 
-      past : (n : ℕ) → n ≡ 0 → allBlankChanges (t .changes .items) ≡ true → allBlankChanges (drop n (t .changes .items)) ≡ true
+      past : (n : ℕ) → n ≡ 0 → every isBlankChange (t .changes .items) ≡ true → every isBlankChange (drop n (t .changes .items)) ≡ true
       past n z e = rw z e
 
   some-listed : judgeChanges (t .changes) ≡ judged.Fine → Listed t
   unfolding judgeChanges
   some-listed e =
-      let within = leb (t .changes .count) 16 && allBlankChanges (drop (t .changes .count) (t .changes .items)) in
+      let within = leb (t .changes .count) 16 && every isBlankChange (drop (t .changes .count) (t .changes .items)) in
       let j = and-then (judge within true) (judgeEach (take (t .changes .count) (t .changes .items))) e in
-      let s = both (leb (t .changes .count) 16) (allBlankChanges (drop (t .changes .count) (t .changes .items))) (fine within true (j .0) .0) in
+      let s = both (leb (t .changes .count) 16) (every isBlankChange (drop (t .changes .count) (t .changes .items))) (fine within true (j .0) .0) in
       counted (leb-true (t .changes .count) 16 (s .0)) (j .1) (s .1)
 
   pub listed : Listed t
@@ -121,7 +124,7 @@ opening-sizes (opening.ProbablyTemporary n) p e =
     sizes-cons (sized-any 6 (bytes "PROB##" ∷ []) (showChance n) refl (one-pattern (bytes "PROB##") (showChance n) s))
     (word-sized 5 (bytes "TEMPO") (sized-any 5 (bytes "TEMPO" ∷ []) (bytes "TEMPO") refl refl))
 opening-sizes opening.From p e =
-    let s = from-shaped (p .from) (both (instantFits (p .from)) (isNoInstant (p .to)) e .0) in
+    let s = from-shaped (p .from) (both (instantFits (p .from)) (noInstant (p .to)) e .0) in
     let g = showFrom (p .from) in
     sizes-more (omega arith) (word-sized 8 g (sized-any 8 (bytes "FM######" ∷ []) g refl (one-pattern (bytes "FM######") g s)))
 
@@ -143,7 +146,7 @@ pub main-room : rowRoom sizes (row part.Main) ≤ 129
 unfolding row
 main-room = omega arith
 
-change-sizes : (c : Change) → LegArrays (legOf c) → FairChange c → Sizes 113 (showChange c)
+change-sizes : (c : Change) → PartArrays (c .weathers) (c .sky) → FairChange c → Sizes 113 (showChange c)
 unfolding showChange
 change-sizes c arrays f =
     sizes-append (showOpening (c .opening) (c .period)) (written (row (partOf (c .opening))) (legOf c))

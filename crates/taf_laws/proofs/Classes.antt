@@ -17,10 +17,12 @@ use Rattle.record.specs.declared.aerodrome.Visibility.{Visibility}
 use Rattle.record.specs.declared.aerodrome.Leg.{Leg}
 use Rattle.record.specs.declared.aerodrome.Change.{Change}
 use Rattle.record.specs.Taf.{blankLeg}
-use Rattle.elements.specs.Wind.{showWind, judgeWind, classDirection, classWind, noDirection, isBlankWind}
-use Rattle.elements.specs.Visibility.{isCavok, showVisibility, judgeVisibility, classVisibility, noView}
+use Rattle.elements.specs.Wind.{showWind, judgeWind, classDirection, classWind}
+use Rattle.record.specs.Missing.{noDirection}
+use Rattle.record.specs.SilentAerodrome.{isBlankWind, noView, noInstant}
+use Rattle.record.proofs.AerodromeBlanks.{wind-blank, visibility-blank}
+use Rattle.elements.specs.Visibility.{isCavok, showVisibility, judgeVisibility, classVisibility}
 use Rattle.elements.specs.Sky.{judgeSky, classSky}
-use Rattle.elements.proofs.Blanks.{wind-blank}
 use Rattle.elements.proofs.Classed.{cavok-classed, view-classed, cover-classed}
 use Rattle.wind.proofs.RoundTripWind.{wind-again, wind-classed}
 use Rattle.wind.proofs.RoundTripVisibility.{visibility-again, visibility-classed}
@@ -30,9 +32,8 @@ use Rattle.taf_row.specs.declared.kinds.Part.the-variants as part
 use Rattle.taf_row.specs.Row.{isMain, row}
 use Rattle.taf_row.specs.Tests.{hasElement}
 use Rattle.taf.specs.Read.{changeOf}
-use Rattle.taf.specs.Write.{unlessAbsent, judgeForecast, judgePart, instantFits, isNoInstant, openingFits, partOf, legOf, judgeChange, judgeEach, showOpening, showChange, showEach, openedLeg, classChange}
+use Rattle.taf.specs.Write.{unlessAbsent, judgeForecast, judgePart, instantFits, openingFits, partOf, legOf, judgeChange, judgeEach, showOpening, showChange, showEach, openedLeg, classChange}
 use Rattle.taf_laws.proofs.Periods.{no-end}
-use Rattle.taf_laws.proofs.Blanks.{visibility-blank}
 use Rattle.taf_laws.proofs.Places.{there-judged}
 use Rattle.taf_laws.proofs.Parts.{FairPart, FairChange, fair-change}
 
@@ -154,7 +155,7 @@ change-is c f = go (c .opening) f
     go opening.Temporary e = refl
     go (opening.Probable n) e = refl
     go (opening.ProbablyTemporary n) e = refl
-    go opening.From e = rw (no-end (c .period) (both (instantFits (c .period .from)) (isNoInstant (c .period .to)) e .1))
+    go opening.From e = rw (no-end (c .period) (both (instantFits (c .period .from)) (noInstant (c .period .to)) e .1))
 
 change-again : (c : Change) → FairChange c → showChange (classChange c) ≡ showChange c
 unfolding showChange

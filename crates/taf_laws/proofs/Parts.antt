@@ -20,8 +20,11 @@ use Rattle.record.specs.declared.aerodrome.Leg.{Leg}
 use Rattle.record.specs.declared.aerodrome.Change.{Change}
 use Rattle.record.specs.declared.aerodrome.Taf.{Taf}
 use Rattle.record.specs.Taf.{blankLeg}
-use Rattle.elements.specs.Wind.{judgeWind, isBlankWind}
-use Rattle.elements.specs.Visibility.{isCavok, judgeVisibility, noView}
+use Rattle.elements.specs.Wind.{judgeWind}
+use Rattle.record.specs.SilentAerodrome.{isBlankWind, noView, noPeriod, noPart, noChanges}
+use Rattle.record.proofs.AerodromeBlanks.{period-blank, LegBare, leg-bare}
+use Rattle.record.specs.Arrays.{PartArrays, TafArrays}
+use Rattle.elements.specs.Visibility.{isCavok, judgeVisibility}
 use Rattle.elements.specs.Weather.{showWeathers}
 use Rattle.elements.specs.Sky.{showSky, judgeSky}
 use Rattle.elements.proofs.Classed.{cavok-classed, view-classed, cover-classed}
@@ -30,9 +33,7 @@ use Rattle.taf_row.specs.declared.kinds.Part.{Part}
 use Rattle.taf_row.specs.declared.kinds.Part.the-variants as part
 use Rattle.taf_row.specs.Row.{isMain, row}
 use Rattle.taf_row.specs.Tests.{hasElement}
-use Rattle.taf.specs.Write.{unlessAbsent, judgeForecast, judgePart, isNoPeriod, periodFits, isChance, openingFits, partOf, legOf, judgeChange, noPart, noChanges, judgeChanges, foreignBlank, judgeOf, openedLeg}
-use Rattle.taf_laws.proofs.Periods.{no-period}
-use Rattle.taf_laws.proofs.Blanks.{LegArrays, Arrays, Bare, bare}
+use Rattle.taf.specs.Write.{unlessAbsent, judgeForecast, judgePart, periodFits, isChance, openingFits, partOf, legOf, judgeChange, judgeChanges, foreignBlank, judgeOf, openedLeg}
 use Rattle.taf_laws.proofs.Places.{kept-name, kept-correction, kept-station, kept-time, kept-nil, kept-period, kept-cancelled, kept-wind, kept-visibility, kept-forecast, kept-sky}
 
 -- ---- what is judged fine
@@ -98,15 +99,15 @@ fair t e =
 
 -- the fields that are foreign to NIL and to a cancelled report
 module _ (t : Taf) (e : foreignBlank t ≡ true) where
-  foreign-parts : ((not (t .leg .nil) || (isNoPeriod (t .leg .period) && not (t .leg .cancelled))) ≡ true)
+  foreign-parts : ((not (t .leg .nil) || (noPeriod (t .leg .period) && not (t .leg .cancelled))) ≡ true)
       × ((not (t .leg .nil || t .leg .cancelled) || (noPart (t .leg) && noChanges (t .changes))) ≡ true)
   unfolding foreignBlank
-  foreign-parts = both (not (t .leg .nil) || (isNoPeriod (t .leg .period) && not (t .leg .cancelled))) _ e
+  foreign-parts = both (not (t .leg .nil) || (noPeriod (t .leg .period) && not (t .leg .cancelled))) _ e
 
   pub foreign-nil : t .leg .nil ≡ true → (t .leg .period ≡ blankLeg .period) × (t .leg .cancelled ≡ false)
   foreign-nil n =
-      let s = both (isNoPeriod (t .leg .period)) (not (t .leg .cancelled)) (rw n at (foreign-parts .0)) in
-      (no-period (t .leg .period) (s .0), not-true (t .leg .cancelled) (s .1))
+      let s = both (noPeriod (t .leg .period)) (not (t .leg .cancelled)) (rw n at (foreign-parts .0)) in
+      (period-blank (t .leg .period) (s .0), not-true (t .leg .cancelled) (s .1))
 
   pub foreign-over : (t .leg .nil || t .leg .cancelled) ≡ true → (noPart (t .leg) ≡ true) × (noChanges (t .changes) ≡ true)
   foreign-over o = both (noPart (t .leg)) (noChanges (t .changes)) (rw o at (foreign-parts .1))
@@ -118,7 +119,7 @@ abbrev pub sizes : List ℕ
 sizes = 3 ∷ 3 ∷ 4 ∷ 7 ∷ 3 ∷ 9 ∷ 3 ∷ 13 ∷ 5 ∷ 9 ∷ 9 ∷ []
 
 -- WHAT IS PROVED OF A PART IS PROVED ONCE, read into a part of which nothing is said yet.
-kept-body : (w : Part) (r acc : Leg) → LegArrays r → FairPart w r → Bare acc → KeptRow (drop 7 sizes) (drop 7 (row w)) r acc
+kept-body : (w : Part) (r acc : Leg) → PartArrays (r .weathers) (r .sky) → FairPart w r → LegBare acc → KeptRow (drop 7 sizes) (drop 7 (row w)) r acc
 unfolding row
 kept-body w r acc arrays f b =
     more (kept-wind w r acc (b .wind) (f .wind)) refl
@@ -127,7 +128,7 @@ kept-body w r acc arrays f b =
     (more (kept-sky w r _ (b .sky) (cavok-classed (r .visibility .is)) (arrays .layers) (f .sky)) refl done)))
 
 -- where nothing is said nothing is written, and nothing is put
-part-written : (w : Part) (r : Leg) → Bare r → written (drop 7 (row w)) r ≡ []
+part-written : (w : Part) (r : Leg) → LegBare r → written (drop 7 (row w)) r ≡ []
 unfolding row showWeathers showSky
 part-written w r b = rw (b .wind, b .visibility, b .weathers, b .nsw, b .sky)
 
@@ -137,27 +138,27 @@ part-written w r b = rw (b .wind, b .visibility, b .weathers, b .nsw, b .sky)
 abbrev headed : ℕ → Leg → Leg
 headed n r = putAll (take n (row part.Main)) r blankLeg
 
-nil-written : (r : Leg) → Bare r → r .nil ≡ true → r .cancelled ≡ false → written (drop 5 (row part.Main)) r ≡ []
+nil-written : (r : Leg) → LegBare r → r .nil ≡ true → r .cancelled ≡ false → written (drop 5 (row part.Main)) r ≡ []
 unfolding row
 nil-written r b n c = rw (n, c) (part-written part.Main r b)
 
-nil-put : (r : Leg) → Bare r → r .period ≡ blankLeg .period → r .cancelled ≡ false → putAll (drop 5 (row part.Main)) r (headed 5 r) ≡ headed 5 r
+nil-put : (r : Leg) → LegBare r → r .period ≡ blankLeg .period → r .cancelled ≡ false → putAll (drop 5 (row part.Main)) r (headed 5 r) ≡ headed 5 r
 unfolding row
 nil-put r b p c = rw (p, c, b .wind, b .visibility, b .weathers, b .nsw, b .sky)
 
-cancelled-put : (r : Leg) → Bare r → putAll (drop 7 (row part.Main)) r (headed 7 r) ≡ headed 7 r
+cancelled-put : (r : Leg) → LegBare r → putAll (drop 7 (row part.Main)) r (headed 7 r) ≡ headed 7 r
 unfolding row
 cancelled-put r b = rw (b .wind, b .visibility, b .weathers, b .nsw, b .sky)
 
-headed-bare : (r : Leg) → Bare (headed 7 r)
+headed-bare : (r : Leg) → LegBare (headed 7 r)
 unfolding row
 headed-bare r = record { wind = refl; visibility = refl; weathers = refl; nsw = refl; sky = refl }
 
-pub over-bare : (t : Taf) → Arrays t → Fair t → (t .leg .nil || t .leg .cancelled) ≡ true → Bare (t .leg)
-over-bare t arrays f o = bare (t .leg) (arrays .part) (foreign-over t (f .blank) o .0)
+pub over-bare : (t : Taf) → TafArrays t → Fair t → (t .leg .nil || t .leg .cancelled) ≡ true → LegBare (t .leg)
+over-bare t arrays f o = leg-bare (t .leg) (arrays .part) (foreign-over t (f .blank) o .0)
 
 -- after NIL
-kept-rest : (t : Taf) → Arrays t → Fair t → t .leg .nil ≡ false → KeptRow (drop 6 sizes) (drop 6 (row part.Main)) (t .leg) (headed 6 (t .leg))
+kept-rest : (t : Taf) → TafArrays t → Fair t → t .leg .nil ≡ false → KeptRow (drop 6 sizes) (drop 6 (row part.Main)) (t .leg) (headed 6 (t .leg))
 unfolding row
 kept-rest t arrays f n = go (t .leg .cancelled) refl
   where
@@ -170,7 +171,7 @@ kept-rest t arrays f n = go (t .leg .cancelled) refl
         (kept-body part.Main (t .leg) _ (arrays .part) (fair-part part.Main (t .leg) (f .part n c)) (headed-bare (t .leg)))
 
 -- THE ROW KEEPS WHAT IS WRITTEN OF THE MAIN PART.
-pub kept-main : (t : Taf) → Arrays t → Fair t → KeptRow sizes (row part.Main) (t .leg) blankLeg
+pub kept-main : (t : Taf) → TafArrays t → Fair t → KeptRow sizes (row part.Main) (t .leg) blankLeg
 unfolding row
 kept-main t arrays f =
     more (kept-name (t .leg) blankLeg) refl
@@ -194,7 +195,7 @@ main-goes-on r n c = rw (n, c)
 -- ---- a change's part
 
 -- with a period
-kept-changing : (r : Leg) → LegArrays r → FairPart part.Changing r → r .nil ≡ false → periodFits (r .period) ≡ true → KeptRow sizes (row part.Changing) r blankLeg
+kept-changing : (r : Leg) → PartArrays (r .weathers) (r .sky) → FairPart part.Changing r → r .nil ≡ false → periodFits (r .period) ≡ true → KeptRow sizes (row part.Changing) r blankLeg
 unfolding row
 kept-changing r arrays f n p =
     more (keep-none refl refl refl) refl
@@ -207,7 +208,7 @@ kept-changing r arrays f n p =
     (kept-body part.Changing r _ arrays f (record { wind = refl; visibility = refl; weathers = refl; nsw = refl; sky = refl }))))))))
 
 -- under FM
-kept-from : (r acc : Leg) → LegArrays r → FairPart part.From r → Bare acc → KeptRow sizes (row part.From) r acc
+kept-from : (r acc : Leg) → PartArrays (r .weathers) (r .sky) → FairPart part.From r → LegBare acc → KeptRow sizes (row part.From) r acc
 unfolding row
 kept-from r acc arrays f b =
     more (keep-none refl refl refl) refl
@@ -220,7 +221,7 @@ kept-from r acc arrays f b =
     (kept-body part.From r acc arrays f b)))))))
 
 -- THE ROW KEEPS WHAT IS WRITTEN OF A CHANGE.
-pub kept-change : (c : Change) → LegArrays (legOf c) → FairChange c → KeptRow sizes (row (partOf (c .opening))) (legOf c) (openedLeg (c .opening) (c .period))
+pub kept-change : (c : Change) → PartArrays (c .weathers) (c .sky) → FairChange c → KeptRow sizes (row (partOf (c .opening))) (legOf c) (openedLeg (c .opening) (c .period))
 kept-change c arrays f = go (c .opening) (f .opens) (f .part)
   where
     go : (o : Opening) → openingFits o (c .period) ≡ true → FairPart (partOf o) (legOf c) → KeptRow sizes (row (partOf o)) (legOf c) (openedLeg o (c .period))

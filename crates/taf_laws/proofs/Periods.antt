@@ -22,13 +22,15 @@ use Rattle.record.specs.declared.aerodrome.Instant.{Instant}
 use Rattle.record.specs.declared.aerodrome.Period.{Period}
 use Rattle.record.specs.declared.aerodrome.Opening.the-variants as opening
 use Rattle.record.specs.Taf.{blankInstant, blankLeg, setPeriod}
-use Rattle.aerodrome_groups.specs.Head.{present, isDay, isHour, isMinute}
-use Rattle.elements.specs.Judge.{isMissing}
-use Rattle.elements.proofs.Blanks.{number-blank}
+use Rattle.aerodrome_groups.specs.Head.{isDay, isHour, isMinute}
+use Rattle.record.specs.Missing.{present, isMissing}
+use Rattle.record.proofs.Blanks.{number-blank}
+use Rattle.record.specs.SilentAerodrome.{noInstant}
+use Rattle.record.proofs.AerodromeBlanks.{instant-blank}
 use Rattle.taf_row.specs.declared.kinds.Part.the-variants as part
 use Rattle.taf_row.specs.Row.{periodShape, isEndHour, hourOf, readPeriod, showPeriod}
 use Rattle.taf.specs.Read.{openedBy, opened}
-use Rattle.taf.specs.Write.{isHourOf, isNoInstant, periodFits, isNoPeriod, instantFits, isChance, showChance, showFrom}
+use Rattle.taf.specs.Write.{isHourOf, periodFits, instantFits, isChance, showChance, showFrom}
 
 abbrev text : Field → List ℕ
 text f = fieldText 2 f
@@ -110,24 +112,12 @@ hour-is hour t e =
 day-few : (d : ℕ) → isDay d ≡ true → d ≤ 31
 day-few d e = leb-true d 31 (both (leb 1 d) (leb d 31) e .1)
 
--- no time, no period
-pub no-instant : (t : Instant) → isNoInstant t ≡ true → t ≡ blankInstant
-no-instant t e =
-    let m = both (isMissing (t .day) && isMissing (t .hour)) (isMissing (t .minute)) e in
-    let s = both (isMissing (t .day)) (isMissing (t .hour)) (m .0) in
-    instant-is (t .day) (t .hour) (t .minute) number.Missing number.Missing number.Missing (number-blank (t .day) (s .0)) (number-blank (t .hour) (s .1)) (number-blank (t .minute) (m .1))
-
 period-of : (f t f′ t′ : Instant) → f ≡ f′ → t ≡ t′ → _≡_ {A = Period} (record { from = f; to = t }) (record { from = f′; to = t′ })
 period-of f t f′ t′ e g = rw (e, g)
 
-pub no-period : (p : Period) → isNoPeriod p ≡ true → p ≡ record { from = blankInstant; to = blankInstant }
-no-period p e =
-    let t = both (isNoInstant (p .from)) (isNoInstant (p .to)) e in
-    period-of (p .from) (p .to) blankInstant blankInstant (no-instant (p .from) (t .0)) (no-instant (p .to) (t .1))
-
 -- under FM there is no end
-pub no-end : (p : Period) → isNoInstant (p .to) ≡ true → record { from = p .from; to = blankInstant } ≡ p
-no-end p e = sym (period-of (p .from) (p .to) (p .from) blankInstant refl (no-instant (p .to) e))
+pub no-end : (p : Period) → noInstant (p .to) ≡ true → record { from = p .from; to = blankInstant } ≡ p
+no-end p e = sym (period-of (p .from) (p .to) (p .from) blankInstant refl (instant-blank (p .to) e))
 
 -- ---- the period
 

@@ -31,9 +31,11 @@ use Rattle.record.specs.declared.aerodrome.Sky.{Sky}
 use Rattle.record.specs.declared.aerodrome.Leg.{Leg}
 use Rattle.record.specs.Metar.{blankWind, blankWeather, blankWeathers, blankSky}
 use Rattle.record.specs.Taf.{setNil, setCancelled, setWind, setVisibility, setWeathers, setNsw, setSky, blankLeg}
-use Rattle.elements.specs.Wind.{windShape, showWind, judgeWind, classWind, isBlankWind}
-use Rattle.elements.specs.Visibility.{visibilityShapes, isCavok, showVisibility, judgeVisibility, classVisibility, noView}
-use Rattle.elements.specs.Weather.{codesOf, weatherCover, weatherSpoken, hasWeather, hasUnknown, phenomenaFit, isMissingWeather, readWeather, withWeather, showWeather, showWeathers, judgeWeather, threeFit, judgeWeathers}
+use Rattle.elements.specs.Wind.{windShape, showWind, judgeWind, classWind}
+use Rattle.record.specs.SilentAerodrome.{isBlankWind, noView, noPhenomena}
+use Rattle.record.proofs.AerodromeBlanks.{wind-blank, visibility-blank}
+use Rattle.elements.specs.Visibility.{visibilityShapes, isCavok, showVisibility, judgeVisibility, classVisibility}
+use Rattle.elements.specs.Weather.{codesOf, weatherCover, weatherSpoken, hasWeather, hasUnknown, phenomenaFit, readWeather, withWeather, showWeather, showWeathers, judgeWeather, threeFit, judgeWeathers}
 use Rattle.elements.specs.Sky.{layerShape, aloneShapes, hasSky, readSky, showSky, judgeSky, classSky}
 use Rattle.elements.proofs.Fills.{filled, filled-items}
 use Rattle.aerodrome_groups.specs.Head.{stationShape, stationOf, timeShape, showTime, judgeStation, judgeTime}
@@ -50,8 +52,6 @@ use Rattle.taf_row.specs.declared.kinds.Part.the-variants as part
 use Rattle.taf_row.specs.Row.{isMain, isWhole, hasPeriod, openIn, word, onto, periodShape, showPeriod, hasForecast, forecastSpoken, besideOthers, readForecast, showForecast, row}
 use Rattle.taf.specs.Write.{unlessAbsent, nswAgrees, judgeForecast, periodFits}
 use Rattle.taf_laws.proofs.Periods.{period-shaped, period-back}
-use Rattle.elements.proofs.Blanks.{wind-blank}
-use Rattle.taf_laws.proofs.Blanks.{visibility-blank}
 
 -- ---- the room of a group
 
@@ -226,7 +226,7 @@ beside-free : (beside : Bool) (x : Weather) → judgeWeather true false beside x
 unfolding judgeWeather
 beside-free beside x h =
     both (not beside) (false || not (hasUnknown (x .is)))
-    (fine (phenomenaFit (x .is) || (false && isMissingWeather (x .is))) (not beside && (false || not (hasUnknown (x .is)))) h .1) .0
+    (fine (phenomenaFit (x .is) || (false && noPhenomena (x .is))) (not beside && (false || not (hasUnknown (x .is)))) h .1) .0
 
 none-beside : (ws : Weathers) → length (ws .items) ≡ 3 → judgeWeathers (judgeWeather true false true) ws ≡ judged.Fine → (showWeathers ws ≡ []) × (ws ≡ blankWeathers)
 unfolding showWeathers

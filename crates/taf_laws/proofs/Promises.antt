@@ -16,9 +16,11 @@ use Rattle.record.specs.declared.aerodrome.Leg.{Leg}
 use Rattle.record.specs.declared.aerodrome.Change.{Change}
 use Rattle.record.specs.declared.aerodrome.Taf.{Taf}
 use Rattle.record.specs.Taf.{blankChange}
-use Rattle.elements.specs.Wind.{judgeWind, classWind, isBlankWind}
-use Rattle.elements.specs.Visibility.{viewFits, judgeVisibility, classView, noView}
-use Rattle.elements.proofs.Blanks.{wind-blank}
+use Rattle.elements.specs.Wind.{judgeWind, classWind}
+use Rattle.record.specs.SilentAerodrome.{isBlankWind, noView}
+use Rattle.record.proofs.AerodromeBlanks.{wind-blank, LegBare, visibility-blank}
+use Rattle.record.specs.Arrays.{TafArrays}
+use Rattle.elements.specs.Visibility.{viewFits, judgeVisibility, classView}
 use Rattle.wind.proofs.Promises.{DirectionNear, no-direction, wind-near, ViewRead, visibility-read}
 use Rattle.sky.proofs.Promises.{SkyBack, sky-read}
 use Rattle.taf_row.specs.declared.kinds.Part.{Part}
@@ -26,7 +28,6 @@ use Rattle.taf_row.specs.declared.kinds.Part.the-variants as part
 use Rattle.taf_row.specs.Row.{row}
 use Rattle.taf.specs.Read.{readOf}
 use Rattle.taf.specs.Write.{unlessAbsent, legOf, judgeChange, judgeEach, judgeOf, canonicalOf, classChange, classedOf}
-use Rattle.taf_laws.proofs.Blanks.{Arrays, Bare, visibility-blank}
 use Rattle.taf_laws.proofs.Places.{there-judged}
 use Rattle.taf_laws.proofs.Parts.{FairPart, fair-part, FairChange, fair-change, Fair, fair, over-bare}
 use Rattle.taf_laws.proofs.Changes.{listed}
@@ -94,10 +95,10 @@ part-of r d v =
 part-read : (w : Part) (r : Leg) → FairPart w r → PartRead r (classPart r)
 part-read w r f = part-of r (wind-kept w (r .wind) (f .wind)) (view-kept w (r .visibility) (f .visibility))
 
-bare-read : (r : Leg) → Bare r → PartRead r (classPart r)
+bare-read : (r : Leg) → LegBare r → PartRead r (classPart r)
 bare-read r b = part-of r (rw (b .wind) no-direction) (visibility-read false (r .visibility .is) (rw (b .visibility)))
 
-main-read : (t : Taf) → Arrays t → Fair t → PartRead (t .leg) (classPart (t .leg))
+main-read : (t : Taf) → TafArrays t → Fair t → PartRead (t .leg) (classPart (t .leg))
 main-read t arrays f = go (t .leg .nil || t .leg .cancelled) refl
   where
     go : (b : Bool) → (t .leg .nil || t .leg .cancelled) ≡ b → PartRead (t .leg) (classPart (t .leg))
@@ -115,7 +116,7 @@ each-read : (cs : List Change) → judgeEach cs ≡ judged.Fine → EachRead cs 
 each-read [] e = none
 each-read (c ∷ cs) e = let j = and-then (judgeChange c) (judgeEach cs) e in more (change-read c (fair-change c (j .0))) (each-read cs (j .1))
 
-record-read : (t : Taf) → Arrays t → judgeOf t ≡ judged.Fine → RecordRead t (classedOf t)
+record-read : (t : Taf) → TafArrays t → judgeOf t ≡ judged.Fine → RecordRead t (classedOf t)
 unfolding classedOf row
 record-read t arrays e =
     let f = fair t e in
@@ -134,7 +135,7 @@ record-read t arrays e =
     }
 
 -- WHAT IS WRITTEN OF A RECORD THAT THE WRITER ACCEPTS IS READ, to the text's end, as a record that says the same.
-pub promise : (t : Taf) → Arrays t → judgeOf t ≡ judged.Fine
+pub promise : (t : Taf) → TafArrays t → judgeOf t ≡ judged.Fine
     → (readOf (canonicalOf t) .verdict ≡ verdict.Accepted (length (canonicalOf t))) × RecordRead t (readOf (canonicalOf t) .report)
 promise t arrays e = rw (read-canonical t arrays e) (refl, record-read t arrays e)
 
@@ -155,7 +156,7 @@ map-parts zero cs = refl
 map-parts (suc n) [] = refl
 map-parts (suc n) (c ∷ cs) = ap (λ (l : List Change). classChange c ∷ l) (map-parts n cs)
 
-pub items-classed : (t : Taf) → Arrays t → judgeOf t ≡ judged.Fine → classedOf t .changes .items ≡ map classChange (t .changes .items)
+pub items-classed : (t : Taf) → TafArrays t → judgeOf t ≡ judged.Fine → classedOf t .changes .items ≡ map classChange (t .changes .items)
 unfolding classedOf
 items-classed t arrays e =
     let l = listed t arrays (fair t e) in

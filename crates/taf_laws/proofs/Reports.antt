@@ -33,9 +33,10 @@ use Rattle.taf.specs.declared.kinds.Going.{Going}
 use Rattle.taf_row.specs.Row.{isMain, row, changeWords}
 use Rattle.taf_row.specs.Tests.{hasElement, isProbable}
 use Rattle.taf.specs.Read.{openedBy, opened, begun, withChange, withPart, bodyOf, mainPart, fromFirst}
-use Rattle.taf.specs.Write.{isNoInstant, periodFits, instantFits, isChance, openingFits, partOf, legOf, judgeChange, judgeEach, judgeOf, showChance, showFrom, showOpening, showChange, showEach, groupsOf, openedLeg, classChange, classedOf}
+use Rattle.taf.specs.Write.{periodFits, instantFits, isChance, openingFits, partOf, legOf, judgeChange, judgeEach, judgeOf, showChance, showFrom, showOpening, showChange, showEach, groupsOf, openedLeg, classChange, classedOf}
+use Rattle.record.specs.SilentAerodrome.{noInstant}
+use Rattle.record.specs.Arrays.{PartArrays, EachArrays, TafArrays}
 use Rattle.taf_laws.proofs.Periods.{chance-shaped, chance-opened, from-shaped, from-opened}
-use Rattle.taf_laws.proofs.Blanks.{LegArrays, EachArrays, Arrays}
 use Rattle.taf_laws.proofs.Parts.{FairChange, fair-change, Fair, fair, sizes, kept-main, main-goes-on, kept-change, change-goes-on, element-classed}
 use Rattle.taf_laws.proofs.Changes.{Listed, listed, none-over, part-change}
 use Rattle.taf_laws.proofs.Bodies.{freshAfter, fresh-none, reading, part-last, part-turn}
@@ -140,7 +141,7 @@ opening-back (opening.ProbablyTemporary n) p more gs f e =
     let c = both (isChance n) (periodFits p) f .0 in
     opens-two n p (showChance n) more gs e (chance-word (showChance n) (chance-shaped n c)) (chance-opened n c)
 opening-back opening.From p more gs f e =
-    let c = both (instantFits (p .from)) (isNoInstant (p .to)) f .0 in
+    let c = both (instantFits (p .from)) (noInstant (p .to)) f .0 in
     opens-one opening.From p (showFrom (p .from)) more gs e (from-word (showFrom (p .from)) (from-shaped (p .from) c)) (from-opened (p .from) c)
 
 -- ---- a part that can be read
@@ -162,7 +163,7 @@ change-calm (opening.Probable n) c f (h ∷ hs) e = fresh-none hs
 change-calm (opening.ProbablyTemporary n) c f hs e = refl
 change-calm opening.From c f hs e = refl
 
-change-ready : (c : Change) → LegArrays (legOf c) → FairChange c → Ready (c .opening) (partOf (c .opening)) (legOf c) (openedLeg (c .opening) (c .period))
+change-ready : (c : Change) → PartArrays (c .weathers) (c .sky) → FairChange c → Ready (c .opening) (partOf (c .opening)) (legOf c) (openedLeg (c .opening) (c .period))
 change-ready c arrays f =
     let w = partOf (c .opening) in
     let e : hasElement (legOf c) ≡ true = rw (part-change (c .opening)) at (f .part .element) in
@@ -240,12 +241,12 @@ classed-is t l =
 
 -- ---- the report
 
-main-ready : (t : Taf) → Arrays t → Fair t → t .leg .nil ≡ false → t .leg .cancelled ≡ false → Ready opening.None part.Main (t .leg) blankLeg
+main-ready : (t : Taf) → TafArrays t → Fair t → t .leg .nil ≡ false → t .leg .cancelled ≡ false → Ready opening.None part.Main (t .leg) blankLeg
 main-ready t arrays f n c =
     record { kept = kept-main t arrays f; element = refl; goes-on = main-goes-on (t .leg) n c; calm = λ f hs e. refl }
 
 -- the main part with its changes
-module _ (t : Taf) (arrays : Arrays t) (f : Fair t) (end : ℕ) (gs : List Piece) (are : pieceGroups gs ≡ groupsOf t) where
+module _ (t : Taf) (arrays : TafArrays t) (f : Fair t) (end : ℕ) (gs : List Piece) (are : pieceGroups gs ≡ groupsOf t) where
   abbrev back : Type 0
   back = bodyOf Clear end blankTaf mainPart gs ≡ Done end (classedOf t)
 
@@ -286,6 +287,6 @@ from-first t end [] are = let z : _≡_ {A = ℕ} 0 1 = cc in absurd (omega arit
 from-first t end (g ∷ gs) are = let here : g .bytes ≡ bytes "TAF" = cc in rw here
 
 -- THE GROUPS OF A RECORD ARE READ BACK, from any pieces that hold them.
-pub pieces-back : (t : Taf) → Arrays t → judgeOf t ≡ judged.Fine → (end : ℕ) (gs : List Piece) → pieceGroups gs ≡ groupsOf t
+pub pieces-back : (t : Taf) → TafArrays t → judgeOf t ≡ judged.Fine → (end : ℕ) (gs : List Piece) → pieceGroups gs ≡ groupsOf t
     → fromFirst Clear end gs ≡ Done end (classedOf t)
 pieces-back t arrays e end gs are = from-first t end gs are ∙ whole-back t arrays (fair t e) end gs are

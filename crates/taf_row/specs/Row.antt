@@ -21,8 +21,9 @@ use Rattle.record.specs.declared.aerodrome.Weather.{Weather}
 use Rattle.record.specs.declared.aerodrome.Leg.{Leg}
 use Rattle.record.specs.Taf.{setCorrection, setStation, setTime, setNil, setPeriod, setCancelled, setWind, setVisibility, setWeathers, setNsw, setSky}
 use Rattle.elements.specs.Parts.{figured, provided, agreeing, then}
-use Rattle.elements.specs.Wind.{windShape, readWind, showWind, classWind, isBlankWind}
-use Rattle.elements.specs.Visibility.{visibilityShapes, readVisibility, isCavok, showVisibility, classVisibility, noView}
+use Rattle.elements.specs.Wind.{windShape, readWind, showWind, classWind}
+use Rattle.record.specs.SilentAerodrome.{isBlankWind, noView}
+use Rattle.elements.specs.Visibility.{visibilityShapes, readVisibility, isCavok, showVisibility, classVisibility}
 use Rattle.elements.specs.Weather.{weatherCover, weatherSpoken, hasWeather, readWeather, withWeather, showWeathers}
 use Rattle.elements.specs.Sky.{layerShape, aloneShapes, hasSky, readSky, showSky, classSky}
 use Rattle.aerodrome_groups.specs.Head.{stationShape, stationOf, timeShape, readTime, showTime, fieldOf, isDay, isHour}

@@ -11,8 +11,7 @@ use Rattle.record.specs.declared.aerodrome.Opening.{Opening}
 use Rattle.record.specs.declared.aerodrome.Opening.the-variants as opening
 use Rattle.record.specs.declared.aerodrome.Leg.{Leg}
 use Rattle.elements.specs.Wind.{hasUnit}
-use Rattle.elements.specs.Visibility.{noView}
-use Rattle.elements.specs.Sky.{isLayers}
+use Rattle.record.specs.SilentAerodrome.{noView, isLayers}
 use Rattle.taf_row.specs.declared.kinds.Part.{Part}
 use Rattle.taf_row.specs.Row.{isMain, word, row}
 

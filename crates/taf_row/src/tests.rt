@@ -3,13 +3,10 @@
 use crate::kinds::Part;
 use crate::row::is_main;
 use crate::row::musts;
-use elements::blank::has_unit;
-use elements::blank::no_view;
 use record::aerodrome::Leg;
 use record::aerodrome::Opening;
 use record::aerodrome::Visibility;
 use shapes::has_pattern;
-use sky::read::is_layers;
 use wind::read::is_cavok;
 ghost use mathlib.Core.Path.{_≡_};
 ghost use Rattle.taf_row.specs.Row.{nswStands};
@@ -58,9 +55,9 @@ pub fn has_element(r: Leg) -> bool
     let view = visibility.is;
     let sky = r.sky;
     let cover = sky.cover;
-    let blown = has_unit(unit);
-    let unseen = no_view(view);
-    let layers = is_layers(cover);
+    let blown = !unit.is_missing();
+    let unseen = view.is_missing();
+    let layers = cover.is_layers();
     blown | !unseen | (0 < r.weathers.count) | r.nsw | !layers | (0 < sky.count)
 }
 

@@ -10,7 +10,7 @@ use denote.Struct.Struct.{Struct}
 use denote.Struct.Declared.{shape}
 use Rattle.record.specs.declared.aerodrome.Change.{Change}
 use Rattle.record.proofs.aerodrome.Change.{the-type}
-use Rattle.taf_laws.proofs.Canonical.{EachArrays}
+use Rattle.record.specs.Arrays.{EachArrays}
 
 abbrev changing : RattleType
 changing = Struct (shape the-type)

@@ -2,8 +2,6 @@
 use aerodrome_groups::write::put_station;
 use aerodrome_groups::write::put_time;
 use aerodrome_groups::write::put_two;
-use elements::blank::no_view;
-use elements::blank::no_wind;
 use figures::put::put_byte;
 use figures::put::put_number;
 use figures::put::put_text;
@@ -17,8 +15,8 @@ use record::aerodrome::Taf;
 use record::aerodrome::Visibility;
 use record::aerodrome::Wind;
 use sky::write::put_sky;
-use taf_judge::blank::leg_of;
 use taf_judge::judge::judge;
+use taf_judge::judge::leg_of;
 use taf_judge::judge::part_of;
 use taf_row::kinds::Part;
 use text::kinds::Judged;
@@ -41,8 +39,9 @@ ghost use Rattle.figures.specs.Quote.{bytes};
 ghost use Rattle.text.specs.declared.kinds.Judged.the-variants as judged;
 ghost use Rattle.text.specs.Groups.{written};
 ghost use Rattle.places.specs.Engine.{written as groupsAt};
-ghost use Rattle.elements.specs.Wind.{showWind, isBlankWind};
-ghost use Rattle.elements.specs.Visibility.{showVisibility, noView};
+ghost use Rattle.elements.specs.Wind.{showWind};
+ghost use Rattle.record.specs.SilentAerodrome.{isBlankWind, noView};
+ghost use Rattle.elements.specs.Visibility.{showVisibility};
 ghost use Rattle.taf_row.specs.declared.kinds.Part.the-variants as part;
 ghost use Rattle.taf_row.specs.Row.{showCorrection, showHour, showPeriod, showForecast, row};
 ghost use Rattle.taf.specs.Write.{judgeOf, showChance, showFrom, showOpening, showChange, showEach, groupsOf, writtenOf, bufferOf};
@@ -125,14 +124,18 @@ fn put_head(out: &mut [u8], at: usize, w: Part, r: Leg) -> usize
 fn put_any_wind(out: &mut [u8], at: usize, w: Wind) -> usize
     ensures { λ n. ⌜ Put (now (out .entry)) at (written at (cond (isBlankWind w) [] (showWind w ∷ []))) n (now (out .exit)) ⌝ }
 {
-    if no_wind(w) { at } else { put_wind(out, at, w) }
+    if w.is_blank() {
+        at
+    } else {
+        put_wind(out, at, w)
+    }
 }
 
 fn put_any_visibility(out: &mut [u8], at: usize, v: Visibility) -> usize
     ensures { λ n. ⌜ Put (now (out .entry)) at (written at (cond (noView (v .is)) [] (showVisibility v ∷ []))) n (now (out .exit)) ⌝ }
 {
     let view = v.is;
-    if no_view(view) {
+    if view.is_missing() {
         at
     } else {
         put_visibility(out, at, v)

@@ -1,14 +1,14 @@
 -- Up to three weathers: written one after the other and read one after the other they are as they were; and how many they are, each judged fine.
 -- Assumes nothing.
 use mathlib.Core.Path.{_≡_, refl}
-use mathlib.Core.Bool.{true, false, _&&_, false≢true}
+use mathlib.Core.Bool.{true, _&&_}
 use mathlib.Core.List.{List, [], _∷_, map}
 use Prim.Native.Nat.{ℕ, zero, suc, _+_, _≤_}
 use native.Mathlib.Omega.{arith}
-use lib.ListN.{length, take, drop, replicate, length-map}
+use lib.ListN.{length, take, drop, length-map}
 use lib.Seq.{length-take-le}
-use lib.Dec.{leb, eqb}
-use borrow.Author.Tests.{leb-true, eqb-true}
+use lib.Dec.{leb}
+use borrow.Author.Tests.{leb-true}
 use Rattle.text.specs.declared.kinds.Judged.{Judged}
 use Rattle.text.specs.declared.kinds.Judged.the-variants as judged
 use Rattle.text.specs.Judge.{judge}
@@ -16,13 +16,14 @@ use Rattle.text.proofs.Judging.{fine, and-then}
 use Rattle.shapes.proofs.Patterns.{both}
 use Rattle.places.specs.Engine.{Group, Read, Good}
 use Rattle.places.proofs.ReadBack.{All}
-use Rattle.record.specs.declared.aerodrome.Phenomena.{Phenomena}
-use Rattle.record.specs.declared.aerodrome.Phenomena.the-variants as phenomena
 use Rattle.record.specs.declared.aerodrome.Weather.{Weather}
 use Rattle.record.specs.declared.aerodrome.Weathers.{Weathers}
 use Rattle.record.specs.Metar.{blankWeather, blankWeathers}
 use Rattle.elements.specs.Parts.{then}
-use Rattle.elements.specs.Weather.{isMissingWeather, allMissing, judgeEach, judgeWeathers, withWeather}
+use Rattle.elements.specs.Weather.{judgeEach, judgeWeathers, withWeather}
+use Rattle.record.specs.SilentAerodrome.{isBlankWeather}
+use Rattle.record.proofs.AerodromeBlanks.{weather-blank}
+use Rattle.figures.specs.Figures.{every}
 
 -- groups read one after the other, where k weathers stand
 abbrev pub addEach : (Group → Read Weather) → ℕ → List Group → Weathers → Read Weathers
@@ -41,12 +42,12 @@ module _ (test : Weather → Judged) where
 
   -- the count, what stands past it, and what stands before it
   parts : (ws : Weathers) → judgeWeathers test ws ≡ judged.Fine
-      → (ws .count ≤ 3) × (allMissing (drop (ws .count) (ws .items)) ≡ true) × EachFine test (take (ws .count) (ws .items))
+      → (ws .count ≤ 3) × (every isBlankWeather (drop (ws .count) (ws .items)) ≡ true) × EachFine test (take (ws .count) (ws .items))
   unfolding judgeWeathers
   parts ws h =
-      let within = leb (ws .count) 3 && allMissing (drop (ws .count) (ws .items)) in
+      let within = leb (ws .count) 3 && every isBlankWeather (drop (ws .count) (ws .items)) in
       let t = and-then (judge within true) (judgeEach test (take (ws .count) (ws .items))) h in
-      let u = both (leb (ws .count) 3) (allMissing (drop (ws .count) (ws .items))) (fine within true (t .0) .0) in
+      let u = both (leb (ws .count) 3) (every isBlankWeather (drop (ws .count) (ws .items))) (fine within true (t .0) .0) in
       (leb-true (ws .count) 3 (u .0), u .1, each-fine (take (ws .count) (ws .items)) (t .1))
 
   pub weathers-each : (ws : Weathers) → judgeWeathers test ws ≡ judged.Fine → EachFine test (take (ws .count) (ws .items))
@@ -56,20 +57,12 @@ module _ (test : Weather → Judged) where
       → (ws .count ≤ 3) × (length (take (ws .count) (ws .items)) ≡ ws .count)
   weathers-few ws h e = let n = parts ws h .0 in (n, length-take-le (ws .count) (ws .items) (omega arith))
 
--- what is missing is blank
-blank-is : (w : Weather) → isMissingWeather (w .is) ≡ true → w ≡ blankWeather
-blank-is w h = go (w .is) h
-  where
-    go : (p : Phenomena) → isMissingWeather p ≡ true → _≡_ {A = Weather} (record { is = p }) blankWeather
-    go phenomena.Missing h = refl
-    go (phenomena.Is i d a b c) h = absurd (false≢true h)
-
 -- missing ones, first by first
-missing-first : (w : Weather) (l : List Weather) → allMissing (w ∷ l) ≡ true → (w ≡ blankWeather) × (allMissing l ≡ true)
-missing-first w l m = let t = both (isMissingWeather (w .is)) (allMissing l) m in (blank-is w (t .0), t .1)
+missing-first : (w : Weather) (l : List Weather) → every isBlankWeather (w ∷ l) ≡ true → (w ≡ blankWeather) × (every isBlankWeather l ≡ true)
+missing-first w l m = let t = both (isBlankWeather w) (every isBlankWeather l) m in (weather-blank w (t .0), t .1)
 
 module _ (read : Group → Read Weather) (show : Weather → Group) (test : Weather → Judged) (back : (w : Weather) → test w ≡ judged.Fine → read (show w) ≡ Good w) where
-  three-back : (items : List Weather) (n : ℕ) → length items ≡ 3 → n ≤ 3 → allMissing (drop n items) ≡ true → EachFine test (take n items)
+  three-back : (items : List Weather) (n : ℕ) → length items ≡ 3 → n ≤ 3 → every isBlankWeather (drop n items) ≡ true → EachFine test (take n items)
       → addEach read 0 (map show (take n items)) blankWeathers ≡ Good (record { items = items; count = n })
   three-back (x ∷ y ∷ z ∷ []) zero e le m f =
       let p = missing-first x (y ∷ z ∷ []) m in
@@ -103,18 +96,3 @@ module _ (show : Weather → Group) (test : Weather → Judged) (ws : Weathers) 
 
   pub weathers-three : length (ws .items) ≡ 3 → length (map show (take (ws .count) (ws .items))) ≤ 3
   weathers-three three = let n = weathers-few test ws e three in rw (length-map (take (ws .count) (ws .items)) show, n .1) (n .0)
-
--- ---- none
-
-all-missing : (l : List Weather) → allMissing l ≡ true → l ≡ replicate (length l) blankWeather
-all-missing [] e = refl
-all-missing (w ∷ l) e = let t = missing-first w l e in rw (t .0, ← all-missing l (t .1))
-
-pub weathers-blank : (ws : Weathers) → length (ws .items) ≡ 3 → (eqb (ws .count) 0 && allMissing (ws .items)) ≡ true → ws ≡ blankWeathers
-weathers-blank ws three e = make (ws .items) (ws .count) (rw three at (all-missing (ws .items) (t .1))) (eqb-true (ws .count) 0 (t .0))
-  where
-    t : (eqb (ws .count) 0 ≡ true) × (allMissing (ws .items) ≡ true)
-    t = both (eqb (ws .count) 0) (allMissing (ws .items)) e
-
-    make : (l : List Weather) (n : ℕ) → l ≡ replicate 3 blankWeather → n ≡ 0 → _≡_ {A = Weathers} (record { items = l; count = n }) blankWeathers
-    make l n e z = rw (e, z)

@@ -25,7 +25,8 @@ use Rattle.record.specs.declared.aerodrome.Code.the-variants as code
 use Rattle.record.specs.declared.aerodrome.Phenomena.{Phenomena}
 use Rattle.record.specs.declared.aerodrome.Phenomena.the-variants as phenomena
 use Rattle.record.specs.declared.aerodrome.Weather.{Weather}
-use Rattle.elements.specs.Weather.{signedCodes, hasWeather, hasRecent, allAmong, listed, under, codeAt, saidWeather, hasUnknown, unlessUnknown, readWeather, isPlain, readRecent, signText, phenomenaText, showWeather, showRecent, gapless, isDescribed, intensityFits, phenomenaFit, isMissingWeather, judgeWeather, judgeRecent}
+use Rattle.elements.specs.Weather.{signedCodes, hasWeather, hasRecent, allAmong, listed, under, codeAt, saidWeather, hasUnknown, unlessUnknown, readWeather, isPlain, readRecent, signText, phenomenaText, showWeather, showRecent, gapless, isDescribed, intensityFits, phenomenaFit, judgeWeather, judgeRecent}
+use Rattle.record.specs.SilentAerodrome.{noPhenomena}
 use Rattle.weather.specs.Split.{told}
 use Rattle.weather.proofs.Readings.{weather-of}
 use Rattle.weather.proofs.Spelt.{spelt, text-spelt, spelt-every, spelt-length, no-slashes, shape-spelt, said-spelt}
@@ -139,10 +140,10 @@ unknown-back automatic w h = rw h
 
 module _ (forecast automatic beside : Bool) where
   judged-fine : (w : Weather) → judgeWeather forecast automatic beside w ≡ judged.Fine
-      → ((phenomenaFit (w .is) || (not forecast && isMissingWeather (w .is))) ≡ true) × ((automatic || not (hasUnknown (w .is))) ≡ true)
+      → ((phenomenaFit (w .is) || (not forecast && noPhenomena (w .is))) ≡ true) × ((automatic || not (hasUnknown (w .is))) ≡ true)
   unfolding judgeWeather
   judged-fine w h =
-      let t = fine (phenomenaFit (w .is) || (not forecast && isMissingWeather (w .is))) (not beside && (automatic || not (hasUnknown (w .is)))) h in
+      let t = fine (phenomenaFit (w .is) || (not forecast && noPhenomena (w .is))) (not beside && (automatic || not (hasUnknown (w .is)))) h in
       (t .0, both (not beside) (automatic || not (hasUnknown (w .is))) (t .1) .1)
 
   pub fits-of : (i : Intensity) (d a b c : Code) → judgeWeather forecast automatic beside (record { is = phenomena.Is i d a b c }) ≡ judged.Fine

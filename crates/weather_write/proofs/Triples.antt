@@ -1,13 +1,13 @@
 -- Up to three weathers, in the words of the code: the weather at each place, where the count says that one stands there.
 -- Assumes nothing.
 use mathlib.Core.Path.{_≡_, refl, ap, _∙_}
-use mathlib.Core.Bool.{Bool, true, false, cond, _&&_, _||_, and-true, and-assoc}
+use mathlib.Core.Bool.{Bool, true, false, cond}
 use mathlib.Core.List.{List, [], _∷_, _++_, map}
 use Prim.Native.Nat.{ℕ, zero, suc, _≤_}
 use native.Mathlib.Omega.{arith}
-use lib.ListN.{length, take, drop, getD}
-use lib.Seq.{take-nil, drop-nil}
-use lib.Dec.{leb, ltb}
+use lib.ListN.{length, take, getD}
+use lib.Seq.{take-nil}
+use lib.Dec.{ltb}
 use borrow.Author.Tests.{lt-ltb}
 use Rattle.text.specs.declared.kinds.Judged.{Judged}
 use Rattle.text.specs.declared.kinds.Judged.the-variants as judged
@@ -16,7 +16,7 @@ use Rattle.figures.specs.Quote.{bytes}
 use Rattle.places.specs.Engine.{Group}
 use Rattle.record.specs.declared.aerodrome.Weather.{Weather}
 use Rattle.record.specs.Metar.{blankWeather}
-use Rattle.elements.specs.Weather.{isMissingWeather, allMissing, judgeEach, phenomenaText, showWeather, showRecent}
+use Rattle.elements.specs.Weather.{judgeEach, phenomenaText, showWeather, showRecent}
 use Rattle.weather_write.specs.Three.{shownAs}
 
 -- a list of three by its elements
@@ -31,16 +31,7 @@ three-of (x ∷ y ∷ z ∷ w ∷ items) d e = absurd (omega arith)
 past : (i n : ℕ) → i ≤ 2 → ltb i (suc (suc (suc n))) ≡ true
 past i n h = lt-ltb i (suc (suc (suc n))) (omega arith)
 
--- what stands past a count
-blank : (x y z : Weather) (n : ℕ)
-    → (leb n 3 && (ltb 0 n || isMissingWeather (x .is)) && (ltb 1 n || isMissingWeather (y .is)) && (ltb 2 n || isMissingWeather (z .is)))
-    ≡ (leb n 3 && allMissing (drop n (x ∷ y ∷ z ∷ [])))
-blank x y z zero = rw (and-true (isMissingWeather (z .is))) (and-assoc (isMissingWeather (x .is)) (isMissingWeather (y .is)) (isMissingWeather (z .is)))
-blank x y z (suc zero) = rw (and-true (isMissingWeather (z .is)))
-blank x y z (suc (suc zero)) = rw (and-true (isMissingWeather (z .is)))
-blank x y z (suc (suc (suc n))) = rw (past 0 n (omega arith), past 1 n (omega arith), past 2 n (omega arith), drop-nil {A = Weather} n) (simp and-true)
-
--- what stands before it
+-- what stands before a count
 judged-each : (test : Weather → Judged) (x y z : Weather) (n : ℕ)
     → andThen (cond (ltb 0 n) (test x) judged.Fine) (andThen (cond (ltb 1 n) (test y) judged.Fine) (cond (ltb 2 n) (test z) judged.Fine))
     ≡ judgeEach test (take n (x ∷ y ∷ z ∷ []))
@@ -61,15 +52,6 @@ shown-each show x y z (suc (suc zero)) = refl
 shown-each show x y z (suc (suc (suc n))) = rw (past 0 n (omega arith), past 1 n (omega arith), past 2 n (omega arith), take-nil {A = Weather} n)
 
 module _ (items : List Weather) (e : length items ≡ 3) where
-  pub blank-past : (n : ℕ)
-      → (leb n 3 && (ltb 0 n || isMissingWeather (getD items 0 blankWeather .is)) && (ltb 1 n || isMissingWeather (getD items 1 blankWeather .is)) && (ltb 2 n || isMissingWeather (getD items 2 blankWeather .is)))
-      ≡ (leb n 3 && allMissing (drop n items))
-  blank-past n = blank _ _ _ n ∙ ap (λ (l : List Weather). leb n 3 && allMissing (drop n l)) (three-of items blankWeather e)
-
-  pub all-blank : (t : Bool) → (t && isMissingWeather (getD items 0 blankWeather .is) && isMissingWeather (getD items 1 blankWeather .is) && isMissingWeather (getD items 2 blankWeather .is)) ≡ (t && allMissing items)
-  all-blank true = blank (getD items 0 blankWeather) (getD items 1 blankWeather) (getD items 2 blankWeather) 0 ∙ ap allMissing (three-of items blankWeather e)
-  all-blank false = refl
-
   pub each-judged : (test : Weather → Judged) (n : ℕ)
       → andThen (cond (ltb 0 n) (test (getD items 0 blankWeather)) judged.Fine) (andThen (cond (ltb 1 n) (test (getD items 1 blankWeather)) judged.Fine) (cond (ltb 2 n) (test (getD items 2 blankWeather)) judged.Fine))
       ≡ judgeEach test (take n items)

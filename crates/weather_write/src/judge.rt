@@ -17,7 +17,7 @@ ghost use mathlib.Core.Path.{_≡_};
 ghost use mathlib.Core.Bool.{cond};
 ghost use mathlib.Core.List.{[]};
 ghost use Rattle.text.specs.declared.kinds.Judged.the-variants as judged;
-ghost use Rattle.elements.specs.Weather.{isNone, gapless, listed, under, isDescribed, intensityFits, phenomenaFit, isMissingWeather, judgeWeather, judgeRecent, threeFit, judgeWeathers, noWeathers};
+ghost use Rattle.elements.specs.Weather.{isNone, gapless, listed, under, isDescribed, intensityFits, phenomenaFit, judgeWeather, judgeRecent, threeFit, judgeWeathers};
 ghost use Rattle.weather_write.specs.Three.{judgeThree};
 
 fn is_none(c: Code) -> bool
@@ -75,29 +75,13 @@ fn phenomena_fit(p: Phenomena) -> bool
     }
 }
 
-fn is_missing(p: Phenomena) -> bool
-    ensures { λ r. ⌜ r ≡ isMissingWeather p ⌝ }
-{
-    match p {
-        Phenomena::Missing => true,
-        Phenomena::Is { .. } => false,
-    }
-}
-
-fn lacks(w: Weather) -> bool
-    ensures { λ r. ⌜ r ≡ isMissingWeather (w .is) ⌝ }
-{
-    let is = w.is;
-    is_missing(is)
-}
-
 // Beside CAVOK or NSW no weather stands.
 pub fn judge_weather(forecast: bool, automatic: bool, beside: bool, w: Weather) -> Judged
     ensures { λ r. ⌜ r ≡ judgeWeather forecast automatic beside w ⌝ }
 {
     let is = w.is;
     judge(
-        phenomena_fit(is) | (!forecast & is_missing(is)),
+        phenomena_fit(is) | (!forecast & is.is_missing()),
         !beside & (automatic | !has_unknown(is)),
     )
 }
@@ -116,12 +100,8 @@ pub fn judge_recent(automatic: bool, w: Weather) -> Judged
 pub fn count_fits(ws: Weathers) -> bool
     ensures { λ r. ⌜ r ≡ threeFit ws ⌝ }
 {
-    let items = ws.items;
     let count = ws.count;
-    (count <= 3)
-        & ((0 < count) | lacks(items[0]))
-        & ((1 < count) | lacks(items[1]))
-        & ((2 < count) | lacks(items[2]))
+    (count <= 3) & ws.is_blank_from(count)
 }
 
 // A judgement, where there is something to judge.
@@ -164,12 +144,4 @@ pub fn judge_recents(automatic: bool, ws: Weathers) -> Judged
         judge_recent(automatic, items[1]),
         judge_recent(automatic, items[2]),
     )
-}
-
-pub fn no_weathers(ws: Weathers) -> bool
-    ensures { λ r. ⌜ r ≡ noWeathers ws ⌝ }
-{
-    let items = ws.items;
-    let count = ws.count;
-    (count == 0) & lacks(items[0]) & lacks(items[1]) & lacks(items[2])
 }

@@ -27,7 +27,8 @@ use Rattle.record.specs.declared.values.Speed.the-variants as speed
 use Rattle.record.specs.declared.aerodrome.Unit.{Unit}
 use Rattle.record.specs.declared.aerodrome.Unit.the-variants as unit
 use Rattle.record.specs.declared.aerodrome.Wind.{Wind}
-use Rattle.elements.specs.Wind.{windShape, unitOf, speedOf, gustOf, directionOf, isCalm, windAgrees, windWith, isNoWind, windBy, readWind, numbered, readDegrees, directionValue, speedValue, gustValue, unitValue, showWind, hasUnit, gustFits, noGust, speedFits, windFits, speedsAgree, judgeWind, classDirection, classWind}
+use Rattle.elements.specs.Wind.{windShape, unitOf, speedOf, gustOf, directionOf, isCalm, windAgrees, windWith, isNoWind, windBy, readWind, numbered, readDegrees, directionValue, speedValue, gustValue, unitValue, showWind, hasUnit, gustFits, speedFits, windFits, speedsAgree, judgeWind, classDirection, classWind}
+use Rattle.record.specs.Missing.{noSpeed}
 use Rattle.wind.proofs.DirectionLaws.{text-is, text-tens, text-some, text-again, degrees-fit}
 
 -- ---- the shape
@@ -111,7 +112,7 @@ unit-said unit.Knots h = (refl, refl)
 unit-said unit.MetresPerSecond h = (refl, refl)
 unit-said unit.KilometresPerHour h = (refl, refl)
 
-missing-fits : (s : Speed) → noGust s ≡ true → gustFits s ≡ true
+missing-fits : (s : Speed) → noSpeed s ≡ true → gustFits s ≡ true
 missing-fits speed.Missing h = refl
 missing-fits (speed.Is n) h = absurd (false≢true h)
 
@@ -122,8 +123,8 @@ speed-fits (speed.Is n) h = h
 parts-fit : (forecast : Bool) (d : Direction) (s g : Speed) → windFits forecast d s g ≡ true
     → (degreesFit d ≡ true) × (gustFits s ≡ true) × (gustFits g ≡ true)
 parts-fit forecast direction.Missing s g h =
-    let t = both (not forecast && noGust s) (noGust g) h in
-    (refl, missing-fits s (both (not forecast) (noGust s) (t .0) .1), missing-fits g (t .1))
+    let t = both (not forecast && noSpeed s) (noSpeed g) h in
+    (refl, missing-fits s (both (not forecast) (noSpeed s) (t .0) .1), missing-fits g (t .1))
 parts-fit forecast direction.Calm s g h = let t = both (speedFits s) (gustFits g) h in (refl, speed-fits s (t .0), t .1)
 parts-fit forecast direction.Variable s g h = let t = both (speedFits s) (gustFits g) h in (refl, speed-fits s (t .0), t .1)
 parts-fit forecast (direction.Degrees d) s g h =
@@ -182,7 +183,7 @@ values-back forecast direction.Missing speed.Missing speed.Missing u k h e =
     rw (both (not forecast) true (both (not forecast && true) true h .0) .0, unit-back u k)
 values-back forecast direction.Missing speed.Missing (speed.Is g) u k h e = absurd (false≢true (both (not forecast && true) false h .1))
 values-back forecast direction.Missing (speed.Is s) g u k h e =
-    absurd (false≢true (both (not forecast) false (both (not forecast && false) (noGust g) h .0) .1))
+    absurd (false≢true (both (not forecast) false (both (not forecast && false) (noSpeed g) h .0) .1))
 values-back forecast direction.Calm speed.Missing g u k h e = absurd (false≢true h)
 values-back forecast direction.Calm (speed.Is s) g u k h e =
     let t = both (leb s 199) (gustFits g) h in

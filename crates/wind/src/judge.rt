@@ -2,8 +2,6 @@
 // TAF nothing is missing.
 use crate::agree::wind_agrees;
 use crate::directions::degrees_text;
-use elements::blank::has_unit;
-use elements::blank::no_gust;
 use record::aerodrome::Extremes;
 use record::aerodrome::Variation;
 use record::aerodrome::View;
@@ -42,7 +40,7 @@ fn wind_fits(forecast: bool, d: Direction, s: Speed, g: Speed) -> bool
     ensures { λ r. ⌜ r ≡ windFits forecast d s g ⌝ }
 {
     match d {
-        Direction::Missing => !forecast & no_gust(s) & no_gust(g),
+        Direction::Missing => !forecast & s.is_missing() & g.is_missing(),
         Direction::Calm => speed_fits(s) & gust_fits(g),
         Direction::Variable => speed_fits(s) & gust_fits(g),
         Direction::Degrees(degrees) => (degrees <= 359) & speed_fits(s) & gust_fits(g),
@@ -66,7 +64,7 @@ pub fn judge_wind(forecast: bool, w: Wind) -> Judged
     let gust = w.gust;
     let unit = w.unit;
     judge(
-        has_unit(unit) & wind_fits(forecast, direction, speed, gust),
+        !unit.is_missing() & wind_fits(forecast, direction, speed, gust),
         speeds_agree(direction, speed, gust),
     )
 }

@@ -9,4 +9,4 @@ judge-time-spec =
     tie.close
     (tie.spec
     (λ c κs. tt) (λ c κs. tt) (λ c κs. tt) (λ c κs. tt)
-    (λ c. unfold judgeTime in rw (c .judge .ensures, c .before .before .before .is-day .ensures, c .before .before .is-up-to .ensures, c .before .is-up-to2 .ensures)))
+    (λ c. unfold judgeTime in rw (c .judge .ensures, c .before .before .before .is-between .ensures, c .before .before .is-up-to .ensures, c .before .is-up-to2 .ensures)))

@@ -9,13 +9,14 @@ use Rattle.places.specs.Engine.{written as groupsAt}
 use Rattle.places.proofs.Sizes.{Sizes}
 use Rattle.metar_row.specs.Row.{row}
 use Rattle.metar.specs.Write.{canonicalOf}
-use Rattle.metar_laws.proofs.Canonical.{Arrays, groups-sizes, length-canonical}
+use Rattle.metar_laws.proofs.Canonical.{groups-sizes, length-canonical}
+use Rattle.record.specs.Arrays.{MetarArrays}
 use Rattle.metar_write.proofs.Writing.{report-within, report-text, written-fine}
 use Rattle.metar_write.proofs.write.write_fine.Statement.{statement}
 use Rattle.metar_write.proofs.write.write_fine.Tie as tie
 
 -- an array's length is part of its type
-arrays : (c : tie.Start) → Arrays (c .args .r)
+arrays : (c : tie.Start) → MetarArrays (c .args .r)
 arrays c =
     record {
       letters = search needs;

@@ -11,4 +11,4 @@ judge-layer-spec =
     (λ c κs. tt)
     (λ c κs. tt)
     (λ c κs. tt)
-    (λ c. rw (c .judge .ensures, c .before .before .before .has-amount .ensures, c .before .before .metres-fit .ensures, c .before .not-above .ensures)))
+    (λ c. rw (c .judge .ensures, c .before .before .before .is-none .ensures, c .before .before .metres-fit .ensures, c .before .not-above .ensures)))

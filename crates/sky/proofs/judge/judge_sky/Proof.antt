@@ -26,5 +26,5 @@ judge-sky-spec =
       layered .judge-layers .ensures,
       layered .before .is-layers .ensures,
       counted .judge .ensures,
-      counted .before .all-blank .ensures,
+      counted .before .is-blank-from .ensures,
     )))

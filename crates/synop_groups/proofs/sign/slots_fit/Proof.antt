@@ -6,7 +6,7 @@ use lib.ListN.{length, drop}
 use borrow.Author.Needs.{needs}
 use Rattle.figures.specs.Figures.{every}
 use Rattle.synop_groups.specs.Judge.{slotFits}
-use Rattle.synop_groups.proofs.Signs.{every-next, every-stop, every-end}
+use Rattle.figures.proofs.Every.{every-next, every-stop, every-end}
 use Rattle.synop_groups.proofs.sign.slots_fit.Statement.{statement}
 use Rattle.synop_groups.proofs.sign.slots_fit.Tie as tie
 
@@ -28,11 +28,11 @@ slots-fit-spec =
     (λ c.
     let d = c .before .before .before .before in
     let e = d .before .before in
-    (search needs, d .loop .inv .1 ∙ every-next (slotFits (e .args .filled)) (e .args .s .now) (d .loop .i) (search needs) (sym (c .before .slot-fits .ensures) ∙ c .if1 .taken)))
+    (search needs, d .loop .inv .1 ∙ every-next (slotFits (e .args .filled)) (e .args .s .now) (d .loop .i) 0 (search needs) (sym (c .before .slot-fits .ensures) ∙ c .if1 .taken)))
     (λ c.
     let d = c .before .before .before .before in
     let e = d .before .before in
-    sym (d .loop .inv .1 ∙ every-stop (slotFits (e .args .filled)) (e .args .s .now) (d .loop .i) (search needs) (sym (c .before .slot-fits .ensures) ∙ c .if1 .left)))
+    sym (d .loop .inv .1 ∙ every-stop (slotFits (e .args .filled)) (e .args .s .now) (d .loop .i) 0 (search needs) (sym (c .before .slot-fits .ensures) ∙ c .if1 .left)))
     (λ c.
     let d = c .before .before .before in
     sym (c .before .loop .inv .1 ∙ every-end (slotFits (d .args .filled)) (d .args .s .now) (c .before .loop .i) (search needs))))

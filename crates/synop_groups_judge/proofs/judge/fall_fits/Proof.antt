@@ -13,4 +13,4 @@ fall-fits-spec =
     (λ c κs. tt)
     (λ c κs. tt)
     (λ c. search needs)
-    (λ c. rw (c .before .before .before .f .given .1, c .before .amount-fits .ensures, c .optional-between .ensures)))
+    (λ c. rw (c .before .before .before .f .given .1, c .before .amount-fits .ensures, c .is-missing-or-between .ensures)))

@@ -18,5 +18,5 @@ judge-indicators-spec =
     let d = c .before .before .before in
     let e = d .before in
     unfold judgeIndicators in
-    let base = c .before .before .optional-between .ensures in
-    rw (c .judge .ensures, e .present-between .ensures, d .present-between2 .ensures, base, optional-metres, c .before .sight-fits .ensures)))
+    let base = c .before .before .is-missing-or-between .ensures in
+    rw (c .judge .ensures, e .is-between .ensures, d .is-between2 .ensures, base, optional-metres, c .before .sight-fits .ensures)))

@@ -10,4 +10,4 @@ judge-pressure-spec =
     (tie.spec
     (λ c κs. tt)
     (λ c κs. tt)
-    (λ c. unfold judgePressure in rw (c .judge .ensures, c .before .optional-between .ensures)))
+    (λ c. unfold judgePressure in rw (c .judge .ensures, c .before .is-missing-or-between .ensures)))

@@ -11,4 +11,4 @@ judge-rainfall-spec =
     (λ c κs. tt)
     (λ c κs. tt)
     (λ c κs. tt)
-    (λ c. unfold judgeRainfall in rw (c .judge .ensures, c .before .before .fall-fits .ensures, c .before .no-fall .ensures)))
+    (λ c. unfold judgeRainfall in rw (c .judge .ensures, c .before .before .fall-fits .ensures, c .before .is-missing .ensures)))

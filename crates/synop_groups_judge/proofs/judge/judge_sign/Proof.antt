@@ -12,12 +12,9 @@ judge-sign-spec =
     (λ c. search needs)
     (λ c κs. tt)
     (λ c κs. tt)
-    (λ c. search needs)
-    (λ c κs. tt)
     (λ c κs. tt)
     (λ c κs. tt)
     (λ c.
-    let d = c .before .before .before .before in
-    let e = d .before in
+    let d = c .before .before in
     unfold judgeSign in
-    rw (c .judge .ensures, d .slots-fit .ensures, e .name-part .ensures, c .before .slots-fit2 .ensures, c .before .before .blank-part .ensures)))
+    rw (c .judge .ensures, c .before .is-blank-from .ensures, d .slots-fit .ensures, d .before .name-part .ensures)))

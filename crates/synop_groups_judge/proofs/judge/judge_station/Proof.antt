@@ -1,7 +1,6 @@
 -- `synop_groups_judge::judge::judge_station` meets its contract, by what its parts are judged.
 -- Assumes nothing.
 use Rattle.synop_groups.specs.Judge.{judgeStation}
-use Rattle.synop_groups_judge.proofs.Judging.{present-metres}
 use Rattle.synop_groups_judge.proofs.judge.judge_station.Statement.{statement}
 use Rattle.synop_groups_judge.proofs.judge.judge_station.Tie as tie
 
@@ -11,4 +10,4 @@ judge-station-spec =
     (tie.spec
     (λ c κs. tt)
     (λ c κs. tt)
-    (λ c. unfold judgeStation in rw (c .judge .ensures, c .before .present-between .ensures, present-metres (c .before .before .args .n))))
+    (λ c. unfold judgeStation in rw (c .judge .ensures, c .before .is-between .ensures)))

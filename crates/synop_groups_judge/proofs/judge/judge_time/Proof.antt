@@ -15,4 +15,4 @@ judge-time-spec =
     (λ c.
     let d = c .before .before .before in
     unfold judgeTime in
-    rw (c .judge .ensures, d .present-between .ensures, c .before .before .present-between2 .ensures, c .before .unit-fits .ensures)))
+    rw (c .judge .ensures, d .is-between .ensures, c .before .before .is-between2 .ensures, c .before .unit-fits .ensures)))

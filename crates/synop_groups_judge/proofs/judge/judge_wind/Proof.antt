@@ -15,4 +15,4 @@ judge-wind-spec =
     (λ c.
     let d = c .before .before .before in
     unfold judgeWind in
-    rw (c .judge .ensures, d .optional-between .ensures, c .before .before .wind-fits .ensures, c .before .wind-agrees .ensures)))
+    rw (c .judge .ensures, d .is-missing-or-between .ensures, c .before .before .wind-fits .ensures, c .before .wind-agrees .ensures)))

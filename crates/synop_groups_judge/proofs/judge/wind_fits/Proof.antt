@@ -18,7 +18,7 @@ wind-fits-spec =
     (λ c κs. tt)
     (λ c. search needs)
     (λ c κs. tt)
-    (λ c. rw (c .before .enum-told .given .1) (c .no-speed .ensures ∙ fits-missing (c .before .before .before .args .s)))
+    (λ c. rw (c .before .enum-told .given .1) (c .is-missing .ensures ∙ fits-missing (c .before .before .before .args .s)))
     (λ c. rw (c .before .enum-told2 .given .1) (c .speed-fits .ensures ∙ fits-calm (c .before .before .before .args .s)))
     (λ c. rw (c .before .enum-told3 .given .1) (c .speed-fits2 .ensures ∙ fits-variable (c .before .before .before .args .s)))
     (λ c. rw (c .before .before .d .given .1, c .speed-fits3 .ensures) (fits-degrees (c .before .before .d .given .0 .0) (c .before .before .before .before .args .s))))

@@ -12,10 +12,10 @@ put-clouds-spec =
     (tie.spec
     (λ c κs. tt)
     (λ c κs. tt)
-    (λ c. unfold showClouds in rw (← c .before .no-clouds .ensures, c .if1 .taken) (write-none _ _))
+    (λ c. unfold showClouds in rw (← c .before .is-blank .ensures, c .if1 .taken) (write-none _ _))
     (λ c. search needs)
     (λ c.
     let d = c .before .before .before .before in
     let e = d .before in
     unfold showClouds in
-    rw (← e .no-clouds .ensures, d .if1 .left) (c .before .before .put-clouds-group .ensures)))
+    rw (← e .is-blank .ensures, d .if1 .left) (c .before .before .put-clouds-group .ensures)))

@@ -18,5 +18,5 @@ put-weather-spec =
     let d = c .before .before .before .before in
     let e = d .before in
     unfold showWeather in
-    rw (group-if, ← e .no-weather .ensures, d .if1 .taken) (c .before .before .put-weather-group .ensures))
-    (λ c. unfold showWeather in rw (group-if, ← c .before .no-weather .ensures, c .if1 .left) (write-none _ _)))
+    rw (group-if, ← e .is-blank .ensures, d .if1 .taken) (c .before .before .put-weather-group .ensures))
+    (λ c. unfold showWeather in rw (group-if, ← c .before .is-blank .ensures, c .if1 .left) (write-none _ _)))

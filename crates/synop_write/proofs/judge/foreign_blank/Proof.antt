@@ -10,4 +10,4 @@ foreign-blank-spec =
     (tie.spec
     (λ c κs. tt)
     (λ c κs. tt)
-    (λ c. unfold foreignBlank in rw (c .before .site-suits .ensures, c .no-surface .ensures)))
+    (λ c. unfold foreignBlank in rw (c .before .site-suits .ensures, c .is-blank .ensures)))

@@ -11,4 +11,4 @@ site-suits-spec =
     (λ c κs. tt)
     (λ c κs. tt)
     (λ c. rw (c .before .if1 .taken, c .is-missing .ensures))
-    (λ c. rw (c .before .before .if1 .left, c .before .no-sign .ensures, c .no-position .ensures)))
+    (λ c. rw (c .before .before .if1 .left, c .before .is-blank .ensures, c .is-blank2 .ensures)))

@@ -11,4 +11,4 @@ foreign-blank-spec =
     (λ c κs. tt)
     (λ c κs. tt)
     (λ c κs. tt)
-    (λ c. unfold foreignBlank in rw (c .no-changes .ensures, c .before .no-part .ensures, c .before .before .no-period .ensures)))
+    (λ c. unfold foreignBlank in rw (c .is-blank2 .ensures, c .before .has-no-part .ensures, c .before .before .is-blank .ensures)))

@@ -10,4 +10,4 @@ instant-fits-spec =
     (λ c κs. tt)
     (λ c κs. tt)
     (λ c κs. tt)
-    (λ c. rw (c .is-up-to2 .ensures, c .before .is-up-to .ensures, c .before .before .is-day .ensures)))
+    (λ c. rw (c .is-up-to2 .ensures, c .before .is-up-to .ensures, c .before .before .is-between .ensures)))

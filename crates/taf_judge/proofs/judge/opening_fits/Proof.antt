@@ -25,4 +25,4 @@ opening-fits-spec =
     (λ c. rw (c .before .enum-told3 .given .1, c .period-fits2 .ensures))
     (λ c. rw (c .before .before .o .given .1, c .period-fits3 .ensures))
     (λ c. rw (c .before .before .o2 .given .1, c .period-fits4 .ensures))
-    (λ c. rw (c .before .before .enum-told4 .given .1, c .before .instant-fits .ensures, c .no-instant .ensures)))
+    (λ c. rw (c .before .before .enum-told4 .given .1, c .before .instant-fits .ensures, c .is-blank .ensures)))

@@ -5,7 +5,7 @@ use Rattle.taf_row.proofs.tests.has_element.Statement.{statement}
 use Rattle.taf_row.proofs.tests.has_element.Tie as tie
 
 returns : tie.Need-returns
-returns c = rw (c .before .before .before .before .before .has-unit .ensures, c .before .before .before .before .no-view .ensures, c .before .before .before .is-layers .ensures)
+returns c = rw (c .before .before .before .before .before .is-missing .ensures, c .before .before .before .before .is-missing2 .ensures, c .before .before .before .is-layers .ensures)
 
 pub has-element-spec : {M : Type 1} → statement M
 has-element-spec =

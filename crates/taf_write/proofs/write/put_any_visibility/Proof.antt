@@ -11,6 +11,6 @@ put-any-visibility-spec =
     (tie.spec
     (λ c κs. tt)
     (λ c κs. tt)
-    (λ c. rw (← c .before .no-view .ensures, c .if1 .taken) (write-none _ _))
+    (λ c. rw (← c .before .is-missing .ensures, c .if1 .taken) (write-none _ _))
     (λ c. search needs)
-    (λ c. rw (← c .before .before .before .before .before .no-view .ensures, c .before .before .before .before .if1 .left) (c .before .before .put-visibility .ensures)))
+    (λ c. rw (← c .before .before .before .before .before .is-missing .ensures, c .before .before .before .before .if1 .left) (c .before .before .put-visibility .ensures)))

@@ -11,6 +11,6 @@ put-any-wind-spec =
     (tie.spec
     (λ c κs. tt)
     (λ c κs. tt)
-    (λ c. rw (← c .before .no-wind .ensures, c .if1 .taken) (write-none _ _))
+    (λ c. rw (← c .before .is-blank .ensures, c .if1 .taken) (write-none _ _))
     (λ c. search needs)
-    (λ c. rw (← c .before .before .before .before .before .no-wind .ensures, c .before .before .before .before .if1 .left) (c .before .before .put-wind .ensures)))
+    (λ c. rw (← c .before .before .before .before .before .is-blank .ensures, c .before .before .before .before .if1 .left) (c .before .before .put-wind .ensures)))

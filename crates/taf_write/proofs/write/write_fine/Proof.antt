@@ -8,14 +8,15 @@ use lib.ListN.{length, length-map}
 use lib.Seq.{length-take-le}
 use Rattle.places.proofs.Sizes.{Sizes}
 use Rattle.taf.specs.Write.{groupsOf, canonicalOf}
-use Rattle.taf_laws.proofs.Canonical.{Arrays, groups-sizes, length-canonical}
+use Rattle.taf_laws.proofs.Canonical.{groups-sizes, length-canonical}
+use Rattle.record.specs.Arrays.{TafArrays}
 use Rattle.taf_write.proofs.Lengths.{each-arrays}
 use Rattle.taf_write.proofs.Writing.{report-within, report-text, written-fine}
 use Rattle.taf_write.proofs.write.write_fine.Statement.{statement}
 use Rattle.taf_write.proofs.write.write_fine.Tie as tie
 
 -- an array's length is part of its type
-arrays : (c : tie.Start) → Arrays (c .args .t)
+arrays : (c : tie.Start) → TafArrays (c .args .t)
 arrays c =
     let leg = c .good .0 .1 .1 .0 .1 .1 in
     let changes = c .good .0 .1 .1 .1 .0 .1 .1 .0 in

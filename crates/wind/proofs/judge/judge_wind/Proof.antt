@@ -12,4 +12,4 @@ judge-wind-spec =
     (λ c κs. tt)
     (λ c κs. tt)
     (λ c κs. tt)
-    (λ c. unfold judgeWind in rw (c .judge .ensures, c .before .before .before .has-unit .ensures, c .before .before .wind-fits .ensures, c .before .speeds-agree .ensures)))
+    (λ c. unfold judgeWind in rw (c .judge .ensures, c .before .before .before .is-missing .ensures, c .before .before .wind-fits .ensures, c .before .speeds-agree .ensures)))
