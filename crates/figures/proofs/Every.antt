@@ -4,18 +4,21 @@
 use Prim.Native.Nat.{ℕ, _+_, _≤_, _<_}
 use native.Mathlib.Numerals.{add-one}
 use mathlib.Core.Path.{_≡_, refl, ap}
-use mathlib.Core.Bool.{Bool, true, false, and-eq-true-iff}
+use mathlib.Core.Bool.{Bool, true, false, _&&_, and-eq-true-iff}
 use mathlib.Core.List.{List, [], _∷_}
 use lib.ListN.{length, drop, getD, replicate, drop-of-length-le}
 use lib.Seq.{drop-cons}
 use Rattle.figures.specs.Figures.{every}
 
 module _ {A : Type 0} (P : A → Bool) (l : List A) (i : ℕ) where
+  pub every-at : (d : A) → i < length l → every P (drop i l) ≡ (P (getD l i d) && every P (drop (i + 1) l))
+  every-at d h = rw (add-one, drop-cons l i d h)
+
   pub every-next : (d : A) → i < length l → P (getD l i d) ≡ true → every P (drop i l) ≡ every P (drop (i + 1) l)
-  every-next d h e = rw (add-one, drop-cons l i d h, e)
+  every-next d h e = rw (every-at d h, e)
 
   pub every-stop : (d : A) → i < length l → P (getD l i d) ≡ false → every P (drop i l) ≡ false
-  every-stop d h e = rw (drop-cons l i d h, e)
+  every-stop d h e = rw (every-at d h, e)
 
   pub every-end : length l ≤ i → every P (drop i l) ≡ true
   every-end h = ap (every P) (drop-of-length-le l {i = i} h)

@@ -54,15 +54,7 @@ module _ (P : ℕ → Bool) where
       go true e ih = rw (lead-cons-yes x xs e) (ih (omega (arith, lead-cons-yes x xs e)))
       go false e ih = rw (lead-cons-no x xs e) e
 
-  -- ---- whether every byte passes
-
-  pub every-next : (t : List ℕ) (i : ℕ) → i < length t → every P (drop i t) ≡ (P (getD t i 0) && every P (drop (i + 1) t))
-  every-next t i h = rw (add-one i, drop-cons t i 0 h)
-
-  pub every-end : (t : List ℕ) (i : ℕ) → length t ≤ i → every P (drop i t) ≡ true
-  every-end t i h = rw (drop-of-length-le t h)
-
-  -- then they reach to the end, and else not
+  -- where every byte passes they reach to the end, and else not
   pub lead-all : (l : List ℕ) → every P l ≡ true → lead P l ≡ length l
   unfolding lead
   lead-all [] e = refl

@@ -7,8 +7,8 @@ use native.Mathlib.Omega.{arith}
 use borrow.Author.Needs.{needs}
 use lib.ListN.{length, drop}
 use Rattle.figures.specs.Figures.{every}
+use Rattle.figures.proofs.Every.{every-at, every-end}
 use Rattle.text.specs.Bytes.{allowed}
-use Rattle.text.proofs.Leads.{every-next, every-end}
 use Rattle.text.proofs.are_allowed.Statement.{statement}
 use Rattle.text.proofs.are_allowed.Tie as tie
 
@@ -30,5 +30,5 @@ are-allowed-spec =
     (λ c.
     let d = c .before .before .before in
     let t = d .before .before .args .text .now in
-    d .loop .inv ∙ rw (every-next allowed t (d .loop .i) (c .before .before .loop-test .taken), ← c .is-allowed .ensures) (sym (and-assoc (d .loop .fine) (c .is-allowed .result) (every allowed (drop (d .loop .i + 1) t)))))
+    d .loop .inv ∙ rw (every-at allowed t (d .loop .i) 0 (c .before .before .loop-test .taken), ← c .is-allowed .ensures) (sym (and-assoc (d .loop .fine) (c .is-allowed .result) (every allowed (drop (d .loop .i + 1) t)))))
     (λ c. sym (c .before .loop .inv ∙ rw (every-end allowed (c .before .before .before .args .text .now) (c .before .loop .i) (c .loop-test .left)) (and-true (c .before .loop .fine)))))
