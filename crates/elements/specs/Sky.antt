@@ -130,7 +130,7 @@ coverGroups (cover.Vertical h) = (bytes "VV" ++ fieldText 3 (heightField h)) ∷
 unfoldable pub showSky : Sky → List Group
 showSky s = coverGroups (s .cover) ++ map showLayer (take (s .count) (s .layers))
 
--- ---- judging, in the order cover, count, layers: each one's 11, then 7 for standing beside one before it
+-- ---- judging, in the order count and slots past it, cover, layers: each one's 11, then 7 for standing beside one before it
 
 abbrev pub coverFits : Bool → Cover → Bool
 coverFits forecast cover.Layers = true
@@ -162,8 +162,8 @@ judgeLayers forecast beside before (l ∷ ls) =
 
 unfoldable pub judgeSky : Bool → Bool → Sky → Judged
 judgeSky forecast cavok s =
-    andThen (judgeCover forecast cavok (s .cover))
-    (andThen (judge (leb (s .count) 4 && every isBlankLayer (drop (s .count) (s .layers))) true)
+    andThen (judge (leb (s .count) 4 && every isBlankLayer (drop (s .count) (s .layers))) true)
+    (andThen (judgeCover forecast cavok (s .cover))
     (judgeLayers forecast (cavok || not (isLayers (s .cover))) [] (take (s .count) (s .layers))))
 
 -- ---- what is read back

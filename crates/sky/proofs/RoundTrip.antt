@@ -181,10 +181,10 @@ module _ (forecast : Bool) where
     unfolding judgeSky
     sky-fits s e =
         let counted = leb (s .count) 4 && every isBlankLayer (drop (s .count) (s .layers)) in
-        let t = and-then (judgeCover forecast cavok (s .cover)) _ e in
-        let u = and-then (judge counted true) _ (t .1) in
-        let c = fine (coverFits forecast (s .cover)) (not cavok || isLayers (s .cover)) (t .0) in
-        let n = both (leb (s .count) 4) (every isBlankLayer (drop (s .count) (s .layers))) (fine counted true (u .0) .0) in
+        let t = and-then (judge counted true) _ e in
+        let u = and-then (judgeCover forecast cavok (s .cover)) _ (t .1) in
+        let c = fine (coverFits forecast (s .cover)) (not cavok || isLayers (s .cover)) (u .0) in
+        let n = both (leb (s .count) 4) (every isBlankLayer (drop (s .count) (s .layers))) (fine counted true (t .0) .0) in
         record { cover = c .0; seen = c .1; count = leb-true (s .count) 4 (n .0); blank = n .1; layers = u .1 }
 
     -- ---- the shapes of the groups
@@ -311,13 +311,13 @@ module _ (forecast : Bool) where
     sky-classed s e =
         let f = sky-fits s e in
         rw (
-          cover-classed (s .cover),
-          cover-fits (s .cover) (f .cover),
-          f .seen,
           le-leb (s .count) 4 (f .count),
           drop-map classLayer (s .count) (s .layers),
           blanks-classed (drop (s .count) (s .layers)),
           f .blank,
+          cover-classed (s .cover),
+          cover-fits (s .cover) (f .cover),
+          f .seen,
           take-map classLayer (s .count) (s .layers),
         )
         (layers-classed (cavok || not (isLayers (s .cover))) [] (take (s .count) (s .layers)) (f .layers))

@@ -108,5 +108,6 @@ pub fn judge_sky(forecast: bool, cavok: bool, s: Sky) -> Judged
     let count = s.count;
     let counted = judge((count <= 4) & s.is_blank_from(count), true);
     let layered = judge_layers(forecast, cavok | !c.is_layers(), layers, count);
-    and_then(judge_cover(forecast, cavok, c), and_then(counted, layered))
+    let covered = and_then(judge_cover(forecast, cavok, c), layered);
+    and_then(counted, covered)
 }
