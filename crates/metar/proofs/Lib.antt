@@ -1,3 +1,2 @@
--- The laws of reading, and worked examples.
-pub mod Examples
+-- The laws of reading.
 pub mod Steps

@@ -3,7 +3,7 @@
 use Prim.Native.Nat.{ℕ, zero, suc, _+_, _≤_, _<_, zero-le}
 use native.Mathlib.Omega.{arith}
 use mathlib.Core.Path.{_≡_, refl, sym, ap, _∙_}
-use mathlib.Core.Bool.{Bool, true, false, not, _&&_}
+use mathlib.Core.Bool.{Bool, true, false, not, cond, _&&_}
 use mathlib.Core.List.{List, [], _∷_}
 use lib.ListN.{length, drop, List·getD-eq-default}
 use lib.Dec.{leb}
@@ -12,24 +12,24 @@ use types.Run.{OneOf, miss}
 use denote.Enum.Declared.{tagOf}
 use Rattle.text.specs.declared.kinds.Refusal.{Refusal}
 use Rattle.text.specs.declared.kinds.Refusal.the-variants as refusal
-use Rattle.text.specs.declared.kinds.Bytes.{Bytes}
-use Rattle.text.specs.Groups.{groupsFrom, partOf}
+use Rattle.text.specs.declared.kinds.Tail.{Tail}
+use Rattle.text.specs.Groups.{Piece, groupsFrom, partOf}
 use Rattle.text.proofs.Groups.{Follows}
-use Rattle.text.specs.Text.{bytesOf, tailOf}
+use Rattle.text.specs.Text.{tailOf}
 use Rattle.figures.specs.Quote.{bytes}
-use Rattle.shapes.specs.Pattern.{hasAny}
-use Rattle.shapes.proofs.Patterns.{both}
+use Rattle.shapes.specs.Pattern.{low, high, fits, hasPattern, hasAny, clash, clashEach, allApart}
+use Rattle.shapes.proofs.Patterns.{both, or-right, excluded, all-excluded}
 use Rattle.places.specs.declared.kinds.Found.{Found}
 use Rattle.places.specs.declared.kinds.Found.the-variants.{Take, Skips, Full, Earlier, Unknown}
 use Rattle.places.specs.Seek.{findOf, owed, refusalOf}
 use Rattle.places.specs.Engine.{Group, Read, Good, Bad, Place, nowhere, placeAt, standsOf, mustsOf, taken, judged, onward, Step, On, Halt, Stop, step, finish, closed, over, run}
-use Rattle.places.specs.Answer.{afterBytes}
+use Rattle.places.proofs.ReadBack.{two-patterns}
 use Rattle.places.proofs.Rows.{taken-open}
-use Rattle.places.proofs.Going.{closes, step-past, step-word, step-by, going, going-over, going-on, going-halt, going-fault}
+use Rattle.places.proofs.Going.{closes, step-first, step-past, step-word, step-by, going, going-over, going-on, going-halt, going-fault}
 use Rattle.places.proofs.kinds.Found as found
 use Rattle.record.specs.declared.aerodrome.Weather.{Weather}
 use Rattle.record.specs.declared.aerodrome.Metar.{Metar}
-use Rattle.record.specs.Metar.{blankMetar}
+use Rattle.record.specs.Metar.{blankMetar, setSpecial}
 use Rattle.elements.specs.Parts.{agreeing}
 use Rattle.elements.specs.Visibility.{isCavok}
 use Rattle.metar.specs.declared.kinds.Told.{Told}
@@ -39,7 +39,7 @@ use Rattle.metar.specs.declared.kinds.Stepped.{Stepped}
 use Rattle.metar.specs.declared.kinds.Reading.{Reading}
 use Rattle.metar_row.specs.Row.{onto, besideCavok, isName, row, stopWords}
 use Rattle.metar.specs.Step.{toldOf, standing, stepped, arrived, stepOf}
-use Rattle.metar.specs.Read.{fromFirst, reading, refused, answer, readOf}
+use Rattle.metar.specs.Read.{groupsRead, behindName, refused, answer}
 
 -- ---- what a group adds
 
@@ -193,27 +193,30 @@ module _ (t : List ℕ) (s : Standing) (at : ℕ) where
             let z : m ≡ f = cc in
             ap answer (going-fault row stopWords t (s .place) (s .count) (s .report) at from to g groups m is) ∙ rw z
 
--- ---- the text as a whole
+-- ---- the name, at the row's first place
 
-abbrev whole : List ℕ → Reading
-whole t = answer (fromFirst (tailOf t) (length t) (groupsFrom t 0))
+abbrev pub nameFor : Bool → List ℕ
+nameFor special = cond special (bytes "SPECI") (bytes "METAR")
 
-pub no-first : (t : List ℕ) → groupsFrom t 0 ≡ [] → refused refusal.Kind 0 ≡ whole t
-unfolding fromFirst
-no-first t none = rw none
+module _ (special : Bool) (g : Group) (is : hasPattern g (nameFor special) ≡ true) where
+  tells : (isName g ≡ true) × (hasPattern g (bytes "SPECI") ≡ special)
+  unfolding clash fits low high
+  tells = go special is
+    where
+      go : (s : Bool) → hasPattern g (nameFor s) ≡ true → (isName g ≡ true) × (hasPattern g (bytes "SPECI") ≡ s)
+      go true e = (or-right (hasPattern g (bytes "METAR")) (hasPattern g (bytes "SPECI")) e, e)
+      go false e = (rw e, excluded g (bytes "METAR") (bytes "SPECI") refl e)
 
-module _ (t : List ℕ) (s e : ℕ) {g : Group} (follows : Follows t 0 s e) (cut : g ≡ partOf t s e) where
-  first : groupsFrom t 0 ≡ record { start = s; bytes = g } ∷ groupsFrom t e
-  first = rw cut (follows .groups)
+  no-stop : hasAny stopWords g ≡ false
+  unfolding stopWords allApart clashEach clash fits low high
+  no-stop = all-excluded g (bytes "METAR" ∷ bytes "SPECI" ∷ []) stopWords refl (two-patterns (bytes "METAR") (bytes "SPECI") g (tells .0))
 
-  pub first-name : isName g ≡ true → answer (run row stopWords (tailOf t) (length t) 0 0 blankMetar (groupsFrom t 0)) ≡ whole t
-  unfolding fromFirst
-  first-name is = rw (first, is)
+  taken-first : step row stopWords 0 0 blankMetar g ≡ On 0 1 (setSpecial special blankMetar)
+  unfolding row
+  taken-first = step-first _ _ stopWords blankMetar g (tells .0) (omega arith) no-stop ∙ rw (tells .1)
 
-  pub first-other : isName g ≡ false → refused refusal.Kind s ≡ whole t
-  unfolding fromFirst
-  first-other is = rw (first, is)
-
-pub read-by : (t : List ℕ) {x y : Bytes} → x ≡ y → x ≡ bytesOf t → afterBytes reading blankMetar y (whole t) ≡ readOf t
-unfolding readOf
-read-by t is asked = ap (λ (z : Bytes). afterBytes reading blankMetar z (whole t)) (sym is ∙ asked)
+-- BEHIND THE NAME the groups come to what all groups come to.
+pub past-name : (special : Bool) (tail : Tail) (end : ℕ) (g : Piece) (gs : List Piece) → hasPattern (g .bytes) (nameFor special) ≡ true
+    → groupsRead tail end (g ∷ gs) ≡ behindName special tail end gs
+unfolding groupsRead behindName run
+past-name special tail end g gs is = rw (taken-first special (g .bytes) is)

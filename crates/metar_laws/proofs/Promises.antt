@@ -5,7 +5,9 @@ use mathlib.Core.Path.{_≡_, refl}
 use mathlib.Core.Bool.{Bool, true, false}
 use lib.ListN.{length}
 use Rattle.text.specs.declared.kinds.Judged.the-variants as judged
-use Rattle.text.specs.declared.kinds.Verdict.the-variants as verdict
+use Rattle.text.specs.Groups.{groupsFrom}
+use Rattle.text.specs.Text.{tailOf}
+use Rattle.places.specs.Engine.{Done}
 use Rattle.text.proofs.Judging.{fine}
 use Rattle.record.specs.declared.aerodrome.Metar.{Metar}
 use Rattle.elements.specs.Visibility.{viewFits, judgeVisibility}
@@ -13,7 +15,7 @@ use Rattle.wind.proofs.Promises.{DirectionNear, no-direction, wind-near, Extrem
 use Rattle.sky.proofs.Promises.{SkyBack, sky-read}
 use Rattle.aerodrome_groups.proofs.Promises.{RunwaysKept, runways-kept, TemperaturesKept, temperatures-kept, QnhKept, qnh-kept}
 use Rattle.metar_row.specs.Row.{row}
-use Rattle.metar.specs.Read.{readOf}
+use Rattle.metar.specs.Read.{groupsRead}
 use Rattle.metar.specs.Write.{judgeOf, canonicalOf, classedOf}
 use Rattle.record.specs.Arrays.{MetarArrays}
 use Rattle.record.proofs.AerodromeBlanks.{Bare}
@@ -96,5 +98,5 @@ record-read r n =
 
 -- WHAT IS WRITTEN OF A RECORD THAT THE WRITER ACCEPTS IS READ, to the text's end, as a record that says the same.
 pub promise : (r : Metar) → MetarArrays r → judgeOf r ≡ judged.Fine
-    → (readOf (canonicalOf r) .verdict ≡ verdict.Accepted (length (canonicalOf r))) × RecordRead r (readOf (canonicalOf r) .report)
-promise r arrays e = rw (read-canonical r arrays e) (refl, record-read r (near r arrays e))
+    → (groupsRead (tailOf (canonicalOf r)) (length (canonicalOf r)) (groupsFrom (canonicalOf r) 0) ≡ Done (length (canonicalOf r)) (classedOf r)) × RecordRead r (classedOf r)
+promise r arrays e = (read-canonical r arrays e, record-read r (near r arrays e))

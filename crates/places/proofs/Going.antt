@@ -5,14 +5,15 @@ use mathlib.Core.Path.{_≡_, _∙_}
 use mathlib.Core.Bool.{Bool, true, false, cond}
 use mathlib.Core.List.{List, [], _∷_}
 use lib.ListN.{length, drop}
-use borrow.Author.Tests.{le-leb, lt-leb}
+use native.Mathlib.Omega.{arith}
+use borrow.Author.Tests.{le-leb, lt-leb, lt-ltb}
 use Rattle.text.specs.declared.kinds.Refusal.{Refusal}
 use Rattle.text.specs.declared.kinds.Refusal.the-variants as refusal
 use Rattle.text.specs.declared.kinds.Tail.the-variants.{Clear, Junk}
 use Rattle.text.specs.Groups.{groupsFrom}
 use Rattle.text.specs.Text.{tailOf}
 use Rattle.shapes.specs.Pattern.{Pattern, hasAny}
-use Rattle.places.specs.Seek.{findOf, owed}
+use Rattle.places.specs.Seek.{seek, findOf, owed}
 use Rattle.places.specs.Engine.{Group, Good, Place, placeAt, standsOf, mustsOf, taken, onward, judged, On, Halt, Stop, step, Outcome, Fault, finish, closed, over, run}
 use Rattle.places.specs.declared.kinds.Found.{Found}
 
@@ -26,6 +27,12 @@ module _ {R : Type 0} (row : List (Place R)) where
   -- reading ends at a position of the text
   pub closes : (at c k : ℕ) (acc : R) (b : Bool) → owed k (drop c (mustsOf row)) ≡ b → closed row at c k acc ≡ finish b at acc
   closes at c k acc b e = rw e
+
+-- a group that has the shape of a row's first place, where none stands yet
+module _ {R : Type 0} (p : Place R) (ps : List (Place R)) (words : List Pattern) (acc : R) (g : Group) where
+  pub step-first : p .has g ≡ true → 0 < p .most → hasAny words g ≡ false → step (p ∷ ps) words 0 0 acc g ≡ taken (onward (p ∷ ps) 0) 1 (p .read 0 g acc)
+  unfolding step findOf seek
+  step-first has room none = rw (lt-leb (length (p ∷ ps)) 0 (omega arith), none, has, lt-ltb 0 (p .most) room)
 
 module _ {R : Type 0} (row : List (Place R)) (words : List Pattern) where
   -- ---- one group

@@ -2,9 +2,6 @@
 -- Assumes nothing: these are definitions.
 use Prim.Native.Nat.{ℕ}
 use Rattle.text.specs.declared.kinds.Refusal.{Refusal}
-use Rattle.text.specs.declared.kinds.Refusal.the-variants as refusal
-use Rattle.text.specs.declared.kinds.Bytes.{Bytes}
-use Rattle.text.specs.declared.kinds.Bytes.the-variants as judgement
 use Rattle.text.specs.declared.kinds.Verdict.{Verdict}
 use Rattle.text.specs.declared.kinds.Verdict.the-variants as verdict
 use Rattle.places.specs.Engine.{Outcome, Done, Fault}
@@ -20,9 +17,3 @@ module _ {R A : Type 0} (make : Verdict → R → A) (blank : R) where
   abbrev pub answerOf : Outcome R → A
   answerOf (Done rest r) = acceptedAs rest r
   answerOf (Fault f at) = refusedAs f at
-
-  -- "1, 2 and 3 are judged over the whole text in that order": the bytes first
-  abbrev pub afterBytes : Bytes → A → A
-  afterBytes judgement.Sound a = a
-  afterBytes judgement.Length a = refusedAs refusal.Length 0
-  afterBytes (judgement.Byte at) a = refusedAs refusal.Byte at

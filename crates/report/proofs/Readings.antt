@@ -1,23 +1,85 @@
--- The library reads a text as the first kind whose reader does not refuse it as another's (3).
+-- What a kind's reader answers from behind the name on is what the text is read as.
 -- Assumes nothing.
 use Prim.Native.Nat.{ℕ}
-use mathlib.Core.Path.{_≡_}
-use mathlib.Core.Bool.{Bool, true, false, not}
+use mathlib.Core.Path.{_≡_, refl, subst, _∙_}
+use mathlib.Core.Bool.{Bool}
 use mathlib.Core.List.{List}
-use borrow.Author.Tests.{not-true, not-false}
-use Rattle.report_record.specs.declared.kinds.Reading.{Reading}
-use Rattle.report.specs.Read.{isOther, surfaceOf, observedOf, forecastOf, readOf}
+use lib.ListN.{length}
+use Rattle.text.specs.declared.kinds.Refusal.{Refusal}
+use Rattle.text.specs.Groups.{groupsFrom}
+use Rattle.text.specs.Text.{tailOf}
+use Rattle.places.specs.Engine.{Outcome, Done, Fault}
+use Rattle.record.specs.declared.surface.Synop.{Synop}
+use Rattle.record.specs.declared.aerodrome.Metar.{Metar}
+use Rattle.record.specs.declared.aerodrome.Taf.{Taf}
+use Rattle.synop_section.specs.declared.kinds.Reading.{Reading as SynopReading}
+use Rattle.synop_section.specs.Answer as surface
+use Rattle.synop.specs.Read as synop
+use Rattle.metar.specs.declared.kinds.Reading.{Reading as MetarReading}
+use Rattle.metar.specs.Read as metar
+use Rattle.metar.proofs.Steps as metar-steps
+use Rattle.taf.specs.declared.kinds.Reading.{Reading as TafReading}
+use Rattle.taf.specs.Read as taf
+use Rattle.taf.proofs.Turns as taf-turns
+use Rattle.report_record.specs.declared.kinds.Name.{Name}
+use Rattle.report_record.specs.declared.kinds.Name.the-variants as name
+use Rattle.report_record.specs.Record.{surfaceReport, observedReport, forecastReport, ofSurface, ofObserved, ofForecast, refused}
+use Rattle.report.specs.Read.{answered, readAs, nameOf, readOf}
+use Rattle.report.proofs.Names.{Says, name-says}
 
-module _ (t : List ℕ) {a : Reading} {o : Bool} (is : a ≡ surfaceOf t) (other : o ≡ isOther (a .verdict)) where
-  pub as-surface : not o ≡ true → a ≡ readOf t
+-- ---- a kind's answer as that of a report: the record of a refused text is blank already
+
+surface-answer : (o : Outcome Synop) → ofSurface (surface.answer o .verdict) (surface.answer o .report) ≡ answered surfaceReport o
+surface-answer (Done rest r) = refl
+surface-answer (Fault f at) = refl
+
+observed-answer : (o : Outcome Metar) → ofObserved (metar.answer o .verdict) (metar.answer o .report) ≡ answered observedReport o
+observed-answer (Done rest r) = refl
+observed-answer (Fault f at) = refl
+
+forecast-answer : (o : Outcome Taf) → ofForecast (taf.answer o .verdict) (taf.answer o .report) ≡ answered forecastReport o
+forecast-answer (Done rest r) = refl
+forecast-answer (Fault f at) = refl
+
+-- ---- by the name
+
+module _ (t : List ℕ) where
+  says : (n : Name) → nameOf t ≡ n → Says t n
+  says n is = subst (Says t) is (name-says t)
+
+  -- behind METAR or SPECI, behind TAF
+  past-observed : (special : Bool) (at : ℕ) → nameOf t ≡ name.Observed special at
+      → metar.groupsRead (tailOf t) (length t) (groupsFrom t 0) ≡ metar.behindName special (tailOf t) (length t) (groupsFrom t at)
+  past-observed special at is =
+      let (n, behind) = says (name.Observed special at) is in
+      rw (n .groups, behind) (metar-steps.past-name special (tailOf t) (length t) (n .first) (n .others) (n .named))
+
+  past-forecast : (at : ℕ) → nameOf t ≡ name.Forecast at
+      → taf.groupsRead (tailOf t) (length t) (groupsFrom t 0) ≡ taf.behindName (tailOf t) (length t) (groupsFrom t at)
+  past-forecast at is =
+      let (n, behind) = says (name.Forecast at) is in
+      rw (n .groups, behind) (taf-turns.past-name (tailOf t) (length t) (n .first) (n .others) (n .named))
+
+  by-name : (n : Name) → nameOf t ≡ n → readAs t n ≡ readOf t
   unfolding readOf
-  as-surface n = rw (← is, ← other, not-true o n)
+  by-name n is = rw is
 
-  module _ (n : not o ≡ false) {b : Reading} {p : Bool} (is2 : b ≡ observedOf t) (other2 : p ≡ isOther (b .verdict)) where
-    pub as-observed : not p ≡ true → b ≡ readOf t
-    unfolding readOf
-    as-observed m = rw (← is, ← other, not-false o n, ← is2, ← other2, not-true p m)
+  -- WHAT A KIND'S READER ANSWERS, from behind the name on, the text is read as.
+  pub as-surface : (ship : Bool) (at : ℕ) → nameOf t ≡ name.Surface ship at → {a : SynopReading}
+      → a ≡ surface.answer (synop.groupsRead ship (tailOf t) (length t) (groupsFrom t at))
+      → ofSurface (a .verdict) (a .report) ≡ readOf t
+  as-surface ship at is e = rw e (surface-answer (synop.groupsRead ship (tailOf t) (length t) (groupsFrom t at)) ∙ by-name (name.Surface ship at) is)
 
-    pub as-forecast : not p ≡ false → {d : Reading} → d ≡ forecastOf t → d ≡ readOf t
-    unfolding readOf
-    as-forecast m e = rw (← is, ← other, not-false o n, ← is2, ← other2, not-false p m) e
+  pub as-observed : (special : Bool) (at : ℕ) → nameOf t ≡ name.Observed special at → {a : MetarReading}
+      → a ≡ metar.answer (metar.behindName special (tailOf t) (length t) (groupsFrom t at))
+      → ofObserved (a .verdict) (a .report) ≡ readOf t
+  as-observed special at is e =
+      rw (e, ← past-observed special at is) (observed-answer (metar.groupsRead (tailOf t) (length t) (groupsFrom t 0)) ∙ by-name (name.Observed special at) is)
+
+  pub as-forecast : (at : ℕ) → nameOf t ≡ name.Forecast at → {a : TafReading}
+      → a ≡ taf.answer (taf.behindName (tailOf t) (length t) (groupsFrom t at))
+      → ofForecast (a .verdict) (a .report) ≡ readOf t
+  as-forecast at is e = rw (e, ← past-forecast at is) (forecast-answer (taf.groupsRead (tailOf t) (length t) (groupsFrom t 0)) ∙ by-name (name.Forecast at) is)
+
+  pub as-refused : (f : Refusal) (at : ℕ) → nameOf t ≡ name.Refused f at → refused f at ≡ readOf t
+  as-refused f at is = by-name (name.Refused f at) is

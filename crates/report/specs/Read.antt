@@ -1,16 +1,22 @@
 -- Reading a text of any kind: as the kind that its first group names.
 -- Assumes nothing: these are definitions.
-use Prim.Native.Nat.{ℕ}
-use mathlib.Core.Bool.{Bool, false, cond}
-use mathlib.Core.List.{List}
+use Prim.Native.Nat.{ℕ, _+_}
+use Prim.Native.String.{String}
+use mathlib.Core.Bool.{Bool, true, false, cond}
+use mathlib.Core.List.{List, [], _∷_}
 use lib.ListN.{length}
-use lib.Dec.{eqb}
-use Rattle.text.specs.declared.kinds.Refusal.{Refusal}
+use Rattle.figures.specs.Quote.{bytes}
+use Rattle.text.specs.declared.kinds.Refusal.the-variants as refusal
+use Rattle.text.specs.declared.kinds.Bytes.{Bytes}
+use Rattle.text.specs.declared.kinds.Bytes.the-variants as judgement
 use Rattle.text.specs.declared.kinds.Verdict.{Verdict}
 use Rattle.text.specs.declared.kinds.Verdict.the-variants as verdict
-use Rattle.text.specs.Refusals.{numberOf}
-use Rattle.text.specs.Groups.{partOf}
-use Rattle.places.specs.Answer.{acceptedAs, refusedAs}
+use Rattle.text.specs.Groups.{Piece, groupsFrom, partOf}
+use Rattle.text.specs.Text.{bytesOf, tailOf}
+use Rattle.shapes.specs.Pattern.{hasPattern}
+use Rattle.places.specs.Engine.{Group, Outcome, Done, Fault}
+use Rattle.report_record.specs.declared.kinds.Name.{Name}
+use Rattle.report_record.specs.declared.kinds.Name.the-variants as name
 use Rattle.report_record.specs.declared.kinds.Report.{Report}
 use Rattle.report_record.specs.declared.kinds.Reading.{Reading}
 use Rattle.report_record.specs.Record.{accepted, refused, surfaceReport, observedReport, forecastReport}
@@ -18,31 +24,50 @@ use Rattle.synop.specs.Read as synop
 use Rattle.metar.specs.Read as metar
 use Rattle.taf.specs.Read as taf
 
--- what one kind's reader answers: the record of a text that it accepts
-abbrev pub answered : Verdict → Report → Reading
-answered (verdict.Accepted rest) r = accepted rest r
-answered (verdict.Refused f at) r = refused f at
+-- ---- the kind: "1, 2 and 3 are judged over the whole text in that order."
 
-abbrev pub surfaceOf : List ℕ → Reading
-surfaceOf text = answered (synop.readOf text .verdict) (surfaceReport (synop.readOf text .report))
+abbrev pub word : String → Group → Bool
+word w g = hasPattern g (bytes w)
 
-abbrev pub observedOf : List ℕ → Reading
-observedOf text = answered (metar.readOf text .verdict) (observedReport (metar.readOf text .report))
+-- what a first group names that stands from start up to end. 3: "the first group is not AAXX, BBXX, METAR, SPECI or TAF; its place"
+abbrev pub nameBy : Group → ℕ → ℕ → Name
+nameBy g start end =
+    cond (word "AAXX" g) (name.Surface false end)
+    (cond (word "BBXX" g) (name.Surface true end)
+    (cond (word "METAR" g) (name.Observed false end)
+    (cond (word "SPECI" g) (name.Observed true end) (cond (word "TAF" g) (name.Forecast end) (name.Refused refusal.Kind start)))))
 
-abbrev pub forecastOf : List ℕ → Reading
-forecastOf text = answered (taf.readOf text .verdict) (forecastReport (taf.readOf text .report))
+-- "0 if no group stands before an "=" or the end"
+abbrev pub firstName : List Piece → Name
+firstName [] = name.Refused refusal.Kind 0
+firstName (g ∷ gs) = nameBy (g .bytes) (g .start) (g .start + length (g .bytes))
 
--- refusal 3 of one kind's reader: the first group names another kind, or none
-abbrev pub isOther : Verdict → Bool
-isOther (verdict.Accepted rest) = false
-isOther (verdict.Refused f at) = eqb (numberOf f) 3
+-- 1: "the text is empty or over 2,048 bytes; place 0". 2: "a byte that is not A-Z, 0-9, / + - = space CR LF; place of the first"
+abbrev pub afterBytes : Bytes → Name → Name
+afterBytes judgement.Sound n = n
+afterBytes judgement.Length n = name.Refused refusal.Length 0
+afterBytes (judgement.Byte at) n = name.Refused refusal.Byte at
 
-abbrev pub unlessOther : Reading → Reading → Reading
-unlessOther a b = cond (isOther (a .verdict)) b a
+-- THE KIND THAT A TEXT'S FIRST GROUP NAMES, and where the groups behind it begin
+unfoldable pub nameOf : List ℕ → Name
+nameOf text = afterBytes (bytesOf text) (firstName (groupsFrom text 0))
 
--- WHAT A TEXT IS READ AS. "3: the first group is not AAXX, BBXX, METAR, SPECI or TAF".
+-- ---- the groups: "Then groups go left to right and the first at fault answers"
+
+-- what the groups of a kind come to: its record in a report of that kind, or the refusal with a blank report
+abbrev pub answered : {R : Type 0} → (R → Report) → Outcome R → Reading
+answered within (Done rest r) = accepted rest (within r)
+answered within (Fault f at) = refused f at
+
+abbrev pub readAs : List ℕ → Name → Reading
+readAs text (name.Surface ship at) = answered surfaceReport (synop.groupsRead ship (tailOf text) (length text) (groupsFrom text at))
+readAs text (name.Observed special at) = answered observedReport (metar.groupsRead (tailOf text) (length text) (groupsFrom text 0))
+readAs text (name.Forecast at) = answered forecastReport (taf.groupsRead (tailOf text) (length text) (groupsFrom text 0))
+readAs text (name.Refused f at) = refused f at
+
+-- WHAT A TEXT IS READ AS: the kind that its first group names.
 unfoldable pub readOf : List ℕ → Reading
-readOf text = unlessOther (surfaceOf text) (unlessOther (observedOf text) (forecastOf text))
+readOf text = readAs text (nameOf text)
 
 -- ---- "The rest, from that group to the text's end, is .. handed back as a part of the caller's text; where there is none, or the text is refused, it
 -- is the empty part at the end."

@@ -1,67 +1,83 @@
-// The library's face: the record of any report, and the public calls. `read` says what a text says, `rest` hands back its unread part, `write` writes a
-// record into a lent buffer, `standing` hands back the one of two texts that stands.
-use report_record::answer::accept;
-use report_record::answer::refuse;
+// The library's face: the public calls. `name` says which kind of report a text is, `read` what it says, `rest` hands back its unread part, `write` writes
+// a record into a lent buffer, `standing` hands back the one of two texts that stands.
+use report_record::answer;
 use report_record::kinds::Kind;
+use report_record::kinds::Name;
 use report_record::kinds::Reading;
 use report_record::kinds::Report;
 use report_record::kinds::Stands;
 use report_record::kinship;
-use report_record::parts::forecast_report;
-use report_record::parts::observed_report;
-use report_record::parts::surface_report;
+use shapes::has_pattern;
+use text::kinds::Bytes;
+use text::kinds::Cut;
 use text::kinds::Refusal;
 use text::kinds::Verdict;
 use text::kinds::Written;
 ghost use mathlib.Core.Path.{_≡_};
 ghost use lib.ListN.{length};
 ghost use Rattle.report_record.specs.declared.kinds.Kind.the-variants as kind;
-ghost use Rattle.report.specs.Read.{isOther, surfaceOf, observedOf, forecastOf, readOf, restPlace, restOf};
+ghost use Rattle.text.specs.Groups.{groupsFrom};
+ghost use Rattle.report.specs.Read.{nameBy, firstName, nameOf, readOf, restPlace, restOf};
 ghost use Rattle.report.specs.Write.{writtenBy, bufferAfter, writtenOf, bufferOf};
 ghost use Rattle.report.specs.Standing.{standsOf, standingOf};
 
 // ---- reading
 
-// Was it refused as a text of another kind?
-fn is_other(verdict: Verdict) -> bool
-    ensures { λ r. ⌜ r ≡ isOther verdict ⌝ }
+// What the first group, from `start` up to `end`, names.
+fn name_group(g: &[u8], start: usize, end: usize) -> Name
+    ensures { λ r. ⌜ r ≡ nameBy (now (g .entry)) start end ⌝ }
 {
-    match verdict {
-        Verdict::Accepted { rest: _ } => false,
-        Verdict::Refused { refusal, place: _ } => text::refusal_number(refusal) == 3,
+    let at = end;
+    if has_pattern(g, b"AAXX") {
+        return Name::Surface { ship: false, at };
+    }
+    if has_pattern(g, b"BBXX") {
+        return Name::Surface { ship: true, at };
+    }
+    if has_pattern(g, b"METAR") {
+        return Name::Observed { special: false, at };
+    }
+    if has_pattern(g, b"SPECI") {
+        return Name::Observed { special: true, at };
+    }
+    if has_pattern(g, b"TAF") {
+        return Name::Forecast { at };
+    }
+    Name::Refused {
+        refusal: Refusal::Kind,
+        place: start,
     }
 }
 
-fn read_surface(text: &[u8]) -> Reading
-    ensures { λ r. ⌜ r ≡ surfaceOf (now (text .entry)) ⌝ }
+fn name_first(text: &[u8]) -> Name
+    ensures { λ r. ⌜ r ≡ firstName (groupsFrom (now (text .entry)) 0) ⌝ }
 {
-    let reading = synop::read::read(text);
-    let verdict = reading.verdict;
-    match verdict {
-        Verdict::Accepted { rest } => accept(rest, surface_report(reading.report)),
-        Verdict::Refused { refusal, place } => refuse(refusal, place),
+    let first = text::next_group(text, 0);
+    match first {
+        Cut::End { at: _ } => Name::Refused {
+            refusal: Refusal::Kind,
+            place: 0,
+        },
+        Cut::Group { start, end } => name_group(text::part(text, start, end), start, end),
     }
 }
 
-fn read_observed(text: &[u8]) -> Reading
-    ensures { λ r. ⌜ r ≡ observedOf (now (text .entry)) ⌝ }
+// The kind that a text's first group names, and where the groups behind it begin; or refusal 1, 2 or 3. Who wants the reports of one kind only goes on
+// with that kind's own reader: `synop::read::read_from`, `metar::read::read_from`, `taf_read::read_from`.
+pub fn name(text: &[u8]) -> Name
+    ensures { λ r. ⌜ r ≡ nameOf (now (text .entry)) ⌝ }
 {
-    let reading = metar::read::read(text);
-    let verdict = reading.verdict;
-    match verdict {
-        Verdict::Accepted { rest } => accept(rest, observed_report(reading.report)),
-        Verdict::Refused { refusal, place } => refuse(refusal, place),
-    }
-}
-
-fn read_forecast(text: &[u8]) -> Reading
-    ensures { λ r. ⌜ r ≡ forecastOf (now (text .entry)) ⌝ }
-{
-    let reading = taf_read::read(text);
-    let verdict = reading.verdict;
-    match verdict {
-        Verdict::Accepted { rest } => accept(rest, forecast_report(reading.report)),
-        Verdict::Refused { refusal, place } => refuse(refusal, place),
+    let judged = text::judge_bytes(text);
+    match judged {
+        Bytes::Length => Name::Refused {
+            refusal: Refusal::Length,
+            place: 0,
+        },
+        Bytes::Byte(place) => Name::Refused {
+            refusal: Refusal::Byte,
+            place,
+        },
+        Bytes::Sound => name_first(text),
     }
 }
 
@@ -69,25 +85,54 @@ fn read_forecast(text: &[u8]) -> Reading
 pub fn read(text: &[u8]) -> Reading
     ensures { λ r. ⌜ r ≡ readOf (now (text .entry)) ⌝ }
 {
-    let surface = read_surface(text);
-    let by_surface = surface.verdict;
-    if !is_other(by_surface) {
-        return surface;
+    let named = name(text);
+    match named {
+        Name::Surface { ship, at } => {
+            let reading = synop::read::read_from(text, at, ship);
+            let verdict = reading.verdict;
+            answer::of_surface(verdict, reading.report)
+        }
+        Name::Observed { special, at } => {
+            let reading = metar::read::read_from(text, at, special);
+            let verdict = reading.verdict;
+            answer::of_observed(verdict, reading.report)
+        }
+        Name::Forecast { at } => {
+            let reading = taf_read::read_from(text, at);
+            let verdict = reading.verdict;
+            answer::of_forecast(verdict, reading.report)
+        }
+        Name::Refused { refusal, place } => answer::refuse(refusal, place),
     }
-    let observed = read_observed(text);
-    let by_observed = observed.verdict;
-    if !is_other(by_observed) {
-        return observed;
+}
+
+// Whether a text is accepted, and where its unread rest begins, or its refusal and place: what `read` answers, without the record.
+pub fn verdict_of(text: &[u8]) -> Verdict
+    ensures { λ r. ⌜ r ≡ readOf (now (text .entry)) .verdict ⌝ }
+{
+    let named = name(text);
+    match named {
+        Name::Surface { ship, at } => {
+            let reading = synop::read::read_from(text, at, ship);
+            reading.verdict
+        }
+        Name::Observed { special, at } => {
+            let reading = metar::read::read_from(text, at, special);
+            reading.verdict
+        }
+        Name::Forecast { at } => {
+            let reading = taf_read::read_from(text, at);
+            reading.verdict
+        }
+        Name::Refused { refusal, place } => Verdict::Refused { refusal, place },
     }
-    read_forecast(text)
 }
 
 // Where the unread rest begins: at the text's end where there is none, or the text is refused.
 pub fn rest_place(text: &[u8]) -> usize
     ensures { λ r. ⌜ r ≡ restPlace (now (text .entry)) ⌝ }
 {
-    let reading = read(text);
-    let verdict = reading.verdict;
+    let verdict = verdict_of(text);
     match verdict {
         Verdict::Accepted { rest } => rest,
         Verdict::Refused {

@@ -28,31 +28,24 @@ use Rattle.text.specs.declared.kinds.Refusal.{Refusal}
 use Rattle.text.specs.declared.kinds.Refusal.the-variants as refusal
 use Rattle.text.specs.declared.kinds.Judged.{Judged}
 use Rattle.text.specs.declared.kinds.Judged.the-variants as judged
-use Rattle.text.specs.declared.kinds.Verdict.{Verdict}
 use Rattle.text.specs.declared.kinds.Verdict.the-variants as verdict
 use Rattle.text.specs.declared.kinds.Written.{Written}
 use Rattle.text.specs.declared.kinds.Written.the-variants as answer
 use Rattle.text.specs.Write.{answerBy, bufferBy}
 use Rattle.walker.proofs.Walks.{part-nothing}
+use Rattle.places.specs.Engine.{Outcome, Done, Fault}
 use Rattle.record.specs.declared.values.Number.the-variants as number
 use Rattle.record.specs.declared.values.Tenths.the-variants as tenths
 use Rattle.record.specs.declared.surface.Synop.{Synop}
 use Rattle.record.specs.declared.aerodrome.Metar.{Metar}
 use Rattle.record.specs.declared.aerodrome.Taf.{Taf}
 use Rattle.aerodrome_groups.specs.Temperatures.{classTenths, classPressure}
-use Rattle.synop_section.specs.declared.kinds.Reading.{Reading as SynopReading}
-use Rattle.metar.specs.declared.kinds.Reading.{Reading as MetarReading}
-use Rattle.taf.specs.declared.kinds.Reading.{Reading as TafReading}
-use Rattle.synop.specs.Read as synop
-use Rattle.metar.specs.Read as metar
-use Rattle.taf.specs.Read as taf
-use Rattle.synop_section.specs.Answer as surface
 use Rattle.report_record.specs.declared.kinds.Report.{Report}
 use Rattle.report_record.specs.declared.kinds.Reading.{Reading}
 use Rattle.report_record.specs.Record.{blankReport, surfaceReport, observedReport, forecastReport, accepted, refused}
-use Rattle.report.specs.Read.{answered, isOther, unlessOther, surfaceOf, observedOf, forecastOf, readOf, restPlace, restOf}
+use Rattle.report.specs.Read.{answered, readOf, restPlace, restOf}
 use Rattle.report.specs.Write.{judgeOf, canonicalOf, classedOf, writtenOf, bufferOf}
-use Rattle.report_laws.proofs.ByName.{read-surface, read-observed, read-forecast, as-surface, as-observed, as-forecast, Named, surfaceNames, observedNames, forecastNames, surface-named, observed-named, forecast-named, Which, which}
+use Rattle.report_laws.proofs.ByName.{surfaceWord, observedWord, forecastWord, Named, SurfaceText, ObservedText, ForecastText, read-surface, read-observed, read-forecast, Which, by-surface, by-observed, by-forecast, by-none, which, AcceptedAs, accepted-as, as-surface, as-observed, as-forecast, RefusedAs, refused-as, as-refused}
 use Rattle.report_laws.proofs.Causes.{Caused, fine, bad-value, disagreeing, causes}
 use Rattle.report_laws.proofs.Numbers.{Table, visibility, footOn, classOn, numbersOf, temperaturesOf, pressuresOf, rainsOf, DownOn, down-on, NumberOrder, TenthsOrder, RainOrder, InOrder, in-order, order-on, class-order, temperature-order, qnh-order}
 use Rattle.report_laws.proofs.RoundTrip.{Arrays, fair, comes-back, fine-again, text-again, Kept, kept, numbers-back, temperatures-back, pressures-back, rains-back}
@@ -64,19 +57,18 @@ pub data Answered : Reading → Type 0 where
   yes : (rest : ℕ) (r : Report) → Answered (accepted rest r)
   no : (f : Refusal) (at : ℕ) → Answered (refused f at)
 
-one-kind : (v : Verdict) (r : Report) → Answered (answered v r)
-one-kind (verdict.Accepted rest) r = yes rest r
-one-kind (verdict.Refused f at) r = no f at
-
-either : (a b : Reading) → Answered a → Answered b → Answered (unlessOther a b)
-either a b x y = elim (isOther (a .verdict)) as (λ c. Answered (cond c b a)) [ true ↦ y | false ↦ x ]
+one-kind : {R : Type 0} (within : R → Report) (o : Outcome R) → Answered (answered within o)
+one-kind within (Done rest r) = yes rest (within r)
+one-kind within (Fault f at) = no f at
 
 pub every-text : (t : List ℕ) → Answered (readOf t)
-unfolding readOf
-every-text t =
-    either (surfaceOf t) (unlessOther (observedOf t) (forecastOf t)) (one-kind (synop.readOf t .verdict) (surfaceReport (synop.readOf t .report)))
-    (either (observedOf t) (forecastOf t) (one-kind (metar.readOf t .verdict) (observedReport (metar.readOf t .report)))
-    (one-kind (taf.readOf t .verdict) (forecastReport (taf.readOf t .report))))
+every-text t = go (readOf t) (which t)
+  where
+    go : (a : Reading) → Which t a → Answered a
+    go _ (by-surface o x) = one-kind surfaceReport o
+    go _ (by-observed o x) = one-kind observedReport o
+    go _ (by-forecast o x) = one-kind forecastReport o
+    go _ (by-none f at is) = no f at
 
 -- Of a refused text the record is blank, with no kind, station or hour under which it could be filed, and the unread rest is empty.
 pub refused-blank : (t : List ℕ) (f : Refusal) (at : ℕ) → readOf t .verdict ≡ verdict.Refused f at → (readOf t .report ≡ blankReport) × (restOf t ≡ [])
@@ -107,34 +99,40 @@ every-record r b = go (judgeOf r) refl
     go (judged.Refused f) is = unchanged f
 
 -- ==== DEMAND 2. A text is accepted exactly when WMO-306 with document 01's rulings allows it, and the record, station and hour included, is the meaning
--- given there; the writer refuses only for the causes listed there and writes the one canonical text. What a kind allows, and means, is its `readOf`; the
--- text is of the kind that its first group names.
+-- given there; the writer refuses only for the causes listed there and writes the one canonical text. A text is of the kind that its first group names
+-- (`Named`); what a kind allows, and means, is what its groups come to (`groupsRead` of the kind, in `SurfaceText`, `ObservedText` and `ForecastText`).
 
 pub record Exactly (A B : Type 0) : Type 0 where
   pub only : A → B
   pub all : B → A
 
-pub surface-exactly : (t : List ℕ) (rest : ℕ) (r : Synop) → Exactly (readOf t ≡ accepted rest (surfaceReport r)) (synop.readOf t ≡ surface.accepted rest r)
-surface-exactly t rest r = record { only = as-surface t rest r; all = read-surface t rest r }
+-- A text is accepted, with that record, exactly when its bytes are sound, its first group is one of the kind's names and the kind's groups come to the record.
+pub surface-exactly : (t : List ℕ) (rest : ℕ) (r : Synop) → Exactly (readOf t ≡ accepted rest (surfaceReport r)) (SurfaceText t (Done rest r))
+surface-exactly t rest r = record { only = λ e. as-surface r (accepted-as t rest (surfaceReport r) e); all = read-surface }
 
-pub observed-exactly : (t : List ℕ) (rest : ℕ) (r : Metar) → Exactly (readOf t ≡ accepted rest (observedReport r)) (metar.readOf t ≡ metar.accepted rest r)
-observed-exactly t rest r = record { only = as-observed t rest r; all = read-observed t rest r }
+pub observed-exactly : (t : List ℕ) (rest : ℕ) (r : Metar) → Exactly (readOf t ≡ accepted rest (observedReport r)) (ObservedText t (Done rest r))
+observed-exactly t rest r = record { only = λ e. as-observed r (accepted-as t rest (observedReport r) e); all = read-observed }
 
-pub forecast-exactly : (t : List ℕ) (rest : ℕ) (r : Taf) → Exactly (readOf t ≡ accepted rest (forecastReport r)) (taf.readOf t ≡ taf.accepted rest r)
-forecast-exactly t rest r = record { only = as-forecast t rest r; all = read-forecast t rest r }
+pub forecast-exactly : (t : List ℕ) (rest : ℕ) (r : Taf) → Exactly (readOf t ≡ accepted rest (forecastReport r)) (ForecastText t (Done rest r))
+forecast-exactly t rest r = record { only = λ e. as-forecast r (accepted-as t rest (forecastReport r) e); all = read-forecast }
 
--- What is accepted is accepted by one kind's reader, and its first group is one of that kind's names.
-pub accepted-only : (t : List ℕ) (rest : ℕ) (w : Report) → readOf t ≡ accepted rest w → Which t rest w
-accepted-only = which
+-- What is accepted is accepted as one kind, and its first group is one of that kind's names.
+pub accepted-only : (t : List ℕ) (rest : ℕ) (w : Report) → readOf t ≡ accepted rest w → AcceptedAs t rest w
+accepted-only = accepted-as
 
-pub surface-first : (t : List ℕ) (rest : ℕ) (r : Synop) → readOf t ≡ accepted rest (surfaceReport r) → Named surfaceNames t
-surface-first t rest r e = surface-named t rest (ap (λ (a : SynopReading). a .verdict) (as-surface t rest r e))
+pub surface-first : (t : List ℕ) (rest : ℕ) (r : Synop) → readOf t ≡ accepted rest (surfaceReport r) → (ship : Bool) × Named t (surfaceWord ship)
+surface-first t rest r e = let x = surface-exactly t rest r .only e in (x .ship, x .named)
 
-pub observed-first : (t : List ℕ) (rest : ℕ) (r : Metar) → readOf t ≡ accepted rest (observedReport r) → Named observedNames t
-observed-first t rest r e = observed-named t rest (ap (λ (a : MetarReading). a .verdict) (as-observed t rest r e))
+pub observed-first : (t : List ℕ) (rest : ℕ) (r : Metar) → readOf t ≡ accepted rest (observedReport r) → (special : Bool) × Named t (observedWord special)
+observed-first t rest r e = let x = observed-exactly t rest r .only e in (x .special, x .named)
 
-pub forecast-first : (t : List ℕ) (rest : ℕ) (r : Taf) → readOf t ≡ accepted rest (forecastReport r) → Named forecastNames t
-forecast-first t rest r e = forecast-named t rest (ap (λ (a : TafReading). a .verdict) (as-forecast t rest r e))
+pub forecast-first : (t : List ℕ) (rest : ℕ) (r : Taf) → readOf t ≡ accepted rest (forecastReport r) → Named t forecastWord
+forecast-first t rest r e = forecast-exactly t rest r .only e .named
+
+-- A refused text has the number and the place that the groups of its kind come to, or 1, 2 or 3 where its first group names none (`nameOf`); and so it is
+-- refused wherever they come to that.
+pub refused-exactly : (t : List ℕ) (f : Refusal) (at : ℕ) → Exactly (readOf t ≡ refused f at) (RefusedAs t f at)
+refused-exactly t f at = record { only = refused-as; all = as-refused }
 
 -- The writer refuses 11 and 7 as judged, and 10 where "the buffer is shorter than the canonical text, and not otherwise".
 pub data Cause (r : Report) (b : List ℕ) : Refusal → Type 0 where

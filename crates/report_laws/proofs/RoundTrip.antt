@@ -1,15 +1,20 @@
 -- The round trip of a record of any kind: what is judged fine is one kind's part with the others blank, and what is written of it is read back.
 -- Assumes nothing.
-use Prim.Native.Nat.{ℕ}
+use Prim.Native.Nat.{ℕ, _+_, _≤_}
 use native.Mathlib.Omega.{arith}
 use mathlib.Core.Path.{_≡_, refl}
-use mathlib.Core.Bool.{true, _&&_}
-use mathlib.Core.List.{map}
+use mathlib.Core.Bool.{Bool, true, false, _&&_}
+use mathlib.Core.List.{List, _∷_, map}
 use lib.ListN.{length}
 use Rattle.text.specs.declared.kinds.Judged.the-variants as judged
 use Rattle.text.specs.Judge.{judge}
+use Rattle.text.specs.Groups.{join, placed}
+use Rattle.text.proofs.Joins.{round-trip, join-sound}
 use Rattle.text.proofs.Judging.{fine, and-then}
+use Rattle.shapes.specs.Pattern.{low, high, fits, hasPattern}
 use Rattle.shapes.proofs.Patterns.{both}
+use Rattle.places.specs.Engine.{Group, Done}
+use Rattle.places.proofs.Sizes.{Sizes}
 use Rattle.scales.specs.Rounded.{roundedRain}
 use Rattle.record.specs.declared.surface.Synop.{Synop}
 use Rattle.record.specs.declared.aerodrome.Metar.{Metar}
@@ -40,7 +45,7 @@ use Rattle.record.proofs.SurfaceBlanks.{synop-blank}
 use Rattle.record.proofs.AerodromeBlanks.{metar-blank, taf-blank}
 use Rattle.report.specs.Read.{readOf}
 use Rattle.report.specs.Write.{judgeBy, judgeOf, canonicalOf, classedOf}
-use Rattle.report_laws.proofs.ByName.{read-surface, read-observed, read-forecast}
+use Rattle.report_laws.proofs.ByName.{surfaceWord, observedWord, forecastWord, Named, SurfaceText, ObservedText, ForecastText, read-surface, read-observed, read-forecast}
 use Rattle.report_laws.proofs.Numbers.{Table, classOn, numbersOf, temperaturesOf, pressuresOf, rainsOf, surface-numbers, observed-numbers, forecast-numbers, amount-is}
 
 -- The record's arrays have the lengths of the code's arrays.
@@ -81,11 +86,60 @@ fair r arrays e = go (r .kind) refl e
 
 -- ---- it is read back
 
+-- the text that groups are joined to has the first of them as its first group
+joined : (w g : Group) (gs : List Group) {n : ℕ} → hasPattern g w ≡ true → Sizes n (g ∷ gs) → length (join (g ∷ gs)) ≤ 2048 → Named (join (g ∷ gs)) w
+unfolding placed
+joined w g gs is sizes short =
+    record {
+      sound = join-sound (g ∷ gs) (sizes .allow) short;
+      first = record { start = 0; bytes = g };
+      others = placed (0 + length g + 1) gs;
+      groups = round-trip (g ∷ gs) (sizes .wholes);
+      named = is;
+    }
+
+surface-word : (ship : Bool) → hasPattern (synop-text.word ship) (surfaceWord ship) ≡ true
+unfolding hasPattern fits low high
+surface-word true = refl
+surface-word false = refl
+
+observed-word : (special : Bool) → hasPattern (observedWord special) (observedWord special) ≡ true
+unfolding hasPattern fits low high
+observed-word true = refl
+observed-word false = refl
+
+module _ (s : Synop) (nine : length (s .site .sign .letters) ≡ 9) (e : synop.judgeOf s ≡ judged.Fine) where
+  surface-named : Named (synop.canonicalOf s) (surfaceWord (s .ship))
+  unfolding synop.canonicalOf
+  surface-named =
+      let are = synop-text.groups-are (s .ship) s refl in
+      let short = synop-text.length-canonical s nine e in
+      rw are (joined _ _ _ (surface-word (s .ship)) (rw are at (synop-text.groups-sizes s nine e)) (omega (arith, rw are at short)))
+
+  surface-text : SurfaceText (synop.canonicalOf s) (Done (length (synop.canonicalOf s)) (synop.classedOf s))
+  surface-text = let n = surface-named in record { ship = s .ship; named = n; comes = rw (n .groups) at (synop-text.read-canonical s nine e) }
+
+module _ (m : Metar) (arrays : metar-text.Arrays m) (e : metar.judgeOf m ≡ judged.Fine) where
+  observed-named : Named (metar.canonicalOf m) (observedWord (m .special))
+  unfolding metar.canonicalOf observed-row.row
+  observed-named = joined _ _ _ (observed-word (m .special)) (metar-text.groups-sizes m arrays e) (omega (arith, metar-text.length-canonical m arrays e))
+
+  observed-text : ObservedText (metar.canonicalOf m) (Done (length (metar.canonicalOf m)) (metar.classedOf m))
+  observed-text = record { special = m .special; named = observed-named; comes = metar-text.read-canonical m arrays e }
+
+module _ (t : Taf) (arrays : taf-text.Arrays t) (e : taf.judgeOf t ≡ judged.Fine) where
+  forecast-named : Named (taf.canonicalOf t) forecastWord
+  unfolding taf.canonicalOf taf.groupsOf forecast-row.row hasPattern fits low high
+  forecast-named = joined _ _ _ refl (taf-text.groups-sizes t arrays e) (omega (arith, taf-text.length-canonical t arrays e))
+
+  forecast-text : ForecastText (taf.canonicalOf t) (Done (length (taf.canonicalOf t)) (taf.classedOf t))
+  forecast-text = record { named = forecast-named; comes = taf-text.read-canonical t arrays e }
+
 pub comes-back : {r : Report} → Fair r → readOf (canonicalOf r) ≡ accepted (length (canonicalOf r)) (classedOf r)
 unfolding canonicalOf classedOf
-comes-back (surface s nine e) = read-surface (synop.canonicalOf s) (length (synop.canonicalOf s)) (synop.classedOf s) (synop-text.read-canonical s nine e)
-comes-back (observed m arrays e) = read-observed (metar.canonicalOf m) (length (metar.canonicalOf m)) (metar.classedOf m) (metar-text.read-canonical m arrays e)
-comes-back (forecast t arrays e) = read-forecast (taf.canonicalOf t) (length (taf.canonicalOf t)) (taf.classedOf t) (taf-text.read-canonical t arrays e)
+comes-back (surface s nine e) = read-surface (surface-text s nine e)
+comes-back (observed m arrays e) = read-observed (observed-text m arrays e)
+comes-back (forecast t arrays e) = read-forecast (forecast-text t arrays e)
 
 -- ---- and written again
 
@@ -128,9 +182,9 @@ pub data Kept : Report → Report → Type 0 where
 
 pub kept : {r : Report} → Fair r → Kept r (classedOf r)
 unfolding classedOf
-kept (surface s nine e) = surface-kept (rw (synop-text.read-canonical s nine e) at (synop-promise.promise s nine e .1))
-kept (observed m arrays e) = observed-kept (rw (metar-text.read-canonical m arrays e) at (metar-promise.promise m arrays e .1))
-kept (forecast t arrays e) = forecast-kept (rw (taf-text.read-canonical t arrays e) at (taf-promise.promise t arrays e .1))
+kept (surface s nine e) = surface-kept (synop-promise.promise s nine e .1)
+kept (observed m arrays e) = observed-kept (metar-promise.promise m arrays e .1)
+kept (forecast t arrays e) = forecast-kept (taf-promise.promise t arrays e .1)
 
 -- ---- each rounded number is the reading of its class
 

@@ -2,6 +2,7 @@
 use record::aerodrome::Metar;
 use record::aerodrome::Taf;
 use record::surface::Synop;
+use text::kinds::Refusal;
 use text::kinds::Verdict;
 
 // What a report is: SYNOP or SHIP, METAR or SPECI, TAF.
@@ -18,6 +19,14 @@ pub struct Report {
     pub surface: Synop,
     pub observed: Metar,
     pub forecast: Taf,
+}
+
+// The kind that a text's first group names, AAXX, BBXX, METAR or SPECI, TAF, and where the groups behind it begin; or the text's refusal, 1, 2 or 3.
+pub enum Name {
+    Surface { ship: bool, at: usize },
+    Observed { special: bool, at: usize },
+    Forecast { at: usize },
+    Refused { refusal: Refusal, place: usize },
 }
 
 pub struct Reading {

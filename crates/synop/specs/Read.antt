@@ -11,11 +11,9 @@ use Rattle.figures.specs.Figures.{isFigure, isLetter, every}
 use Rattle.text.specs.declared.kinds.Refusal.the-variants as refusal
 use Rattle.text.specs.declared.kinds.Tail.{Tail}
 use Rattle.text.specs.declared.kinds.Tail.the-variants.{Clear, Junk}
-use Rattle.text.specs.Groups.{Piece, groupsFrom}
-use Rattle.text.specs.Text.{bytesOf, tailOf}
+use Rattle.text.specs.Groups.{Piece}
 use Rattle.shapes.specs.Pattern.{hasPattern}
 use Rattle.places.specs.Engine.{Group, Read, Good, Bad, Outcome, Done, Fault}
-use Rattle.places.specs.Answer.{afterBytes}
 use Rattle.record.specs.declared.values.Number.the-variants as number
 use Rattle.record.specs.declared.values.Speed.{Speed}
 use Rattle.record.specs.declared.surface.CallSign.{CallSign}
@@ -23,16 +21,14 @@ use Rattle.record.specs.declared.surface.Position.{Position}
 use Rattle.record.specs.declared.surface.Wind.{Wind}
 use Rattle.record.specs.declared.surface.Surface.{Surface}
 use Rattle.record.specs.declared.surface.Synop.{Synop}
-use Rattle.record.specs.Blank.{blankSynop}
 use Rattle.record.specs.Set.{setStation, setSign, setPosition, setTime, setNil, setSite, setSurface, setIndicators, setWind}
 use Rattle.synop_groups.specs.declared.kinds.Said.{Said}
 use Rattle.synop_groups.specs.declared.kinds.Said.the-variants as said
 use Rattle.synop_groups.specs.Reads.{saidTime, saidStation, saidLatitude, saidLongitude, saidIndicators, saidWind}
 use Rattle.synop_groups.specs.Shows.{showTime, showStation, showSign, showLatitude, showLongitude, showIndicators, showWind}
 use Rattle.synop_groups.specs.Classes.{classIndicators, unsignedPosition, windInTwo}
-use Rattle.synop_section.specs.declared.kinds.Reading.{Reading}
 use Rattle.synop_row.specs.Row.{withSaid}
-use Rattle.synop_section.specs.Answer.{begun, section, reading, answer}
+use Rattle.synop_section.specs.Answer.{begun, section}
 
 -- ---- the groups through Nddff
 
@@ -139,13 +135,6 @@ walk (p ∷ ps) r tail end (g ∷ gs) =
     cond (p .nil && isNil (g .bytes)) (afterNil tail end r gs)
     (cond (p .has (g .bytes)) (onward (p .read (g .bytes) r) (g .start) (λ r′. walk ps r′ tail end gs)) (Fault refusal.Shape (g .start)))
 
--- refusal 3: "the first group is not AAXX, BBXX, METAR, SPECI or TAF; its place, 0 if no group stands before an "=" or the end". Here AAXX and BBXX.
-unfoldable pub fromFirst : Tail → ℕ → List Piece → Outcome Synop
-fromFirst tail end [] = Fault refusal.Kind 0
-fromFirst tail end (g ∷ gs) =
-    cond (hasPattern (g .bytes) (bytes "AAXX")) (walk (posts false) (begun false) tail end gs)
-    (cond (hasPattern (g .bytes) (bytes "BBXX")) (walk (posts true) (begun true) tail end gs) (Fault refusal.Kind (g .start)))
-
--- WHAT A TEXT IS READ AS. "1, 2 and 3 are judged over the whole text in that order. Then groups go left to right and the first at fault answers".
-unfoldable pub readOf : List ℕ → Reading
-readOf text = afterBytes reading blankSynop (bytesOf text) (answer (fromFirst (tailOf text) (length text) (groupsFrom text 0)))
+-- WHAT THE GROUPS OF A REPORT COME TO, those behind AAXX or, of a ship, BBXX; what follows the "=", and the text's length.
+unfoldable pub groupsRead : Bool → Tail → ℕ → List Piece → Outcome Synop
+groupsRead ship tail end gs = walk (posts ship) (begun ship) tail end gs

@@ -1,13 +1,11 @@
-// Reading a SYNOP or SHIP: the text as a whole, its first group, the groups known by position, then section 1 or what follows NIL.
+// Reading a SYNOP or SHIP, from behind AAXX or BBXX on: the groups known by position, then section 1 or what follows NIL.
 use crate::head;
 use crate::kinds::Head;
 use crate::kinds::Stage;
 use record::surface::Synop;
-use shapes::has_pattern;
 use synop_section::answer;
 use synop_section::kinds::Reading;
 use synop_section::section;
-use text::kinds::Bytes;
 use text::kinds::Cut;
 use text::kinds::Refusal;
 use text::kinds::Tail;
@@ -17,7 +15,7 @@ ghost use lib.ListN.{length};
 ghost use Rattle.text.specs.Text.{tailOf};
 ghost use Rattle.text.specs.Groups.{groupsFrom};
 ghost use Rattle.synop_section.specs.Answer.{begun, answer};
-ghost use Rattle.synop.specs.Read.{afterNil, fromFirst, readOf};
+ghost use Rattle.synop.specs.Read.{afterNil, groupsRead};
 ghost use Rattle.synop.specs.Head.{headOf, outcome};
 
 // After NIL only what may follow an "=" is left.
@@ -68,34 +66,14 @@ fn begin(ship: bool, at: usize) -> Head
     }
 }
 
-// The first group says which kind of report this is.
-fn read_groups(text: &[u8]) -> Reading
-    ensures { λ r. ⌜ r ≡ answer (fromFirst (tailOf (now (text .entry))) (length (now (text .entry))) (groupsFrom (now (text .entry)) 0)) ⌝ }
+// What the groups come to, from a position behind AAXX or, of a ship, BBXX on.
+pub fn read_from(text: &[u8], at: usize, ship: bool) -> Reading
+    ensures { λ r. ⌜ r ≡ answer (groupsRead ship (tailOf (now (text .entry))) (length (now (text .entry))) (groupsFrom (now (text .entry)) at)) ⌝ }
 {
-    let first = text::next_group(text, 0);
-    match first {
-        Cut::End { at: _ } => answer::refuse(Refusal::Kind, 0),
-        Cut::Group { start, end } => {
-            let g = text::part(text, start, end);
-            if has_pattern(g, b"AAXX") {
-                return read_on(text, head::read_land(text, begin(false, end)));
-            }
-            if has_pattern(g, b"BBXX") {
-                return read_on(text, head::read_ship(text, begin(true, end)));
-            }
-            answer::refuse(Refusal::Kind, start)
-        }
-    }
-}
-
-// What a text says, or the first fault and its place.
-pub fn read(text: &[u8]) -> Reading
-    ensures { λ r. ⌜ r ≡ readOf (now (text .entry)) ⌝ }
-{
-    let judged = text::judge_bytes(text);
-    match judged {
-        Bytes::Length => answer::refuse(Refusal::Length, 0),
-        Bytes::Byte(place) => answer::refuse(Refusal::Byte, place),
-        Bytes::Sound => read_groups(text),
+    let h = begin(ship, at);
+    if ship {
+        read_on(text, head::read_ship(text, h))
+    } else {
+        read_on(text, head::read_land(text, h))
     }
 }

@@ -6,15 +6,15 @@ use native.Mathlib.Omega.{arith}
 use mathlib.Core.Path.{_≡_, refl, sym, ap, _∙_}
 use mathlib.Core.Bool.{Bool, true, false, not, cond, _&&_, _||_, false≢true}
 use mathlib.Core.List.{List, [], _∷_, _++_}
-use lib.ListN.{length}
+use lib.ListN.{length, drop}
 use borrow.Author.Tests.{not-true}
 use Rattle.figures.specs.Quote.{bytes}
 use Rattle.text.specs.declared.kinds.Refusal.the-variants as refusal
-use Rattle.text.specs.declared.kinds.Tail.{Tail}
 use Rattle.text.specs.declared.kinds.Tail.the-variants.{Clear}
 use Rattle.text.specs.Groups.{Piece, groupsFrom, join}
 use Rattle.text.proofs.Judging.{and-then}
-use Rattle.text.proofs.Joins.{round-trip-bytes, join-tail, join-sound}
+use Rattle.text.specs.Text.{tailOf}
+use Rattle.text.proofs.Joins.{round-trip-bytes, join-tail}
 use Rattle.shapes.specs.Pattern.{low, high, fits, hasPattern}
 use Rattle.shapes.proofs.Patterns.{both}
 use Rattle.places.specs.Engine.{Group, Done, written}
@@ -32,8 +32,8 @@ use Rattle.record.proofs.SurfaceBlanks.{sign-blank, position-blank, surface-bla
 use Rattle.synop_groups.specs.Judge.{judgeIndicators, judgeWind, windFits, fallFits}
 use Rattle.synop_groups.proofs.RoundTripHead.{wind-fine, indicators-again, indicators-classed, wind-again, wind-classed}
 use Rattle.synop_row.specs.Row.{needsOf, row}
-use Rattle.synop_section.specs.Answer.{section, begun, accepted}
-use Rattle.synop.specs.Read.{posts, walk, fromFirst, readOf}
+use Rattle.synop_section.specs.Answer.{section, begun}
+use Rattle.synop.specs.Read.{walk, groupsRead}
 use Rattle.synop.specs.Write.{foreignBlank, judgeSite, judgeSection, judgeSurface, judgeOf, siteGroups, surfaceGroups, groupsOf, canonicalOf, classedOf}
 use Rattle.synop_laws.proofs.Sections.{classedSurface, section-back, section-fall, section-sizes, section-again, section-classed}
 use Rattle.synop_laws.proofs.Heads.{shown, putPosts, walk-stood, sitePosts, surfacePosts, posts-are, site-stood, surface-stood, site-sizes, surface-sizes}
@@ -103,7 +103,7 @@ parts-fit r e = go (r .site .nil) refl
 -- ---- the groups of the site
 
 -- the word that begins a report of the kind
-abbrev word : Bool → Group
+abbrev pub word : Bool → Group
 word false = bytes "AAXX"
 word true = bytes "BBXX"
 
@@ -126,10 +126,10 @@ site-put true r is nine e = rw (is, number-blank (r .site .station) (foreign-shi
 -- ---- the report as a whole
 
 -- what a report of the kind has after its site
-abbrev restGroups : Synop → List Group
+abbrev pub restGroups : Synop → List Group
 restGroups r = cond (r .site .nil) (bytes "NIL" ∷ []) (surfaceGroups (r .surface))
 
-groups-are : (ship : Bool) (r : Synop) → r .ship ≡ ship → groupsOf r ≡ word ship ∷ (shown (sitePosts ship) r ++ restGroups r)
+pub groups-are : (ship : Bool) (r : Synop) → r .ship ≡ ship → groupsOf r ≡ word ship ∷ (shown (sitePosts ship) r ++ restGroups r)
 unfolding groupsOf
 groups-are ship r is = rw (site-groups ship r is)
 
@@ -160,27 +160,16 @@ rest-back ship r end gs is f are = go (r .site .nil) refl ship is
     go true n false is = nil-back r end gs (rw n at are) ∙ rw (n, surface-blank (r .surface) (foreign-nil r (f .blank) n))
     go false n ship is = surface-back ship r end gs (fair-surface (r .surface) (rw n at (f .surface))) (rw n at are) ∙ rw n
 
-from-first : (ship : Bool) (g : Piece) (gs : List Piece) (tail : Tail) (end : ℕ) → g .bytes ≡ word ship
-    → fromFirst tail end (g ∷ gs) ≡ walk (posts ship) (begun ship) tail end gs
-unfolding fromFirst hasPattern fits low high
-from-first false g gs tail end e = rw e
-from-first true g gs tail end e = rw e
-
--- THE GROUPS OF A RECORD ARE READ BACK, from any pieces that hold them.
-pub pieces-back : (r : Synop) (end : ℕ) (gs : List Piece) → length (r .site .sign .letters) ≡ 9 → judgeOf r ≡ judged.Fine → pieceGroups gs ≡ groupsOf r
-    → fromFirst Clear end gs ≡ Done end (classedOf r)
-pieces-back r end gs nine e are = go gs (are ∙ groups-are (r .ship) r refl)
-  where
-    go : (gs : List Piece) → pieceGroups gs ≡ word (r .ship) ∷ (shown (sitePosts (r .ship)) r ++ restGroups r) → fromFirst Clear end gs ≡ Done end (classedOf r)
-    go [] are = let z : _≡_ {A = ℕ} 0 1 = cc in absurd (omega arith)
-    go (g ∷ gs) are =
-        let f = fair r e in
-        let ship = r .ship in
-        from-first ship g gs Clear end (cc)
-        ∙ rw (posts-are ship)
-        (walk-stood (sitePosts ship) (surfacePosts ship) r (begun ship) Clear end gs (restGroups r) (Done end (classedOf r))
-        (site-stood ship r refl nine (f .site)) (cc)
-        (λ hs rest. rw (site-put ship r refl nine (f .blank)) (rest-back ship r end hs refl f rest)))
+-- THE GROUPS OF A RECORD ARE READ BACK, from any pieces that hold those behind the first.
+pub pieces-back : (r : Synop) (end : ℕ) (gs : List Piece) → length (r .site .sign .letters) ≡ 9 → judgeOf r ≡ judged.Fine
+    → pieceGroups gs ≡ shown (sitePosts (r .ship)) r ++ restGroups r → groupsRead (r .ship) Clear end gs ≡ Done end (classedOf r)
+unfolding groupsRead
+pieces-back r end gs nine e are =
+    let f = fair r e in
+    let ship = r .ship in
+    rw (posts-are ship)
+    (walk-stood (sitePosts ship) (surfacePosts ship) r (begun ship) Clear end gs (restGroups r) (Done end (classedOf r)) (site-stood ship r refl nine (f .site)) are
+    (λ hs rest. rw (site-put ship r refl nine (f .blank)) (rest-back ship r end hs refl f rest)))
 
 -- ---- the text
 
@@ -219,18 +208,21 @@ unfolding canonicalOf
 length-canonical r nine e =
     rw (groups-are (r .ship) r refl, join-room (word (r .ship)) (shown (sitePosts (r .ship)) r ++ restGroups r)) (report-sizes r nine e .short)
 
--- THE CANONICAL TEXT OF A RECORD IS READ BACK, to its end, as the record's classes.
+-- the groups behind the first
+behind : (gs : List Piece) (h : Group) (hs : List Group) → pieceGroups gs ≡ h ∷ hs → pieceGroups (drop 1 gs) ≡ hs
+behind [] h hs are = let z : _≡_ {A = ℕ} 0 1 = cc in absurd (omega arith)
+behind (g ∷ gs) h hs are = cc
+
+-- THE GROUPS OF THE CANONICAL TEXT, those behind AAXX or BBXX, COME TO THE RECORD'S CLASSES, with no unread rest.
 pub read-canonical : (r : Synop) → length (r .site .sign .letters) ≡ 9 → judgeOf r ≡ judged.Fine
-    → readOf (canonicalOf r) ≡ accepted (length (canonicalOf r)) (classedOf r)
-unfolding readOf canonicalOf
+    → groupsRead (r .ship) (tailOf (canonicalOf r)) (length (canonicalOf r)) (drop 1 (groupsFrom (canonicalOf r) 0)) ≡ Done (length (canonicalOf r)) (classedOf r)
+unfolding canonicalOf
 read-canonical r nine e =
-    let s = groups-sizes r nine e in
-    let short = length-canonical r nine e in
-    rw (
-      join-sound (groupsOf r) (s .allow) (omega arith),
-      join-tail (groupsOf r) (s .wholes),
-      pieces-back r (length (join (groupsOf r))) (groupsFrom (join (groupsOf r)) 0) nine e (round-trip-bytes (groupsOf r) (s .wholes)),
-    )
+    let wholes = groups-sizes r nine e .wholes in
+    let text = join (groupsOf r) in
+    rw (join-tail (groupsOf r) wholes)
+    (pieces-back r (length text) (drop 1 (groupsFrom text 0)) nine e
+    (behind (groupsFrom text 0) (word (r .ship)) (shown (sitePosts (r .ship)) r ++ restGroups r) (round-trip-bytes (groupsOf r) wholes ∙ groups-are (r .ship) r refl)))
 
 -- ---- written again
 

@@ -1,6 +1,5 @@
--- The round trip of a report, what it promises, and worked examples.
+-- The round trip of a report and what it promises.
 pub mod Sections
 pub mod Heads
 pub mod Canonical
 pub mod Promises
-pub mod Examples

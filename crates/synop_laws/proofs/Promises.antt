@@ -6,7 +6,7 @@ use native.Mathlib.Omega.{arith}
 use mathlib.Core.Path.{_≡_, refl}
 use mathlib.Core.Bool.{true, false≢true}
 use mathlib.Core.Logic.{⊎-elim}
-use lib.ListN.{length}
+use lib.ListN.{length, drop}
 use lib.Dec.{leb, eqb}
 use borrow.Author.Tests.{leb-true, le-ltb, lt-ltb}
 use Rattle.shapes.proofs.Patterns.{both}
@@ -37,8 +37,10 @@ use Rattle.synop_groups.specs.Judge.{amountFits, fallFits, windFits}
 use Rattle.synop_groups.specs.Classes.{classBase, classSight, classDirection, classRain, classFall}
 use Rattle.synop_groups.proofs.RoundTripFields.{oneFigure}
 use Rattle.synop_groups.proofs.RoundTripScales.{direction-written, rain-classed}
-use Rattle.text.specs.declared.kinds.Verdict.the-variants as verdict
-use Rattle.synop.specs.Read.{readOf}
+use Rattle.text.specs.Groups.{groupsFrom}
+use Rattle.text.specs.Text.{tailOf}
+use Rattle.places.specs.Engine.{Done}
+use Rattle.synop.specs.Read.{groupsRead}
 use Rattle.synop.specs.Write.{judgeOf, canonicalOf, classedOf}
 use Rattle.synop_laws.proofs.Canonical.{parts-fit, read-canonical}
 use Rattle.synop_laws.proofs.Sections.{classedSurface}
@@ -159,8 +161,9 @@ surface-read s w f =
 
 -- WHAT IS WRITTEN OF A RECORD THAT THE WRITER ACCEPTS IS READ, to the text's end, as a record that says the same.
 pub promise : (r : Synop) → length (r .site .sign .letters) ≡ 9 → judgeOf r ≡ judged.Fine
-    → (readOf (canonicalOf r) .verdict ≡ verdict.Accepted (length (canonicalOf r))) × RecordRead r (readOf (canonicalOf r) .report)
+    → (groupsRead (r .ship) (tailOf (canonicalOf r)) (length (canonicalOf r)) (drop 1 (groupsFrom (canonicalOf r) 0)) ≡ Done (length (canonicalOf r)) (classedOf r))
+    × RecordRead r (classedOf r)
 unfolding classedOf
 promise r nine e =
     let f = parts-fit r e in
-    rw (read-canonical r nine e) (refl, record { ship = refl; site = refl; surface = surface-read (r .surface) (f .0) (f .1) })
+    (read-canonical r nine e, record { ship = refl; site = refl; surface = surface-read (r .surface) (f .0) (f .1) })

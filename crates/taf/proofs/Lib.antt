@@ -1,5 +1,4 @@
--- The test that tells the groups apart, worked examples, and the laws of reading.
+-- The test that tells the groups apart, and the laws of reading.
 pub mod Sound
-pub mod Examples
 pub mod Steps
 pub mod Turns

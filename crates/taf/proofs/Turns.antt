@@ -1,4 +1,4 @@
--- The laws of a TAF's parts: how a part is read from group to group, what a change word's turn comes to, and the text as a whole.
+-- The laws of a TAF's parts: how a part is read from group to group, what a change word's turn comes to, and the groups behind the name.
 -- Assumes nothing.
 use Prim.Native.Nat.{ℕ, _≤_}
 use native.Mathlib.Omega.{arith}
@@ -9,17 +9,20 @@ use lib.ListN.{length}
 use Rattle.text.specs.declared.kinds.Refusal.{Refusal}
 use Rattle.text.specs.declared.kinds.Refusal.the-variants as refusal
 use Rattle.text.specs.declared.kinds.Judged.the-variants as judged
-use Rattle.text.specs.declared.kinds.Bytes.{Bytes}
+use Rattle.text.specs.declared.kinds.Tail.{Tail}
 use Rattle.text.specs.declared.kinds.Tail.the-variants.{Clear}
-use Rattle.text.specs.Groups.{groupsFrom, partOf}
-use Rattle.text.specs.Text.{bytesOf, tailOf}
+use Rattle.text.specs.Groups.{Piece, groupsFrom, partOf}
+use Rattle.text.specs.Text.{tailOf}
 use Rattle.text.proofs.Groups.{Follows}
+use Rattle.figures.specs.Quote.{bytes}
+use Rattle.shapes.specs.Pattern.{low, high, fits, hasAny, clash, clashEach}
+use Rattle.shapes.proofs.Patterns.{excluded-each}
 use Rattle.places.specs.Engine.{Group, Read, Good, Bad, Step, On, Halt, Stop, step, Fault, Done}
-use Rattle.places.specs.Answer.{afterBytes}
+use Rattle.places.proofs.Going.{step-first}
 use Rattle.record.specs.declared.aerodrome.Opening.the-variants as opening
 use Rattle.record.specs.declared.aerodrome.Leg.{Leg}
 use Rattle.record.specs.declared.aerodrome.Taf.{Taf}
-use Rattle.record.specs.Taf.{blankLeg, blankTaf}
+use Rattle.record.specs.Taf.{blankLeg}
 use Rattle.taf_row.specs.declared.kinds.Part.the-variants as part
 use Rattle.taf.specs.declared.kinds.Next.the-variants as next
 use Rattle.taf.specs.declared.kinds.Stop.the-variants as stop
@@ -31,7 +34,7 @@ use Rattle.taf.specs.declared.kinds.Turn.{Turn}
 use Rattle.taf.specs.declared.kinds.Reading.{Reading}
 use Rattle.taf_row.specs.Row.{word, row, changeWords}
 use Rattle.taf_row.specs.Tests.{joins, lacks, isFull}
-use Rattle.taf.specs.Read.{opened, probableGroup, fromGroup, openedBy, withPart, finish, bodyOf, mainPart, fromFirst, reading, refused, answer, readOf}
+use Rattle.taf.specs.Read.{opened, probableGroup, fromGroup, openedBy, withPart, finish, bodyOf, groupsRead, behindName, refused, answer}
 use Rattle.taf.specs.Step.{metOf, stepOf, openedAs, turned, turnOf, bodyFrom, changeFrom, afterPart, PartDone}
 
 -- ---- what a change word opens
@@ -211,27 +214,18 @@ closes-lacking t s end e = rw e
 pub closes-whole : (t : Taf) (s : Going) (end : ℕ) → lacking s ≡ false → answer (Done end (withPart t s)) ≡ answer (finish t s Clear end)
 closes-whole t s end e = rw e
 
--- ---- the text as a whole
+-- ---- the name, at the main row's first place
 
-abbrev whole : List ℕ → Reading
-whole t = answer (fromFirst (tailOf t) (length t) (groupsFrom t 0))
+module _ (g : Group) (is : word "TAF" g ≡ true) where
+  no-change : hasAny changeWords g ≡ false
+  unfolding changeWords clashEach clash fits low high
+  no-change = excluded-each g (bytes "TAF") changeWords refl is
 
-pub no-first : (t : List ℕ) → groupsFrom t 0 ≡ [] → refused refusal.Kind 0 ≡ whole t
-unfolding fromFirst
-no-first t none = rw none
+  taken-first : step (row part.Main) changeWords 0 0 blankLeg g ≡ On 0 1 blankLeg
+  unfolding row
+  taken-first = step-first _ _ changeWords blankLeg g is (omega arith) no-change
 
-module _ (t : List ℕ) (s e : ℕ) {g : Group} (follows : Follows t 0 s e) (cut : g ≡ partOf t s e) where
-  first : groupsFrom t 0 ≡ record { start = s; bytes = g } ∷ groupsFrom t e
-  first = rw cut (follows .groups)
-
-  pub first-name : word "TAF" g ≡ true → bodyFrom t blankTaf mainPart 0 ≡ whole t
-  unfolding fromFirst bodyFrom
-  first-name is = rw (first, is)
-
-  pub first-other : word "TAF" g ≡ false → refused refusal.Kind s ≡ whole t
-  unfolding fromFirst
-  first-other is = rw (first, is)
-
-pub read-by : (t : List ℕ) {x y : Bytes} → x ≡ y → x ≡ bytesOf t → afterBytes reading blankTaf y (whole t) ≡ readOf t
-unfolding readOf
-read-by t is asked = ap (λ (z : Bytes). afterBytes reading blankTaf z (whole t)) (sym is ∙ asked)
+-- BEHIND THE NAME the groups come to what all groups come to.
+pub past-name : (tail : Tail) (end : ℕ) (g : Piece) (gs : List Piece) → word "TAF" (g .bytes) ≡ true → groupsRead tail end (g ∷ gs) ≡ behindName tail end gs
+unfolding groupsRead behindName bodyOf
+past-name tail end g gs is = rw (taken-first (g .bytes) is)

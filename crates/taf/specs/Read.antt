@@ -3,7 +3,7 @@
 use Prim.Native.Nat.{ℕ, _+_}
 use mathlib.Core.Bool.{true, false, cond, _&&_, _||_}
 use mathlib.Core.List.{List, [], _∷_}
-use lib.ListN.{length, set}
+use lib.ListN.{set}
 use lib.Dec.{ltb, eqb}
 use Rattle.figures.specs.Figures.{fieldAt}
 use Rattle.text.specs.declared.kinds.Refusal.{Refusal}
@@ -11,10 +11,9 @@ use Rattle.text.specs.declared.kinds.Refusal.the-variants as refusal
 use Rattle.text.specs.declared.kinds.Tail.{Tail}
 use Rattle.text.specs.declared.kinds.Tail.the-variants.{Clear, Junk}
 use Rattle.text.specs.declared.kinds.Verdict.{Verdict}
-use Rattle.text.specs.Groups.{Piece, groupsFrom}
-use Rattle.text.specs.Text.{bytesOf, tailOf}
+use Rattle.text.specs.Groups.{Piece}
 use Rattle.places.specs.Engine.{Group, Read, Good, Bad, On, Halt, Stop, Step, step, Outcome, Done, Fault}
-use Rattle.places.specs.Answer.{acceptedAs, refusedAs, answerOf, afterBytes}
+use Rattle.places.specs.Answer.{acceptedAs, refusedAs, answerOf}
 use Rattle.record.specs.declared.values.Number.the-variants as number
 use Rattle.record.specs.declared.aerodrome.Opening.{Opening}
 use Rattle.record.specs.declared.aerodrome.Opening.the-variants as opening
@@ -112,14 +111,21 @@ unfoldable pub bodyOf : Tail → ℕ → Taf → Going → List Piece → Outcom
 bodyOf tail end t s [] = finish t s tail end
 bodyOf tail end t s (g ∷ gs) = onGroup t s g (λ t′ s′. bodyOf tail end t′ s′ gs)
 
--- ---- the whole text
+-- ---- the report
 
 abbrev pub mainPart : Going
 mainPart = record { opening = opening.None; part = part.Main; place = 0; count = 0; fresh = false; leg = blankLeg }
 
-unfoldable pub fromFirst : Tail → ℕ → List Piece → Outcome Taf
-fromFirst tail end [] = Fault refusal.Kind 0
-fromFirst tail end (g ∷ gs) = cond (word "TAF" (g .bytes)) (bodyOf tail end blankTaf mainPart (g ∷ gs)) (Fault refusal.Kind (g .start))
+-- WHAT THE GROUPS OF A TAF COME TO, its name first, which stands at the first place of the main part's row; what follows the "=", and the text's length.
+unfoldable pub groupsRead : Tail → ℕ → List Piece → Outcome Taf
+groupsRead tail end gs = bodyOf tail end blankTaf mainPart gs
+
+-- the groups behind the name, where that has stood
+abbrev pub mainBehind : Going
+mainBehind = record { opening = opening.None; part = part.Main; place = 0; count = 1; fresh = false; leg = blankLeg }
+
+unfoldable pub behindName : Tail → ℕ → List Piece → Outcome Taf
+behindName tail end gs = bodyOf tail end blankTaf mainBehind gs
 
 -- a reading with its verdict; the record is blank where the text is refused
 abbrev pub reading : Verdict → Taf → Reading
@@ -133,7 +139,3 @@ refused f at = refusedAs reading blankTaf f at
 
 abbrev pub answer : Outcome Taf → Reading
 answer o = answerOf reading blankTaf o
-
--- WHAT A TEXT IS READ AS. "1, 2 and 3 are judged over the whole text in that order. Then groups go left to right and the first at fault answers".
-unfoldable pub readOf : List ℕ → Reading
-readOf text = afterBytes reading blankTaf (bytesOf text) (answer (fromFirst (tailOf text) (length text) (groupsFrom text 0)))

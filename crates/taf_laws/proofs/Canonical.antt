@@ -12,16 +12,17 @@ use lib.Seq.{take-at, drop-at}
 use borrow.Author.Tests.{le-leb}
 use Rattle.text.specs.declared.kinds.Judged.the-variants as judged
 use Rattle.text.specs.Groups.{groupsFrom, join}
-use Rattle.text.proofs.Joins.{round-trip-bytes, join-tail, join-sound}
+use Rattle.text.specs.Text.{tailOf}
+use Rattle.text.proofs.Joins.{round-trip-bytes, join-tail}
 use Rattle.shapes.proofs.Patterns.{neither}
-use Rattle.places.specs.Engine.{Group, written}
+use Rattle.places.specs.Engine.{Group, Done, written}
 use Rattle.places.proofs.Sizes.{Sizes, sizes-append, sizes-more, join-room, room}
 use Rattle.places.proofs.Kept.{kept-sizes}
 use Rattle.record.specs.declared.aerodrome.Change.{Change}
 use Rattle.record.specs.declared.aerodrome.Taf.{Taf}
 use Rattle.taf_row.specs.declared.kinds.Part.the-variants as part
 use Rattle.taf_row.specs.Row.{row}
-use Rattle.taf.specs.Read.{accepted, readOf}
+use Rattle.taf.specs.Read.{groupsRead}
 use Rattle.taf.specs.Write.{judgeChanges, foreignBlank, judgeOf, showEach, groupsOf, canonicalOf, classChange, classedOf}
 use Rattle.taf_laws.proofs.Parts.{Fair, fair, fair-part, over-bare, kept-main}
 use Rattle.taf_laws.proofs.Changes.{Listed, listed, none-over, main-room, each-sizes}
@@ -62,17 +63,14 @@ length-canonical t arrays e = go (groupsOf t) (some-groups t) (report-sizes t ar
 
 -- ---- read back
 
--- THE CANONICAL TEXT OF A RECORD IS READ BACK, to its end, as the record's classes.
-pub read-canonical : (t : Taf) → TafArrays t → judgeOf t ≡ judged.Fine → readOf (canonicalOf t) ≡ accepted (length (canonicalOf t)) (classedOf t)
-unfolding readOf canonicalOf
+-- THE GROUPS OF THE CANONICAL TEXT COME TO THE RECORD'S CLASSES, with no unread rest.
+pub read-canonical : (t : Taf) → TafArrays t → judgeOf t ≡ judged.Fine
+    → groupsRead (tailOf (canonicalOf t)) (length (canonicalOf t)) (groupsFrom (canonicalOf t) 0) ≡ Done (length (canonicalOf t)) (classedOf t)
+unfolding canonicalOf
 read-canonical t arrays e =
-    let s = groups-sizes t arrays e in
-    let short = length-canonical t arrays e in
-    rw (
-      join-sound (groupsOf t) (s .allow) (omega arith),
-      join-tail (groupsOf t) (s .wholes),
-      pieces-back t arrays e (length (join (groupsOf t))) (groupsFrom (join (groupsOf t)) 0) (round-trip-bytes (groupsOf t) (s .wholes)),
-    )
+    let wholes = groups-sizes t arrays e .wholes in
+    rw (join-tail (groupsOf t) wholes)
+    (pieces-back t arrays e (length (join (groupsOf t))) (groupsFrom (join (groupsOf t)) 0) (round-trip-bytes (groupsOf t) wholes))
 
 -- ---- the record that is read back
 

@@ -7,7 +7,9 @@ use mathlib.Core.Bool.{Bool, true, false, _||_}
 use mathlib.Core.List.{List, [], _∷_, _++_, map}
 use lib.ListN.{length, take, drop, replicate}
 use Rattle.text.specs.declared.kinds.Judged.the-variants as judged
-use Rattle.text.specs.declared.kinds.Verdict.the-variants as verdict
+use Rattle.text.specs.Groups.{groupsFrom}
+use Rattle.text.specs.Text.{tailOf}
+use Rattle.places.specs.Engine.{Done}
 use Rattle.text.proofs.Judging.{fine, and-then}
 use Rattle.shapes.proofs.Patterns.{neither}
 use Rattle.record.specs.declared.aerodrome.Wind.{Wind}
@@ -26,7 +28,7 @@ use Rattle.sky.proofs.Promises.{SkyBack, sky-read}
 use Rattle.taf_row.specs.declared.kinds.Part.{Part}
 use Rattle.taf_row.specs.declared.kinds.Part.the-variants as part
 use Rattle.taf_row.specs.Row.{row}
-use Rattle.taf.specs.Read.{readOf}
+use Rattle.taf.specs.Read.{groupsRead}
 use Rattle.taf.specs.Write.{unlessAbsent, legOf, judgeChange, judgeEach, judgeOf, canonicalOf, classChange, classedOf}
 use Rattle.taf_laws.proofs.Places.{there-judged}
 use Rattle.taf_laws.proofs.Parts.{FairPart, fair-part, FairChange, fair-change, Fair, fair, over-bare}
@@ -136,8 +138,8 @@ record-read t arrays e =
 
 -- WHAT IS WRITTEN OF A RECORD THAT THE WRITER ACCEPTS IS READ, to the text's end, as a record that says the same.
 pub promise : (t : Taf) → TafArrays t → judgeOf t ≡ judged.Fine
-    → (readOf (canonicalOf t) .verdict ≡ verdict.Accepted (length (canonicalOf t))) × RecordRead t (readOf (canonicalOf t) .report)
-promise t arrays e = rw (read-canonical t arrays e) (refl, record-read t arrays e)
+    → (groupsRead (tailOf (canonicalOf t)) (length (canonicalOf t)) (groupsFrom (canonicalOf t) 0) ≡ Done (length (canonicalOf t)) (classedOf t)) × RecordRead t (classedOf t)
+promise t arrays e = (read-canonical t arrays e, record-read t arrays e)
 
 -- ---- each change is read back as its class, and those past the count too
 

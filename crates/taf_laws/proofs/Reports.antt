@@ -32,7 +32,7 @@ use Rattle.taf_row.specs.declared.kinds.Part.the-variants as part
 use Rattle.taf.specs.declared.kinds.Going.{Going}
 use Rattle.taf_row.specs.Row.{isMain, row, changeWords}
 use Rattle.taf_row.specs.Tests.{hasElement, isProbable}
-use Rattle.taf.specs.Read.{openedBy, opened, begun, withChange, withPart, bodyOf, mainPart, fromFirst}
+use Rattle.taf.specs.Read.{openedBy, opened, begun, withChange, withPart, bodyOf, mainPart, groupsRead}
 use Rattle.taf.specs.Write.{periodFits, instantFits, isChance, openingFits, partOf, legOf, judgeChange, judgeEach, judgeOf, showChance, showFrom, showOpening, showChange, showEach, groupsOf, openedLeg, classChange, classedOf}
 use Rattle.record.specs.SilentAerodrome.{noInstant}
 use Rattle.record.specs.Arrays.{PartArrays, EachArrays, TafArrays}
@@ -280,13 +280,8 @@ module _ (t : Taf) (arrays : TafArrays t) (f : Fair t) (end : ℕ) (gs : List Pi
       go true o = over-back o
       go false o = let n = neither (t .leg .nil) (t .leg .cancelled) (rw o) in live-back (n .0) (n .1)
 
--- the first group names the report
-from-first : (t : Taf) (end : ℕ) (gs : List Piece) → pieceGroups gs ≡ groupsOf t → fromFirst Clear end gs ≡ bodyOf Clear end blankTaf mainPart gs
-unfolding groupsOf row fromFirst hasPattern fits low high
-from-first t end [] are = let z : _≡_ {A = ℕ} 0 1 = cc in absurd (omega arith)
-from-first t end (g ∷ gs) are = let here : g .bytes ≡ bytes "TAF" = cc in rw here
-
 -- THE GROUPS OF A RECORD ARE READ BACK, from any pieces that hold them.
 pub pieces-back : (t : Taf) → TafArrays t → judgeOf t ≡ judged.Fine → (end : ℕ) (gs : List Piece) → pieceGroups gs ≡ groupsOf t
-    → fromFirst Clear end gs ≡ Done end (classedOf t)
-pieces-back t arrays e end gs are = from-first t end gs are ∙ whole-back t arrays (fair t e) end gs are
+    → groupsRead Clear end gs ≡ Done end (classedOf t)
+unfolding groupsRead
+pieces-back t arrays e end gs are = whole-back t arrays (fair t e) end gs are

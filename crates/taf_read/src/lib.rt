@@ -1,9 +1,8 @@
-// Reading a TAF: the text as a whole, its first group, then the main part and the change groups, each with a part of its own.
+// Reading a TAF, from behind its name on: the main part and the change groups, each with a part of its own.
 use record::aerodrome::Opening;
 use record::aerodrome::Taf;
 use record::blank_aerodrome::blank_leg;
 use record::blank_aerodrome::blank_taf;
-use shapes::has_pattern;
 use taf::group::meet;
 use taf::kinds::Going;
 use taf::kinds::Next;
@@ -15,7 +14,6 @@ use taf_row::tests::lacks;
 use taf_turn::answer;
 use taf_turn::change::take_turn;
 use taf_turn::change::with_part;
-use text::kinds::Bytes;
 use text::kinds::Cut;
 use text::kinds::Judged;
 use text::kinds::Refusal;
@@ -25,8 +23,7 @@ ghost use lib.ListN.{length};
 ghost use Rattle.text.specs.declared.kinds.Tail.the-variants.{Clear};
 ghost use Rattle.text.specs.Text.{tailOf};
 ghost use Rattle.text.specs.Groups.{groupsFrom};
-ghost use Rattle.record.specs.Taf.{blankTaf};
-ghost use Rattle.taf.specs.Read.{finish, mainPart, fromFirst, answer, readOf};
+ghost use Rattle.taf.specs.Read.{finish, mainBehind, behindName, answer};
 ghost use Rattle.taf.specs.Step.{PartDone, bodyFrom, changeFrom};
 
 // The groups of one part, from a position of the text on, up to a change word or the end.
@@ -122,54 +119,26 @@ fn read_change(text: &[u8], start: usize, end: usize, t: Taf, s: Going) -> Readi
     }
 }
 
+// The main part behind TAF, which has stood at its row's first place.
 fn main_part() -> Going
-    ensures { λ r. ⌜ r ≡ mainPart ⌝ }
+    ensures { λ r. ⌜ r ≡ mainBehind ⌝ }
 {
     let leg = blank_leg();
     Going {
         opening: Opening::None,
         part: Part::Main,
         place: 0,
-        count: 0,
+        count: 1,
         fresh: false,
         leg,
     }
 }
 
-// All groups, from TAF on.
-fn read_parts(text: &[u8]) -> Reading
-    ensures { λ r. ⌜ r ≡ bodyFrom (now (text .entry)) blankTaf mainPart 0 ⌝ }
+// What the groups come to, from a position behind TAF on.
+pub fn read_from(text: &[u8], at: usize) -> Reading
+    ensures { λ r. ⌜ r ≡ answer (behindName (tailOf (now (text .entry))) (length (now (text .entry))) (groupsFrom (now (text .entry)) at)) ⌝ }
 {
     let t = blank_taf();
     let s = main_part();
-    read_body(text, 0, t, s)
-}
-
-// The first group says whether this is a TAF.
-fn read_groups(text: &[u8]) -> Reading
-    ensures { λ r. ⌜ r ≡ answer (fromFirst (tailOf (now (text .entry))) (length (now (text .entry))) (groupsFrom (now (text .entry)) 0)) ⌝ }
-{
-    let first = text::next_group(text, 0);
-    match first {
-        Cut::End { at: _ } => answer::refuse(Refusal::Kind, 0),
-        Cut::Group { start, end } => {
-            if has_pattern(text::part(text, start, end), b"TAF") {
-                read_parts(text)
-            } else {
-                answer::refuse(Refusal::Kind, start)
-            }
-        }
-    }
-}
-
-// What a text says, or the first fault and its place.
-pub fn read(text: &[u8]) -> Reading
-    ensures { λ r. ⌜ r ≡ readOf (now (text .entry)) ⌝ }
-{
-    let judged = text::judge_bytes(text);
-    match judged {
-        Bytes::Length => answer::refuse(Refusal::Length, 0),
-        Bytes::Byte(place) => answer::refuse(Refusal::Byte, place),
-        Bytes::Sound => read_groups(text),
-    }
+    read_body(text, at, t, s)
 }

@@ -1,0 +1,134 @@
+-- Worked examples: what some texts are read as, and what the records are written as. Each text gives its canonical text, or the refusal's number and
+-- place.
+-- Assumes nothing.
+use Prim.Native.Nat.{ℕ}
+use mathlib.Core.Path.{_≡_, refl}
+use mathlib.Core.List.{List, [], _∷_, map}
+use Rattle.text.specs.declared.kinds.Judged.the-variants as judged
+use Rattle.text.specs.declared.kinds.Verdict.the-variants as verdict
+use Rattle.text.specs.Refusals.{numberOf}
+use Rattle.text.specs.Example.{Example, reads, refuses}
+use Rattle.report_record.specs.declared.kinds.Reading.{Reading}
+use Rattle.figures.specs.Figures as figures
+use Rattle.figures.specs.Signed as signed
+use Rattle.text.specs.Bytes as bytes
+use Rattle.text.specs.Groups as groups
+use Rattle.text.specs.Text as text
+use Rattle.shapes.specs.Pattern as pattern
+use Rattle.shapes.specs.Shape as shape
+use Rattle.places.specs.Engine as engine
+use Rattle.places.specs.Seek as seek
+use Rattle.scales.specs.Degrees as degrees
+use Rattle.scales.specs.Metres as metres
+use Rattle.scales.specs.Rounded as rounded
+use Rattle.scales.specs.Scale as scale
+use Rattle.synop_groups.specs.Judge as surface-judge
+use Rattle.synop_groups.specs.Reads as surface-reads
+use Rattle.synop_groups.specs.Shows as surface-shows
+use Rattle.synop_row.specs.Row as synop-row
+use Rattle.synop_section.specs.Answer as section
+use Rattle.synop.specs.Read as synop-read
+use Rattle.synop.specs.Write as synop-write
+use Rattle.elements.specs.Sky as sky
+use Rattle.elements.specs.Visibility as visibility
+use Rattle.elements.specs.Weather as weather
+use Rattle.elements.specs.Wind as wind
+use Rattle.aerodrome_groups.specs.Head as head
+use Rattle.aerodrome_groups.specs.Runway as runway
+use Rattle.aerodrome_groups.specs.Temperatures as temperatures
+use Rattle.metar_row.specs.Row as metar-row
+use Rattle.metar.specs.Read as metar-read
+use Rattle.metar.specs.Write as metar-write
+use Rattle.taf_row.specs.Row as taf-row
+use Rattle.taf.specs.Read as taf-read
+use Rattle.taf.specs.Write as taf-write
+use Rattle.report_record.specs.Blank as blank
+use Rattle.report.specs.Read as report-read
+use Rattle.report.specs.Write as report-write
+
+-- what the program says of a reading
+abbrev said : Reading → List ℕ
+said r =
+    elim (r .verdict) [
+      | verdict.Accepted rest ↦
+          elim (report-write.judgeOf (r .report)) [ judged.Fine ↦ report-write.canonicalOf (r .report) | judged.Refused f ↦ numberOf f ∷ [] ]
+      | verdict.Refused f at ↦ numberOf f ∷ at ∷ []
+    ]
+
+abbrev pub examples : List Example
+examples =
+    reads "AAXX 24124 99901  11466 80412 10053 60021 76166" "AAXX 24124 99901 11466 80412 10053 60021 76166="
+    ∷ refuses "AAXX 24124 99901 43/// 80412 1//// 10053" 6 35
+    ∷ refuses "AAXX 24124 99901 13/// 80412 8//// 60011" 8 29
+    ∷ refuses "AAXX 24124 99901 NIL==" 4 21
+    ∷ reads "AAXX 24124 99901 43/// 80412 22212 X" "AAXX 24124 99901 43/// 80412="
+    ∷ refuses "BBXX ABC 24124 99001 10001 NIL" 4 27
+    ∷ refuses "AAXX 24124 99901 43/// 80499 10053" 8 29
+    ∷ refuses "AAXX 24124 99901 43/// 80099" 7 23
+    ∷ refuses "AAXX 24124 99901 43/// 80412 6////" 7 29
+    ∷ reads "AAXX 24124 99901 43/97 80412" "AAXX 24124 99901 43/97 80412="
+    ∷ refuses "BBXX D5LT 24124 99900 71800 43/// 80499 00123 11000" 5 46
+    ∷ reads "BBXX D5LT 24124 99000 71800 43/// 80499 00123=" "BBXX D5LT 24124 99000 11800 43/// 80499 00123="
+    ∷ reads "METAR LEMD 011200Z 00000KT 010V020 CAVOK 15/10 Q1013" "METAR LEMD 011200Z 00000KT 010V020 CAVOK 15/10 Q1013="
+    ∷ refuses "METAR METAR LEMD" 6 6
+    ∷ reads "METAR AUTO 011200Z 27010KT 9999 15/10 Q1013" "METAR AUTO 011200Z 27010KT 9999 15/10 Q1013="
+    ∷ refuses "METAR LEMD 011200Z 27010KT 9999 15/10 Q1013 RERA RERA RERA RERA" 9 59
+    ∷ refuses "METAR LEMD 011200Z 270050KT" 5 19
+    ∷ refuses "METAR LEMD 011200Z 27010KT 9999 RASNPLGSGR" 5 32
+    ∷ refuses "METAR LEMD 011200Z 27010KT 9999 RA+" 4 32
+    ∷ refuses "METAR LEMD 011200Z 27010KT CAVOK //" 7 33
+    ∷ refuses "METAR LEMD 011200Z 27010KT 9999 SKC SKC" 7 36
+    ∷ reads "METAR LEMD 011200Z 27010KT CAVOK R24/0500 R24/0500 15/10 Q1013" "METAR LEMD 011200Z 27010KT CAVOK R24/0500 R24/0500 15/10 Q1013="
+    ∷ reads "METAR LEMD 011200Z 27010KT 9999 FEW///CB 15/10 Q1013 NOSIG" "METAR LEMD 011200Z 27010KT 9999 FEW///CB 15/10 Q1013="
+    ∷ refuses "METAR NOSIG" 8 6
+    ∷ reads "TAF LEMD 011100Z 0112/0212 27010KT 9999 RA RA RA BECMG 0112/0114 RA RA RA" "TAF LEMD 011100Z 0112/0212 27010KT 9999 RA RA RA BECMG 0112/0114 RA RA RA="
+    ∷ reads "TAF LEMD 011100Z 0212/0100 27010KT 9999 FM310000 27010KT 9999" "TAF LEMD 011100Z 0212/0100 27010KT 9999 FM310000 27010KT 9999="
+    ∷ refuses "TAF LEMD 011100Z 0112/0212 27010KT 9999 UP" 7 40
+    ∷ refuses "TAF LEMD 011100Z 0112/0212 27010KT 9999 Q////" 4 40
+    ∷ refuses "TAF LEMD 011100Z 0112/0212 27010KT 9999 PROB50" 5 40
+    ∷ refuses "TAF LEMD 011100Z 0112/0212 27010KT 9999 BECMG BECMG" 8 46
+    ∷ refuses "TAF LEMD 011100Z 0112/0212 27010KT 9999 PROB30 TEMPO TEMPO" 8 53
+    ∷ refuses "TAF LEMD 011100Z 0112/0212 27010KT 9999 FM011300 0113/0114" 6 49
+    ∷ refuses "TAF LEMD 011100Z 0112/0212 27010KT 9999 BECMG 0112/0114 FM011300" 8 56
+    ∷ refuses "TAF LEMD 011100Z 0112/0212 27010KT 9999 RA SN DZ NSW" 9 49
+    ∷ refuses "TAF LEMD 011100Z 0112/0212 27010KT 9999 BECMG 0112/0114 NSW NSW" 7 60
+    ∷ []
+
+pub worked : map (λ (e : Example). said (report-read.readOf (e .text))) examples ≡ map (λ (e : Example). e .answer) examples
+unfolding figures.figures figures.scan figures.fieldAt figures.numberText figures.slashes figures.fieldText
+    signed.signedOf
+    bytes.lead
+    groups.groupsIn groups.groupsFrom groups.pastParting groups.spaced groups.parted groups.join
+    text.equalsAt text.bytesOf text.junkFrom text.tailOf
+    pattern.low pattern.high pattern.fits pattern.hasPattern pattern.hasAny
+    shape.leading shape.split shape.partsOf shape.begins shape.valueOf shape.pickOf shape.scanParts shape.answered shape.scanOf shape.hasShape shape.filled shape.printParts shape.printOf shape.spellings
+    engine.step engine.run
+    seek.seek seek.anywhere seek.findOf seek.owed
+    degrees.signedReading degrees.wholeDegrees degrees.degreesOf degrees.degreesReading
+    metres.land metres.sea metres.base metres.metresFigure metres.metresReading metres.visibility metres.runway metres.cloud metres.sameRange metres.rangeFigure metres.rangeReading
+    rounded.rainFigure rounded.rainReading rounded.directionFigure rounded.directionReading rounded.pressureFigure rounded.pressureReading
+    scale.classIn scale.readIn scale.run
+    surface-judge.judgeTime surface-judge.judgeStation surface-judge.judgeSign surface-judge.judgePosition surface-judge.judgeIndicators surface-judge.judgeWind surface-judge.judgeAir surface-judge.judgeMoisture surface-judge.judgePressure surface-judge.judgeLevel surface-judge.judgeTendency surface-judge.judgeRainfall surface-judge.judgeWeather surface-judge.judgeClouds surface-judge.judgeClock
+    surface-reads.timeOf surface-reads.saidTime surface-reads.saidStation surface-reads.latitudeIs surface-reads.saidLatitude surface-reads.positionOf surface-reads.saidLongitude surface-reads.indicatorsOf surface-reads.saidIndicators surface-reads.windBy surface-reads.saidWind surface-reads.speedIs surface-reads.saidSpeed surface-reads.airIs surface-reads.saidAir surface-reads.moistureIs surface-reads.saidMoisture surface-reads.saidPressure surface-reads.levelIs surface-reads.saidLevel surface-reads.tendencyIs surface-reads.saidTendency surface-reads.saidRainfall surface-reads.saidWeather surface-reads.saidClouds surface-reads.clockIs surface-reads.saidClock
+    surface-shows.showTime surface-shows.showStation surface-shows.showSign surface-shows.showLatitude surface-shows.showLongitude surface-shows.showIndicators surface-shows.showWind surface-shows.showSpeed surface-shows.showAir surface-shows.showMoisture surface-shows.showPressure surface-shows.showLevel surface-shows.showTendency surface-shows.showRainfall surface-shows.weatherText surface-shows.showWeather surface-shows.cloudsText surface-shows.showClouds surface-shows.showClock
+    synop-row.needsOf synop-row.withSaid synop-row.row synop-row.stopWords
+    section.section
+    synop-read.withHead synop-read.signOf synop-read.posts synop-read.walk synop-read.groupsRead
+    synop-write.noSurface synop-write.foreignBlank synop-write.judgeSite synop-write.judgeSection synop-write.judgeSurface synop-write.judgeOf synop-write.siteGroups synop-write.surfaceGroups synop-write.groupsOf synop-write.canonicalOf
+    sky.readLayer sky.readAlone sky.readSky sky.showLayer sky.showSky sky.judgeSky
+    visibility.readVisibility visibility.showVisibility visibility.judgeVisibility
+    weather.codesOf weather.areCodes weather.signedCodes weather.hasWeather weather.hasRecent weather.saidWeather weather.readWeather weather.readRecent weather.showWeather weather.showRecent weather.showWeathers weather.showRecents weather.judgeWeather weather.judgeRecent weather.judgeWeathers
+    wind.windBy wind.readWind wind.readVariation wind.showWind wind.showVariation wind.judgeWind wind.judgeVariation
+    head.stationOf head.readTime head.showTime head.judgeStation head.judgeTime
+    runway.readRunway runway.showRunway runway.showRunways runway.judgeRunways
+    temperatures.readTemperatures temperatures.readQnh temperatures.showTemperatures temperatures.showQnh temperatures.judgeTemperatures temperatures.judgeQnh
+    metar-row.row metar-row.stopWords
+    metar-read.groupsRead
+    metar-write.judgeHead metar-write.noBody metar-write.judgeBody metar-write.judgeOf metar-write.canonicalOf
+    taf-row.readPeriod taf-row.showPeriod taf-row.readForecast taf-row.row taf-row.changeWords
+    taf-read.openedBy taf-read.withPart taf-read.bodyOf taf-read.groupsRead
+    taf-write.judgePart taf-write.judgeChange taf-write.noPart taf-write.judgeChanges taf-write.foreignBlank taf-write.judgeOf taf-write.showChange taf-write.groupsOf taf-write.canonicalOf
+    blank.isBlankSynop blank.isBlankMetar blank.isBlankTaf
+    report-read.nameOf report-read.readOf
+    report-write.judgeOf report-write.canonicalOf
+worked = refl
