@@ -22,6 +22,8 @@ use Rattle.scales.specs.Degrees as degrees
 use Rattle.scales.specs.Metres as metres
 use Rattle.scales.specs.Rounded as rounded
 use Rattle.scales.specs.Scale as scale
+use Rattle.record.specs.SilentSurface as silent-surface
+use Rattle.record.specs.SilentAerodrome as silent-aerodrome
 use Rattle.synop_groups.specs.Judge as surface-judge
 use Rattle.synop_groups.specs.Reads as surface-reads
 use Rattle.synop_groups.specs.Shows as surface-shows
@@ -42,7 +44,6 @@ use Rattle.metar.specs.Write as metar-write
 use Rattle.taf_row.specs.Row as taf-row
 use Rattle.taf.specs.Read as taf-read
 use Rattle.taf.specs.Write as taf-write
-use Rattle.report_record.specs.Blank as blank
 use Rattle.report.specs.Read as report-read
 use Rattle.report.specs.Write as report-write
 
@@ -108,13 +109,15 @@ unfolding figures.figures figures.scan figures.fieldAt figures.numberText figure
     metres.land metres.sea metres.base metres.metresFigure metres.metresReading metres.visibility metres.runway metres.cloud metres.sameRange metres.rangeFigure metres.rangeReading
     rounded.rainFigure rounded.rainReading rounded.directionFigure rounded.directionReading rounded.pressureFigure rounded.pressureReading
     scale.classIn scale.readIn scale.run
+    silent-surface.noSurface silent-surface.isBlankSynop
+    silent-aerodrome.noBody silent-aerodrome.noElements silent-aerodrome.isBlankMetar silent-aerodrome.isBlankTaf
     surface-judge.judgeTime surface-judge.judgeStation surface-judge.judgeSign surface-judge.judgePosition surface-judge.judgeIndicators surface-judge.judgeWind surface-judge.judgeAir surface-judge.judgeMoisture surface-judge.judgePressure surface-judge.judgeLevel surface-judge.judgeTendency surface-judge.judgeRainfall surface-judge.judgeWeather surface-judge.judgeClouds surface-judge.judgeClock
     surface-reads.timeOf surface-reads.saidTime surface-reads.saidStation surface-reads.latitudeIs surface-reads.saidLatitude surface-reads.positionOf surface-reads.saidLongitude surface-reads.indicatorsOf surface-reads.saidIndicators surface-reads.windBy surface-reads.saidWind surface-reads.speedIs surface-reads.saidSpeed surface-reads.airIs surface-reads.saidAir surface-reads.moistureIs surface-reads.saidMoisture surface-reads.saidPressure surface-reads.levelIs surface-reads.saidLevel surface-reads.tendencyIs surface-reads.saidTendency surface-reads.saidRainfall surface-reads.saidWeather surface-reads.saidClouds surface-reads.clockIs surface-reads.saidClock
     surface-shows.showTime surface-shows.showStation surface-shows.showSign surface-shows.showLatitude surface-shows.showLongitude surface-shows.showIndicators surface-shows.showWind surface-shows.showSpeed surface-shows.showAir surface-shows.showMoisture surface-shows.showPressure surface-shows.showLevel surface-shows.showTendency surface-shows.showRainfall surface-shows.weatherText surface-shows.showWeather surface-shows.cloudsText surface-shows.showClouds surface-shows.showClock
     synop-row.needsOf synop-row.withSaid synop-row.row synop-row.stopWords
     section.section
     synop-read.withHead synop-read.signOf synop-read.posts synop-read.walk synop-read.groupsRead
-    synop-write.noSurface synop-write.foreignBlank synop-write.judgeSite synop-write.judgeSection synop-write.judgeSurface synop-write.judgeOf synop-write.siteGroups synop-write.surfaceGroups synop-write.groupsOf synop-write.canonicalOf
+    synop-write.foreignBlank synop-write.judgeSite synop-write.judgeSection synop-write.judgeSurface synop-write.judgeOf synop-write.siteGroups synop-write.surfaceGroups synop-write.groupsOf synop-write.canonicalOf
     sky.readLayer sky.readAlone sky.readSky sky.showLayer sky.showSky sky.judgeSky
     visibility.readVisibility visibility.showVisibility visibility.judgeVisibility
     weather.codesOf weather.areCodes weather.signedCodes weather.hasWeather weather.hasRecent weather.saidWeather weather.readWeather weather.readRecent weather.showWeather weather.showRecent weather.showWeathers weather.showRecents weather.judgeWeather weather.judgeRecent weather.judgeWeathers
@@ -124,11 +127,10 @@ unfolding figures.figures figures.scan figures.fieldAt figures.numberText figure
     temperatures.readTemperatures temperatures.readQnh temperatures.showTemperatures temperatures.showQnh temperatures.judgeTemperatures temperatures.judgeQnh
     metar-row.row metar-row.stopWords
     metar-read.groupsRead
-    metar-write.judgeHead metar-write.noBody metar-write.judgeBody metar-write.judgeOf metar-write.canonicalOf
+    metar-write.judgeHead metar-write.judgeBody metar-write.judgeOf metar-write.canonicalOf
     taf-row.readPeriod taf-row.showPeriod taf-row.readForecast taf-row.row taf-row.changeWords
     taf-read.openedBy taf-read.withPart taf-read.bodyOf taf-read.groupsRead
-    taf-write.judgePart taf-write.judgeChange taf-write.noPart taf-write.judgeChanges taf-write.foreignBlank taf-write.judgeOf taf-write.showChange taf-write.groupsOf taf-write.canonicalOf
-    blank.isBlankSynop blank.isBlankMetar blank.isBlankTaf
+    taf-write.judgePart taf-write.judgeChange taf-write.judgeChanges taf-write.foreignBlank taf-write.judgeOf taf-write.showChange taf-write.groupsOf taf-write.canonicalOf
     report-read.nameOf report-read.readOf
     report-write.judgeOf report-write.canonicalOf
 worked = refl

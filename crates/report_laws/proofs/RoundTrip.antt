@@ -119,7 +119,7 @@ module _ (s : Synop) (nine : length (s .site .sign .letters) ≡ 9) (e : synop.j
   surface-text : SurfaceText (synop.canonicalOf s) (Done (length (synop.canonicalOf s)) (synop.classedOf s))
   surface-text = let n = surface-named in record { ship = s .ship; named = n; comes = rw (n .groups) at (synop-text.read-canonical s nine e) }
 
-module _ (m : Metar) (arrays : metar-text.Arrays m) (e : metar.judgeOf m ≡ judged.Fine) where
+module _ (m : Metar) (arrays : MetarArrays m) (e : metar.judgeOf m ≡ judged.Fine) where
   observed-named : Named (metar.canonicalOf m) (observedWord (m .special))
   unfolding metar.canonicalOf observed-row.row
   observed-named = joined _ _ _ (observed-word (m .special)) (metar-text.groups-sizes m arrays e) (omega (arith, metar-text.length-canonical m arrays e))
@@ -127,7 +127,7 @@ module _ (m : Metar) (arrays : metar-text.Arrays m) (e : metar.judgeOf m ≡ jud
   observed-text : ObservedText (metar.canonicalOf m) (Done (length (metar.canonicalOf m)) (metar.classedOf m))
   observed-text = record { special = m .special; named = observed-named; comes = metar-text.read-canonical m arrays e }
 
-module _ (t : Taf) (arrays : taf-text.Arrays t) (e : taf.judgeOf t ≡ judged.Fine) where
+module _ (t : Taf) (arrays : TafArrays t) (e : taf.judgeOf t ≡ judged.Fine) where
   forecast-named : Named (taf.canonicalOf t) forecastWord
   unfolding taf.canonicalOf taf.groupsOf forecast-row.row hasPattern fits low high
   forecast-named = joined _ _ _ refl (taf-text.groups-sizes t arrays e) (omega (arith, taf-text.length-canonical t arrays e))
