@@ -1,0 +1,97 @@
+// The calls that `tests/bench` times from Rust: the reader of every kind, and each kind's own. Every call reads the text, and then either says the
+// verdict or writes the record that was read. Which of the two is known only at run time, so that no call is compiled without making its record.
+use text::kinds::Refusal;
+use text::kinds::Verdict;
+use text::kinds::Written;
+ghost use mathlib.Core.Path.{_≡_};
+ghost use Rattle.text.specs.Refusals.{numberOf};
+
+// Nothing was refused: 0, and how many.
+fn say(count: usize, number: &mut usize) -> u8
+    ensures { λ r. ⌜ (r ≡ 0) × (now (number .exit) ≡ count) ⌝ }
+{
+    *number = count;
+    0
+}
+
+// The refusal's number, and the place.
+fn say_refused(refusal: Refusal, place: usize, number: &mut usize) -> u8
+    ensures { λ r. ⌜ (r ≡ numberOf refusal) × (now (number .exit) ≡ place) ⌝ }
+{
+    *number = place;
+    text::refusal_number(refusal)
+}
+
+fn say_verdict(verdict: Verdict, number: &mut usize) -> u8 {
+    match verdict {
+        Verdict::Accepted { rest } => say(rest, number),
+        Verdict::Refused { refusal, place } => say_refused(refusal, place, number),
+    }
+}
+
+fn say_written(written: Written, number: &mut usize) -> u8 {
+    match written {
+        Written::Count(count) => say(count, number),
+        Written::Refused(refusal) => say_refused(refusal, 0, number),
+    }
+}
+
+#[no_mangle]
+pub extern "C" fn delgushar_any(
+    text: &[u8],
+    writes: bool,
+    out: &mut [u8],
+    number: &mut usize,
+) -> u8 {
+    let reading = report::read(text);
+    if writes {
+        return say_written(report::write(reading.report, out), number);
+    }
+    let verdict = reading.verdict;
+    say_verdict(verdict, number)
+}
+
+#[no_mangle]
+pub extern "C" fn delgushar_synop(
+    text: &[u8],
+    writes: bool,
+    out: &mut [u8],
+    number: &mut usize,
+) -> u8 {
+    let reading = synop::read::read(text);
+    if writes {
+        return say_written(synop_write::write::write(reading.report, out), number);
+    }
+    let verdict = reading.verdict;
+    say_verdict(verdict, number)
+}
+
+#[no_mangle]
+pub extern "C" fn delgushar_metar(
+    text: &[u8],
+    writes: bool,
+    out: &mut [u8],
+    number: &mut usize,
+) -> u8 {
+    let reading = metar::read::read(text);
+    if writes {
+        return say_written(metar_write::write::write(reading.report, out), number);
+    }
+    let verdict = reading.verdict;
+    say_verdict(verdict, number)
+}
+
+#[no_mangle]
+pub extern "C" fn delgushar_taf(
+    text: &[u8],
+    writes: bool,
+    out: &mut [u8],
+    number: &mut usize,
+) -> u8 {
+    let reading = taf_read::read(text);
+    if writes {
+        return say_written(taf_write::write::write(reading.report, out), number);
+    }
+    let verdict = reading.verdict;
+    say_verdict(verdict, number)
+}

@@ -1,0 +1,431 @@
+//! The benchmark's harness: the library and the independent decoder in one process, on the same
+//! texts. Standard input has valid reports, a line of hexadecimal bytes each; the argument is the
+//! number of rounds. Before a text is timed, both sides must give the same answer to it.
+//! Three sides are timed: the library's reader of any kind, the kind's own reader, the decoder.
+
+use std::hint::black_box;
+use std::io::Read;
+
+#[allow(dead_code)]
+mod decoder;
+
+// ---------------------------------------------------------------------------------------------
+// The library
+// ---------------------------------------------------------------------------------------------
+
+/// A call of the crate `bench_calls`: the text, whether its record is written, the lent buffer and
+/// a number. The answer is a refusal and its place, or 0 and the rest's place or the bytes written.
+type Call = unsafe extern "C" fn(*const u8, usize, bool, *mut u8, usize, *mut usize) -> u8;
+
+extern "C" {
+    fn delgushar_any(t: *const u8, n: usize, w: bool, o: *mut u8, m: usize, r: *mut usize) -> u8;
+    fn delgushar_synop(t: *const u8, n: usize, w: bool, o: *mut u8, m: usize, r: *mut usize) -> u8;
+    fn delgushar_metar(t: *const u8, n: usize, w: bool, o: *mut u8, m: usize, r: *mut usize) -> u8;
+    fn delgushar_taf(t: *const u8, n: usize, w: bool, o: *mut u8, m: usize, r: *mut usize) -> u8;
+}
+
+type Buffer = [u8; decoder::LONGEST_TEXT];
+
+fn ask(call: Call, text: &[u8], writes: bool, out: &mut Buffer) -> (u8, usize) {
+    let mut number = 0;
+    let (room, len) = (out.as_mut_ptr(), out.len());
+    // The library keeps to the two slices: that is proved of it.
+    let refusal = unsafe { call(text.as_ptr(), text.len(), writes, room, len, &mut number) };
+    (refusal, number)
+}
+
+// ---------------------------------------------------------------------------------------------
+// The reports
+// ---------------------------------------------------------------------------------------------
+
+#[derive(Clone, Copy)]
+struct Kind {
+    name: &'static str,
+    first_group: &'static str,
+    own: Call,
+}
+
+const fn kind(name: &'static str, first_group: &'static str, own: Call) -> Kind {
+    Kind {
+        name,
+        first_group,
+        own,
+    }
+}
+
+const SYNOP: Kind = kind("SYNOP", "AAXX", delgushar_synop);
+const SHIP: Kind = kind("SHIP", "BBXX", delgushar_synop);
+const METAR: Kind = kind("METAR", "METAR", delgushar_metar);
+const TAF: Kind = kind("TAF", "TAF", delgushar_taf);
+
+/// Texts of one kind that are timed together.
+#[derive(Clone)]
+struct Texts {
+    kind: Kind,
+    texts: Vec<Vec<u8>>,
+}
+
+impl Texts {
+    fn of_one(kind: Kind, text: String) -> Texts {
+        let texts = vec![text.into_bytes(); 100];
+        Texts { kind, texts }
+    }
+
+    fn mean_bytes(&self) -> usize {
+        self.texts.iter().map(Vec::len).sum::<usize>() / self.texts.len()
+    }
+
+    fn longest(&self) -> &[u8] {
+        self.texts.iter().max_by_key(|text| text.len()).unwrap()
+    }
+}
+
+fn is_parting(byte: u8) -> bool {
+    b" \r\n".contains(&byte)
+}
+
+fn bytes_of_line(line: &str) -> Vec<u8> {
+    let byte = |at| u8::from_str_radix(&line[at..at + 2], 16).unwrap();
+    (0..line.len()).step_by(2).map(byte).collect()
+}
+
+/// The reports of a kind among the lines.
+fn of_kind(kind: Kind, lines: &str) -> Texts {
+    let is_of_kind = |text: &Vec<u8>| {
+        let mut groups = text.split(|&byte| is_parting(byte) || byte == b'=');
+        groups.find(|group| !group.is_empty()) == Some(kind.first_group.as_bytes())
+    };
+    let texts = lines.lines().map(bytes_of_line);
+    let texts = texts.filter(is_of_kind).collect();
+    Texts { kind, texts }
+}
+
+/// A forecast with so many changes.
+fn with_changes(changes: usize) -> Texts {
+    let body = "TAF LEMD 301700Z 3018/0124 13005MPS 9999 BKN020".to_string();
+    let change = " BECMG 0106/0108 18008G15MPS 4000 -RA BR BKN010 OVC030";
+    Texts::of_one(TAF, body + &change.repeat(changes) + "=")
+}
+
+/// An observation whose unread rest has so many bytes.
+fn with_rest(bytes: usize) -> Texts {
+    let read = "METAR LEMD 011200Z 27010KT 4000 BR SCT010 15/14 Q1013 ".to_string();
+    let rest = "RMK ".to_string() + &"A0 ".repeat(bytes / 3);
+    Texts::of_one(METAR, read + &rest[..bytes])
+}
+
+// ---------------------------------------------------------------------------------------------
+// Faults
+// ---------------------------------------------------------------------------------------------
+
+type Fault = fn(Vec<u8>) -> Option<Vec<u8>>;
+
+fn in_first_byte(mut text: Vec<u8>) -> Option<Vec<u8>> {
+    text[0] = b'*';
+    Some(text)
+}
+
+/// The first group names no kind.
+fn in_first_group(mut text: Vec<u8>) -> Option<Vec<u8>> {
+    let at = text.iter().position(|&byte| !is_parting(byte))?;
+    text[at] = b'X';
+    Some(text)
+}
+
+/// A last group that no place takes; none where the report has an unread rest.
+fn in_last_group(mut text: Vec<u8>) -> Option<Vec<u8>> {
+    let is_end = |&byte: &u8| is_parting(byte) || byte == b'=';
+    while text.last().is_some_and(is_end) {
+        text.pop();
+    }
+    let at = text.len() + 1;
+    text.extend(b" X=");
+    match decoder::read(&text) {
+        Err((_, place)) if place == at => Some(text),
+        _ => None,
+    }
+}
+
+fn spoilt(valid: &Texts, fault: Fault) -> Texts {
+    let texts: Vec<_> = valid.texts.iter().cloned().filter_map(fault).collect();
+    assert!(!texts.is_empty());
+    let kind = valid.kind;
+    Texts { kind, texts }
+}
+
+// ---------------------------------------------------------------------------------------------
+// The same answers
+// ---------------------------------------------------------------------------------------------
+
+/// Holds both of the library's readers to the decoder's answer on every text.
+fn hold_to_decoder(texts: &Texts) {
+    let mut out = [0; decoder::LONGEST_TEXT];
+    for text in &texts.texts {
+        let shown = String::from_utf8_lossy(text);
+        let decoded = decoder::read(text);
+        let answer = match &decoded {
+            Ok(report) => (0, report.rest),
+            Err(refusal) => *refusal,
+        };
+        for call in [delgushar_any as Call, texts.kind.own] {
+            assert_eq!(ask(call, text, false, &mut out), answer, "{shown}");
+            if let Ok(report) = &decoded {
+                let canonical = decoder::write(report);
+                let written = ask(call, text, true, &mut out);
+                assert_eq!(written, (0, canonical.len()), "{shown}");
+                assert_eq!(&out[..canonical.len()], canonical, "{shown}");
+            }
+        }
+    }
+}
+
+// ---------------------------------------------------------------------------------------------
+// Time
+// ---------------------------------------------------------------------------------------------
+
+#[derive(Clone, Copy)]
+enum Side {
+    Any,
+    Own,
+    Decoder,
+}
+
+const SIDES: [Side; 3] = [Side::Any, Side::Own, Side::Decoder];
+
+/// One side on one text; what it makes counts as used.
+#[inline(always)]
+fn work(side: Side, kind: Kind, text: &[u8], writes: bool, out: &mut Buffer) {
+    let text = black_box(text);
+    match side {
+        Side::Any => {
+            black_box(ask(delgushar_any, text, writes, out));
+        }
+        Side::Own => {
+            black_box(ask(kind.own, text, writes, out));
+        }
+        Side::Decoder => {
+            let decoded = black_box(decoder::read(text));
+            if writes {
+                black_box(decoded.map(|report| decoder::write(&report))).ok();
+            }
+        }
+    }
+}
+
+/// The clock of the time that the processor gave to this thread.
+const THREAD_CLOCK: i32 = 3;
+
+extern "C" {
+    fn clock_gettime(clock: i32, seconds_and_nanoseconds: *mut [i64; 2]) -> i32;
+}
+
+fn nanoseconds() -> i64 {
+    let mut time = [0; 2];
+    let status = unsafe { clock_gettime(THREAD_CLOCK, &mut time) };
+    assert_eq!(status, 0);
+    time[0] * 1_000_000_000 + time[1]
+}
+
+/// The shortest time that is measured, in nanoseconds.
+const SHORTEST: i64 = 2_000_000;
+
+/// Nanoseconds a text.
+fn time(side: Side, texts: &Texts, writes: bool) -> f64 {
+    let mut out = [0; decoder::LONGEST_TEXT];
+    let (begun, mut took, mut count) = (nanoseconds(), 0, 0);
+    while took < SHORTEST {
+        for text in &texts.texts {
+            work(side, texts.kind, text, writes, &mut out);
+        }
+        count += texts.texts.len();
+        took = nanoseconds() - begun;
+    }
+    took as f64 / count as f64
+}
+
+/// A row of a table: the texts, and for each side the times of the rounds.
+struct Row {
+    name: String,
+    texts: Texts,
+    writes: bool,
+    times: [Vec<f64>; 3],
+}
+
+impl Row {
+    fn new(name: String, texts: Texts, writes: bool) -> Row {
+        hold_to_decoder(&texts);
+        let times = Default::default();
+        Row {
+            name,
+            texts,
+            writes,
+            times,
+        }
+    }
+
+    /// The sides take turns, and who begins changes from round to round.
+    fn run(&mut self, round: usize) {
+        for turn in 0..SIDES.len() {
+            let side = (round + turn) % SIDES.len();
+            self.times[side].push(time(SIDES[side], &self.texts, self.writes));
+        }
+    }
+
+    fn medians(&self) -> [f64; 3] {
+        self.times.clone().map(|mut times| {
+            times.sort_by(f64::total_cmp);
+            times[times.len() / 2]
+        })
+    }
+
+    fn print(&self) {
+        let bytes = self.texts.mean_bytes();
+        let [any, own, decoder] = self.medians();
+        print!("| {:<31} | {bytes:>5} ", self.name);
+        print!("| {any:>7.0} | {own:>10.0} | {decoder:>7.0} ");
+        print!("| {:>17.2} | {:>13.2} ", decoder / any, decoder / own);
+        println!("| {:>18.1} |", any / bytes as f64);
+    }
+}
+
+fn print_times(rows: &[Row]) {
+    print!("\n| {:<31} | bytes ", "nanoseconds a text");
+    print!("| library | own reader | decoder ");
+    println!("| decoder / library | decoder / own | library, ns a byte |");
+    println!("|{}|--:|--:|--:|--:|--:|--:|--:|", "-".repeat(33));
+    rows.iter().for_each(Row::print);
+}
+
+fn valid_rows(valid: &[Texts]) -> Vec<Row> {
+    let mut rows = Vec::new();
+    for (what, writes) in [("read", false), ("read and write", true)] {
+        for texts in valid {
+            let name = format!("{}, {what}", texts.kind.name);
+            rows.push(Row::new(name, texts.clone(), writes));
+        }
+    }
+    rows
+}
+
+fn refused_rows(valid: &[Texts]) -> Vec<Row> {
+    let faults: [(&str, Fault); 3] = [
+        ("first byte", in_first_byte),
+        ("first group", in_first_group),
+        ("last group", in_last_group),
+    ];
+    let mut rows = Vec::new();
+    for (place, fault) in faults {
+        for texts in valid {
+            let name = format!("{}, {place} bad", texts.kind.name);
+            rows.push(Row::new(name, spoilt(texts, fault), false));
+        }
+    }
+    rows
+}
+
+fn growth_rows() -> Vec<Row> {
+    let mut rows = Vec::new();
+    for changes in [0, 4, 8, 16] {
+        let name = format!("TAF, {changes} changes, read");
+        rows.push(Row::new(name, with_changes(changes), false));
+    }
+    for bytes in [0, 900, 1800] {
+        let name = format!("METAR, {bytes} bytes unread, read");
+        rows.push(Row::new(name, with_rest(bytes), false));
+    }
+    rows
+}
+
+// ---------------------------------------------------------------------------------------------
+// Stack
+// ---------------------------------------------------------------------------------------------
+
+const STACK: usize = 4 << 20;
+const PAINT: u64 = 0x5A17_5A17_5A17_5A17;
+/// Below the stack pointer a function may keep this many bytes without moving it.
+const RED_ZONE: usize = 128;
+
+/// How deep a call goes: the stack below is painted first, and afterwards searched from its far
+/// end for the first paint that is gone.
+#[inline(never)]
+fn depth(call: &mut dyn FnMut()) -> usize {
+    let top: usize;
+    unsafe { std::arch::asm!("mov {}, rsp", out(reg) top) };
+    let end = top - STACK;
+    for at in (end..top - RED_ZONE).step_by(8) {
+        unsafe { (at as *mut u64).write_volatile(PAINT) };
+    }
+    call();
+    let is_painted = |at: usize| unsafe { (at as *const u64).read_volatile() } == PAINT;
+    let deepest = (end..top).step_by(8).find(|&at| !is_painted(at));
+    top - deepest.unwrap_or(top)
+}
+
+/// The bytes of stack that one side takes for one text, in a thread of its own.
+fn stack_used(side: Side, kind: Kind, text: &[u8], writes: bool) -> usize {
+    let measure = || {
+        let mut out = [0; decoder::LONGEST_TEXT];
+        let mut call = || work(side, kind, text, writes, &mut out);
+        call();
+        depth(&mut call)
+    };
+    std::thread::scope(|scope| {
+        let thread = std::thread::Builder::new().stack_size(2 * STACK);
+        thread.spawn_scoped(scope, measure).unwrap().join().unwrap()
+    })
+}
+
+fn print_stack(name: &str, texts: &Texts) {
+    let text = texts.longest();
+    print!("| {name:<31} | {:>5} |", text.len());
+    for writes in [false, true] {
+        let [any, own, decoder] = SIDES.map(|side| stack_used(side, texts.kind, text, writes));
+        print!(" {any:>7} | {own:>10} | {decoder:>7} |");
+    }
+    println!();
+}
+
+/// The longest report of each kind, and forecasts with no change and with the most.
+fn print_stacks(valid: &[Texts]) {
+    print!("\n| {:<31} | bytes ", "bytes of stack");
+    print!("| library | own reader | decoder ");
+    println!("| library, written too | own reader | decoder |");
+    println!("|{}|--:|--:|--:|--:|--:|--:|--:|", "-".repeat(33));
+    for texts in &valid[..3] {
+        print_stack(texts.kind.name, texts);
+    }
+    print_stack("TAF, 0 changes", &with_changes(0));
+    print_stack("TAF, 16 changes", &with_changes(16));
+}
+
+/// Runs a call so many frames deeper. A time may depend on where the stack stands, so that the
+/// rounds take different places.
+#[inline(never)]
+fn deeper(frames: usize, call: &mut dyn FnMut()) {
+    let frame = black_box([0u8; 96]);
+    match frames {
+        0 => call(),
+        _ => deeper(frames - 1, call),
+    }
+    black_box(&frame);
+}
+
+fn main() {
+    let rounds = std::env::args().nth(1);
+    let rounds = rounds.map_or(31, |word| word.parse().unwrap());
+    let mut lines = String::new();
+    std::io::stdin().read_to_string(&mut lines).unwrap();
+    let valid = [SYNOP, SHIP, METAR, TAF].map(|kind| of_kind(kind, &lines));
+    let mut rows = valid_rows(&valid);
+    rows.extend(refused_rows(&valid));
+    rows.extend(growth_rows());
+    for round in 0..rounds {
+        for row in &mut rows {
+            deeper(round, &mut || row.run(round));
+        }
+    }
+    let count = valid[0].texts.len();
+    println!("{count} reports of each kind, the median of {rounds} rounds.");
+    print_times(&rows);
+    print_stacks(&valid);
+}
