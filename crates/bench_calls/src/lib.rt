@@ -1,5 +1,6 @@
 // The calls that `tests/bench` times from Rust: the reader of every kind, and each kind's own. Every call reads the text, and then either says the
 // verdict or writes the record that was read. Which of the two is known only at run time, so that no call is compiled without making its record.
+use report_record::kinds::Name;
 use text::kinds::Refusal;
 use text::kinds::Verdict;
 use text::kinds::Written;
@@ -36,6 +37,14 @@ fn say_written(written: Written, number: &mut usize) -> u8 {
     }
 }
 
+// A text that is of another kind, or of none.
+fn say_other(named: Name, number: &mut usize) -> u8 {
+    match named {
+        Name::Refused { refusal, place } => say_refused(refusal, place, number),
+        _ => say_refused(Refusal::Kind, 0, number),
+    }
+}
+
 #[no_mangle]
 pub extern "C" fn delgushar_any(
     text: &[u8],
@@ -58,7 +67,11 @@ pub extern "C" fn delgushar_synop(
     out: &mut [u8],
     number: &mut usize,
 ) -> u8 {
-    let reading = synop::read::read(text);
+    let named = report::name(text);
+    let Name::Surface { ship, at } = named else {
+        return say_other(named, number);
+    };
+    let reading = synop::read::read_from(text, at, ship);
     if writes {
         return say_written(synop_write::write::write(reading.report, out), number);
     }
@@ -73,7 +86,11 @@ pub extern "C" fn delgushar_metar(
     out: &mut [u8],
     number: &mut usize,
 ) -> u8 {
-    let reading = metar::read::read(text);
+    let named = report::name(text);
+    let Name::Observed { special, at } = named else {
+        return say_other(named, number);
+    };
+    let reading = metar::read::read_from(text, at, special);
     if writes {
         return say_written(metar_write::write::write(reading.report, out), number);
     }
@@ -88,7 +105,11 @@ pub extern "C" fn delgushar_taf(
     out: &mut [u8],
     number: &mut usize,
 ) -> u8 {
-    let reading = taf_read::read(text);
+    let named = report::name(text);
+    let Name::Forecast { at } = named else {
+        return say_other(named, number);
+    };
+    let reading = taf_read::read_from(text, at);
     if writes {
         return say_written(taf_write::write::write(reading.report, out), number);
     }
