@@ -23,6 +23,10 @@ use scales::kinds::Reading;
 use scales::metres::runway_reading;
 use scales::pressure::pressure_reading;
 use shapes::kinds::Value;
+use shapes::past::past_four;
+use shapes::past::past_one;
+use shapes::past::past_three;
+use shapes::past::past_two;
 use shapes::scan;
 use text::kinds::Refusal;
 ghost use mathlib.Core.Path.{_≡_};
@@ -71,7 +75,13 @@ pub fn read_time(g: &[u8]) -> InstantRead
 pub fn has_runway(g: &[u8]) -> bool
     ensures { λ r. ⌜ r ≡ hasShape runwayShape (now (g .entry)) ⌝ }
 {
-    scan::has_shape(g, b"R## L|C|R| / M|P| #### U|D|N|")
+    let number = past_one(g, 0, b"R##");
+    let side = past_four(g, number, b"L", b"C", b"R", b"");
+    let stroke = past_one(g, side, b"/");
+    let mark = past_three(g, stroke, b"M", b"P", b"");
+    let range = past_one(g, mark, b"####");
+    let course = past_four(g, range, b"U", b"D", b"N", b"");
+    course == g.len()
 }
 
 fn side_of(which: usize) -> Side
@@ -194,7 +204,12 @@ pub fn add_runway(k: usize, rs: Runways, x: Runway) -> Runways
 pub fn has_temperatures(g: &[u8]) -> bool
     ensures { λ r. ⌜ r ≡ hasShape temperaturesShape (now (g .entry)) ⌝ }
 {
-    scan::has_shape(g, b"M| ## / M| ##")
+    let air_sign = past_two(g, 0, b"M", b"");
+    let air = past_one(g, air_sign, b"##");
+    let stroke = past_one(g, air, b"/");
+    let dew_sign = past_two(g, stroke, b"M", b"");
+    let dew = past_one(g, dew_sign, b"##");
+    dew == g.len()
 }
 
 // A temperature that may be missing, or the group's refusal.

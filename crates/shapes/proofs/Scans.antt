@@ -20,7 +20,7 @@ use Rattle.shapes.proofs.Splits.{others, piece-first, piece-on, piece-n
 
 -- ---- an alternative that was picked is there
 
-begins-length : (a : Pattern) (g : List ℕ) → begins a g ≡ true → length a ≤ length g
+pub begins-length : (a : Pattern) (g : List ℕ) → begins a g ≡ true → length a ≤ length g
 unfolding begins
 begins-length [] g h = omega arith
 begins-length (p ∷ ps) [] h = let z : _≡_ {A = ℕ} 0 1 = cc in absurd (omega arith)

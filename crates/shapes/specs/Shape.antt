@@ -85,6 +85,16 @@ scanParts (p ∷ ps) g =
       | Nothing ↦ Unlike
     ]
 
+-- Where a group goes on after the alternative of a part that it has at a position; past its end where it has none. A group has a shape just where its
+-- parts, one after the other, lead to its end.
+unfoldable pub pastPart : Part → List ℕ → ℕ → ℕ
+pastPart [] g at = suc (length g)
+pastPart (a ∷ others) g at = cond (begins a (drop at g)) (at + length a) (pastPart others g at)
+
+unfoldable pub pastParts : List Part → List ℕ → ℕ → ℕ
+pastParts [] g at = at
+pastParts (p ∷ ps) g at = pastParts ps g (pastPart p g at)
+
 -- the code's answer: the values in an array of eight, the rest of it blank; a shape of more than eight parts is no shape
 abbrev pub blankValue : Value
 blankValue = record { which = 0; field = Other }

@@ -38,7 +38,7 @@ pub fn run_length(pattern: &[u8]) -> usize
 }
 
 // The group begins with bytes that fit the pattern.
-fn begins_with(g: &[u8], pattern: &[u8]) -> bool
+pub fn begins_with(g: &[u8], pattern: &[u8]) -> bool
     ensures { λ r. ⌜ r ≡ begins (now (pattern .entry)) (now (g .entry)) ⌝ }
 {
     let mut i = 0;

@@ -15,13 +15,16 @@ use scales::metres::cloud_reading;
 use shapes::has_pattern;
 use shapes::kinds::Scan;
 use shapes::kinds::Value;
+use shapes::past::past_four;
+use shapes::past::past_one;
+use shapes::past::past_three;
 use shapes::scan::scan;
 use text::kinds::Judged;
 use text::kinds::Refusal;
 ghost use mathlib.Core.Path.{_≡_};
 ghost use lib.ListN.{getD, take};
 ghost use Rattle.shapes.specs.Pattern.{hasAny};
-ghost use Rattle.shapes.specs.Shape.{scanOf, blankValue};
+ghost use Rattle.shapes.specs.Shape.{hasShape, scanOf, blankValue};
 ghost use Rattle.places.specs.Engine.{Bad};
 ghost use Rattle.elements.specs.Parts.{then};
 ghost use Rattle.elements.specs.Answers.{asLayer, asCover, asSky};
@@ -41,6 +44,16 @@ fn scan_layer(g: &[u8]) -> Scan
     scan(g, b"FEW|SCT|BKN|OVC ### CB|TCU|")
 }
 
+// The same as a test.
+fn is_layer(g: &[u8]) -> bool
+    ensures { λ r. ⌜ r ≡ hasShape layerShape (now (g .entry)) ⌝ }
+{
+    let amount = past_four(g, 0, b"FEW", b"SCT", b"BKN", b"OVC");
+    let height = past_one(g, amount, b"###");
+    let convective = past_three(g, height, b"CB", b"TCU", b"");
+    convective == g.len()
+}
+
 fn stands_alone(g: &[u8]) -> bool
     ensures { λ r. ⌜ r ≡ hasAny aloneShapes (now (g .entry)) ⌝ }
 {
@@ -51,8 +64,7 @@ fn stands_alone(g: &[u8]) -> bool
 pub fn has_sky(g: &[u8]) -> bool
     ensures { λ r. ⌜ r ≡ hasSky (now (g .entry)) ⌝ }
 {
-    let scanned = scan_layer(g);
-    scanned.fits | stands_alone(g)
+    is_layer(g) | stands_alone(g)
 }
 
 // hhh, by table 1690; in a TAF a height is not missing.

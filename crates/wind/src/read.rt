@@ -21,7 +21,8 @@ use record::values::Speed;
 use scales::kinds::Reading;
 use shapes::has_pattern;
 use shapes::kinds::Value;
-use shapes::scan::has_shape;
+use shapes::past::past_three;
+use shapes::past::past_two;
 use shapes::scan::scan;
 use text::kinds::Refusal;
 ghost use mathlib.Core.Path.{_≡_};
@@ -43,7 +44,11 @@ pub const WIND_SHAPE: [u8; 35] = *b"###|VRB ###|## G###|G##| KT|MPS|KMH";
 pub fn has_wind(g: &[u8]) -> bool
     ensures { λ r. ⌜ r ≡ hasShape windShape (now (g .entry)) ⌝ }
 {
-    has_shape(g, &WIND_SHAPE)
+    let direction = past_two(g, 0, b"###", b"VRB");
+    let speed = past_two(g, direction, b"###", b"##");
+    let gust = past_three(g, speed, b"G###", b"G##", b"");
+    let unit = past_three(g, gust, b"KT", b"MPS", b"KMH");
+    unit == g.len()
 }
 
 fn unit_of(which: usize) -> Unit
