@@ -2,12 +2,11 @@
 -- Assumes nothing.
 use Prim.Native.Nat.{ℕ, _+_}
 use native.Mathlib.Omega.{arith}
-use mathlib.Core.Path.{_≡_, refl, sym, ap, _∙_}
+use mathlib.Core.Path.{_≡_, refl, _∙_}
 use mathlib.Core.Bool.{Bool, true, false, cond}
-use mathlib.Core.List.{List, [], _∷_}
+use mathlib.Core.List.{List, _∷_}
 use lib.ListN.{length}
 use Rattle.figures.specs.Quote.{bytes}
-use Rattle.text.specs.declared.kinds.Refusal.the-variants as refusal
 use Rattle.text.specs.declared.kinds.Bytes.{Bytes}
 use Rattle.text.specs.declared.kinds.Bytes.the-variants as judgement
 use Rattle.text.specs.declared.kinds.Cut.{Cut}
@@ -15,7 +14,7 @@ use Rattle.text.specs.declared.kinds.Cut.the-variants.{Group as Stands, End}
 use Rattle.text.specs.Groups.{Piece, groupsFrom, nextOf, partOf}
 use Rattle.text.specs.Text.{bytesOf}
 use Rattle.text.proofs.Groups.{Follows, when-group, when-end, part-length}
-use Rattle.shapes.specs.Pattern.{Pattern, low, high, fits, hasPattern, clash}
+use Rattle.shapes.specs.Pattern.{Pattern, low, high, hasPattern, clash}
 use Rattle.shapes.proofs.Patterns.{excluded}
 use Rattle.places.specs.Engine.{Group}
 use Rattle.report_record.specs.declared.kinds.Name.{Name}

@@ -23,11 +23,10 @@ ghost use Rattle.report.specs.Standing.{standsOf, standingOf};
 
 // ---- reading
 
-// What the first group, from `start` up to `end`, names.
-fn name_group(g: &[u8], start: usize, end: usize) -> Name
-    ensures { λ r. ⌜ r ≡ nameBy (now (g .entry)) start end ⌝ }
+// What the first group names; it stands at `place`, and `at` is where it ends.
+fn name_group(g: &[u8], place: usize, at: usize) -> Name
+    ensures { λ r. ⌜ r ≡ nameBy (now (g .entry)) place at ⌝ }
 {
-    let at = end;
     if has_pattern(g, b"AAXX") {
         return Name::Surface { ship: false, at };
     }
@@ -45,7 +44,7 @@ fn name_group(g: &[u8], start: usize, end: usize) -> Name
     }
     Name::Refused {
         refusal: Refusal::Kind,
-        place: start,
+        place,
     }
 }
 

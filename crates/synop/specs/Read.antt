@@ -15,10 +15,7 @@ use Rattle.text.specs.Groups.{Piece}
 use Rattle.shapes.specs.Pattern.{hasPattern}
 use Rattle.places.specs.Engine.{Group, Read, Good, Bad, Outcome, Done, Fault}
 use Rattle.record.specs.declared.values.Number.the-variants as number
-use Rattle.record.specs.declared.values.Speed.{Speed}
 use Rattle.record.specs.declared.surface.CallSign.{CallSign}
-use Rattle.record.specs.declared.surface.Position.{Position}
-use Rattle.record.specs.declared.surface.Wind.{Wind}
 use Rattle.record.specs.declared.surface.Surface.{Surface}
 use Rattle.record.specs.declared.surface.Synop.{Synop}
 use Rattle.record.specs.Set.{setStation, setSign, setPosition, setTime, setNil, setSite, setSurface, setIndicators, setWind}

@@ -2,7 +2,7 @@
 -- Assumes nothing.
 use Prim.Native.Nat.{ℕ, _≤_}
 use native.Mathlib.Omega.{arith}
-use mathlib.Core.Path.{_≡_, refl, sym, ap, _∙_}
+use mathlib.Core.Path.{_≡_, refl, sym, _∙_}
 use mathlib.Core.Bool.{Bool, true, false}
 use mathlib.Core.List.{List, [], _∷_}
 use lib.ListN.{length}
@@ -17,7 +17,7 @@ use Rattle.text.proofs.Groups.{Follows}
 use Rattle.figures.specs.Quote.{bytes}
 use Rattle.shapes.specs.Pattern.{low, high, fits, hasAny, clash, clashEach}
 use Rattle.shapes.proofs.Patterns.{excluded-each}
-use Rattle.places.specs.Engine.{Group, Read, Good, Bad, Step, On, Halt, Stop, step, Fault, Done}
+use Rattle.places.specs.Engine.{Group, Read, Good, Bad, Step, On, Halt, Stop, step, Done}
 use Rattle.places.proofs.Going.{step-first}
 use Rattle.record.specs.declared.aerodrome.Opening.the-variants as opening
 use Rattle.record.specs.declared.aerodrome.Leg.{Leg}
