@@ -6,7 +6,7 @@ use figures::kinds::Field;
 ghost use mathlib.Core.Path.{_≡_};
 ghost use Prim.Native.Nat.{_≤_};
 ghost use lib.ListN.{length};
-ghost use Rattle.shapes.specs.Shape.{upTo, runLength, split, begins, valueOf, pickOf, scanOf, hasShape, misfit};
+ghost use Rattle.shapes.specs.Shape.{upTo, runLength, split, begins, valueOf, pickOf, scanOf, misfit};
 
 // How many bytes of s stand before its first c.
 pub fn up_to(s: &[u8], c: u8) -> usize
@@ -131,11 +131,4 @@ pub fn scan(g: &[u8], shape: &[u8]) -> Scan
         from = to + 1;
     }
     misfit()
-}
-
-pub fn has_shape(g: &[u8], shape: &[u8]) -> bool
-    ensures { λ r. ⌜ r ≡ hasShape (now (shape .entry)) (now (g .entry)) ⌝ }
-{
-    let s = scan(g, shape);
-    s.fits
 }

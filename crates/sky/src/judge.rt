@@ -1,4 +1,4 @@
-// What the writer judges of a sky: the cover, the count and what stands past it, then each layer, first its ranges (refusal 11) and then its
+// What the writer judges of a sky: the count and what stands past it, the cover, then each layer, first its ranges (refusal 11) and then its
 // agreement (refusal 7).
 use crate::read::not_above;
 use crate::write::cloud_number;
