@@ -1,19 +1,14 @@
 -- What the round trip promises of these groups, in document 01's words: each exact field comes back as it was, each rounded number as the reading of
 -- its class, near its value and never above it where the scale rounds down.
 -- Assumes nothing.
-use Prim.Native.Nat.{ℕ, _+_, _≤_}
+use Prim.Native.Nat.{ℕ}
 use mathlib.Core.Path.{_≡_, refl}
-use mathlib.Core.Bool.{true}
 use mathlib.Core.List.{List, [], _∷_, map}
-use lib.IntN.{ℤ, pos, _+ℤ_}
-use lib.Signed.{leZ}
+use lib.IntN.{ℤ}
 use Rattle.scales.specs.Metres.{runway}
-use Rattle.scales.specs.Degrees.{roundedDegrees}
-use Rattle.scales.specs.Rounded.{roundedPressure}
-use Rattle.scales.proofs.Down.{Down, down}
 use Rattle.scales.proofs.MetresLaws.{runway-laws}
-use Rattle.scales.proofs.DegreesLaws.{degrees-near}
-use Rattle.scales.proofs.PressureLaws as scale
+use Rattle.scales.proofs.DegreesLaws.{DegreesNear, degrees-near}
+use Rattle.scales.proofs.PressureLaws.{PressureNear, pressure-near}
 use Rattle.record.specs.declared.values.Number.{Number}
 use Rattle.record.specs.declared.values.Number.the-variants as number
 use Rattle.record.specs.declared.values.Tenths.{Tenths}
@@ -22,39 +17,33 @@ use Rattle.record.specs.declared.aerodrome.Runway.{Runway}
 use Rattle.record.specs.declared.aerodrome.Runways.{Runways}
 use Rattle.record.specs.declared.aerodrome.Temperatures.{Temperatures}
 use Rattle.record.specs.declared.aerodrome.Qnh.{Qnh}
+use Rattle.record.proofs.Near.{NumberDown, number-down}
 use Rattle.aerodrome_groups.specs.Runway.{classRange, classRunway, classRunways}
 use Rattle.aerodrome_groups.specs.Temperatures.{classTenths, classTemperatures, classPressure, classQnh}
 
 -- ---- how far off
 
 -- a runway range and its reading
-pub data RangeKept : Number → Number → Type 0 where
-  no-range : RangeKept number.Missing number.Missing
-  range-metres : {m n : ℕ} → Down runway m n → RangeKept (number.Is m) (number.Is n)
+pub range-kept : (x : Number) → NumberDown runway x (classRange x)
+range-kept = number-down runway-laws
 
-pub range-kept : (x : Number) → RangeKept x (classRange x)
-range-kept number.Missing = no-range
-range-kept (number.Is m) = range-metres (down _ runway runway-laws m)
-
--- a temperature and its reading: "value less reading, in tenths: -5 to 4"
+-- a temperature and its reading
 pub data TenthsKept : Tenths → Tenths → Type 0 where
   no-tenths : TenthsKept tenths.Missing tenths.Missing
-  near-tenths : {t u : ℤ} → leZ u (t +ℤ pos 5) ≡ true → leZ t (u +ℤ pos 4) ≡ true → TenthsKept (tenths.Is t) (tenths.Is u)
+  near-tenths : {t u : ℤ} → DegreesNear t u → TenthsKept (tenths.Is t) (tenths.Is u)
 
 pub tenths-kept : (x : Tenths) → TenthsKept x (classTenths x)
-unfolding roundedDegrees
 tenths-kept tenths.Missing = no-tenths
-tenths-kept (tenths.Is t) = near-tenths (degrees-near t .0) (degrees-near t .1)
+tenths-kept (tenths.Is t) = near-tenths (degrees-near t)
 
--- Q and its reading, in tenths of hPa: the value less its reading is 0 to 9
+-- Q and its reading
 pub data PressureKept : Number → Number → Type 0 where
   no-pressure : PressureKept number.Missing number.Missing
-  near-pressure : {p q : ℕ} → q ≤ p → p ≤ q + 9 → PressureKept (number.Is p) (number.Is q)
+  near-pressure : {p q : ℕ} → PressureNear p q → PressureKept (number.Is p) (number.Is q)
 
 pub pressure-kept : (x : Number) → PressureKept x (classPressure x)
-unfolding roundedPressure
 pressure-kept number.Missing = no-pressure
-pressure-kept (number.Is p) = near-pressure (scale.pressure-near p .0) (scale.pressure-near p .1)
+pressure-kept (number.Is p) = near-pressure (pressure-near p)
 
 -- ---- the parts of a record that are read back
 
@@ -62,7 +51,7 @@ pressure-kept (number.Is p) = near-pressure (scale.pressure-near p .0) (scale.pr
 pub record RunwayKept (w q : Runway) : Type 0 where
   pub number : q .number ≡ w .number
   pub side : q .side ≡ w .side
-  pub range : RangeKept (w .range) (q .range)
+  pub range : NumberDown runway (w .range) (q .range)
   pub course : q .course ≡ w .course
 
 pub data EachKept : List Runway → List Runway → Type 0 where

@@ -10,19 +10,20 @@ use borrow.Author.Needs.{sfits-of}
 use mir.Syntax.{w32}
 use mir.Val.{toZ, ofZ}
 use mir.Facts.{toZ-ofZ}
-use types.Run.{OneOf, miss}
+use types.Run.{OneOf}
 use denote.Enum.Declared.{tagOf}
-use native.Mathlib.Omega.{arith}
+use Rattle.figures.proofs.Impossible.{impossible}
 use Rattle.figures.proofs.kinds.Field.{the-type}
 use Rattle.figures.specs.declared.kinds.Field.{Field}
 use Rattle.figures.specs.declared.kinds.Field.the-variants as field
 use Rattle.shapes.specs.declared.kinds.Value.{Value}
 use Rattle.shapes.specs.declared.kinds.Scan.{Scan}
-use Rattle.shapes.specs.Shape.{answered, scanOf}
+use Rattle.shapes.specs.Shape.{scanOf}
 use Rattle.text.specs.declared.kinds.Refusal.{Refusal}
 use Rattle.places.specs.Engine.{Read, Good, Bad}
 use Rattle.record.specs.declared.values.Number.{Number}
 use Rattle.record.specs.declared.values.Tenths.{Tenths}
+use Rattle.elements.proofs.Answers as answers
 use Rattle.elements.proofs.Scanned.{value-is}
 use Rattle.elements.specs.Parts.{wrong, figured, valueAt}
 use Rattle.aerodrome_groups.specs.declared.read.RangeRead.the-variants as range
@@ -32,29 +33,23 @@ use Rattle.aerodrome_groups.specs.Answers.{asRange, asDegrees}
 -- a field that has to be a number and is none
 pub no-figure : {A R : Type 0} (answer : Read A → R) (k : ℕ → Read A) {e f : Field} → f ≡ e → OneOf (1 ∷ 2 ∷ 3 ∷ []) (tagOf the-type f)
     → answer wrong ≡ answer (figured e k)
-no-figure {A} {R} answer k {f = f} asked h = rw (← asked) (by f h)
-  where
-    by : (f : Field) → OneOf (1 ∷ 2 ∷ 3 ∷ []) (tagOf the-type f) → answer wrong ≡ answer (figured f k)
-    by (field.Number n) h = absurd (miss (1 ∷ 2 ∷ 3 ∷ []) 0 tt h)
-    by field.Missing h = refl
-    by field.Mixed h = refl
-    by field.Other h = refl
+no-figure answer k {f = f} asked h = rw (← asked, answers.no-figure f h k)
 
 -- what the code answered of a part is what the part is read as
 pub range-good : (y : Read Number) {x : Number} → range.Good x ≡ asRange y → y ≡ Good x
 range-good (Good z) {x} e = let j : z ≡ x = cc in ap Good j
-range-good (Bad f) e = let z : _≡_ {A = ℕ} 0 1 = cc in absurd (omega arith)
+range-good (Bad f) e = impossible (cc)
 
 pub range-bad : (y : Read Number) {f : Refusal} → range.Bad f ≡ asRange y → y ≡ Bad f
-range-bad (Good z) e = let z : _≡_ {A = ℕ} 0 1 = cc in absurd (omega arith)
+range-bad (Good z) e = impossible (cc)
 range-bad (Bad g) {f} e = let j : g ≡ f = cc in ap Bad j
 
 pub degrees-good : (y : Read Tenths) {x : Tenths} → degrees.Good x ≡ asDegrees y → y ≡ Good x
 degrees-good (Good z) {x} e = let j : z ≡ x = cc in ap Good j
-degrees-good (Bad f) e = let z : _≡_ {A = ℕ} 0 1 = cc in absurd (omega arith)
+degrees-good (Bad f) e = impossible (cc)
 
 pub degrees-bad : (y : Read Tenths) {f : Refusal} → degrees.Bad f ≡ asDegrees y → y ≡ Bad f
-degrees-bad (Good z) e = let z : _≡_ {A = ℕ} 0 1 = cc in absurd (omega arith)
+degrees-bad (Good z) e = impossible (cc)
 degrees-bad (Bad g) {f} e = let j : g ≡ f = cc in ap Bad j
 
 -- a signed number that the code hands on is that of its bits

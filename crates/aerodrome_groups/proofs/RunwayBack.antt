@@ -5,9 +5,8 @@ use native.Mathlib.Omega.{arith}
 use mathlib.Core.Path.{_≡_, refl, ap}
 use mathlib.Core.Bool.{Bool, true, false, _&&_, false≢true}
 use mathlib.Core.List.{List, [], _∷_}
-use mathlib.Core.Logic.{⊎-elim}
 use lib.Dec.{leb}
-use borrow.Author.Tests.{leb-true, le-leb}
+use borrow.Author.Tests.{leb-true}
 use Rattle.figures.specs.Quote.{bytes}
 use Rattle.shapes.specs.Pattern.{low, high, hasAny}
 use Rattle.shapes.specs.declared.kinds.Value.{Value}
@@ -18,10 +17,10 @@ use Rattle.places.specs.Engine.{Group, Good}
 use Rattle.scales.specs.declared.kinds.Range.{Range}
 use Rattle.scales.specs.declared.kinds.Range.the-variants as range
 use Rattle.scales.specs.declared.kinds.Reading.the-variants as reading
-use Rattle.scales.specs.Scale.{Class, classIn, run, figureOf, footOf}
+use Rattle.scales.specs.Scale.{run, figureOf, footOf}
 use Rattle.scales.specs.Metres.{runway, answered, rangeReading}
-use Rattle.scales.proofs.Laws.{reached}
-use Rattle.scales.proofs.Runs.{under, onto}
+use Rattle.scales.proofs.Laws.{figure-such}
+use Rattle.scales.proofs.Answers.{foot-low}
 use Rattle.scales.proofs.MetresLaws.{runway-laws}
 use Rattle.record.specs.declared.values.Number.{Number}
 use Rattle.record.specs.declared.values.Number.the-variants as number
@@ -46,21 +45,9 @@ numberOf (range.Below n) = n
 numberOf (range.Exact n) = n
 numberOf (range.Above n) = n
 
-abbrev allSmall : List (Class Range) → Bool
-allSmall [] = true
-allSmall (c ∷ cs) = leb (numberOf (c .figure)) 9999 && allSmall cs
-
-small-in : (c : Class Range) (ds : List (Class Range)) (v : ℕ) → allSmall (c ∷ ds) ≡ true → numberOf (classIn c ds v .figure) ≤ 9999
-small-in c [] v e = unfold classIn in leb-true (numberOf (c .figure)) 9999 (both (leb (numberOf (c .figure)) 9999) true e .0)
-small-in c (d ∷ ds) v e =
-    let t = both (leb (numberOf (c .figure)) 9999) (allSmall (d ∷ ds)) e in
-    ⊎-elim
-    (λ w. rw (onto d ds v w c) (small-in d ds v (t .1)))
-    (λ w. rw (under d ds v w c) (leb-true (numberOf (c .figure)) 9999 (t .0)))
-    (reached (d .foot) v)
-
 four-figures : (m : ℕ) → numberOf (figureOf runway m) ≤ 9999
-four-figures m = small-in (runway .lowest) (runway .above) m (unfold runway run in refl)
+four-figures m =
+    leb-true (numberOf (figureOf runway m)) 9999 (figure-such (λ r. leb (numberOf r) 9999) runway m (unfold runway run in refl))
 
 -- ---- what is written can be said by the shape
 
@@ -167,7 +154,7 @@ module _ (w : Runway) (e : runwayFits w ≡ true) where
     where
       by : (x : Number) → metresFit false x ≡ true → metresFit false (classRange x) ≡ true
       by number.Missing e = refl
-      by (number.Is m) e = le-leb (footOf runway m) 99999 (omega (arith, runway-laws .not-above m, leb-true m 99999 e))
+      by (number.Is m) e = foot-low runway-laws m e
 
 pub runway-again : (w : Runway) → showRunway (classRunway w) ≡ showRunway w
 unfolding showRunway

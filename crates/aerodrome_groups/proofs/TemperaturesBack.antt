@@ -1,20 +1,15 @@
 -- The round trip of T/Td and of Q: what the writer judges fine and writes has its shape, is read back as its class, and the class is written alike.
 -- Assumes nothing.
-use Prim.Native.Nat.{ℕ, _*_, _/_, _≤_}
+use Prim.Native.Nat.{ℕ}
 use native.Mathlib.Omega.{arith}
 use mathlib.Core.Path.{_≡_, refl, _∙_}
-use mathlib.Core.Bool.{Bool, true, false, cond, _&&_}
+use mathlib.Core.Bool.{Bool, true, false, cond}
 use mathlib.Core.List.{[], _∷_, append-nil}
-use mathlib.Core.Logic.{⊎-elim}
 use lib.ListN.{replicate}
 use lib.Dec.{leb, leb·zero, eqb}
-use lib.IntN.{ℤ, pos, negsuc, natAbs, _*ℤ_}
-use lib.Signed.{leZ}
-use borrow.Author.Tests.{leb-true, le-leb}
 use Rattle.figures.specs.Quote.{bytes}
 use Rattle.figures.specs.declared.kinds.Field.the-variants as field
 use Rattle.figures.specs.Figures.{fieldAt, fieldText, Fits}
-use Rattle.figures.specs.Signed.{negative}
 use Rattle.figures.proofs.Figures.{field-back}
 use Rattle.text.specs.declared.kinds.Judged.the-variants as judged
 use Rattle.text.proofs.Judging.{fine}
@@ -24,12 +19,9 @@ use Rattle.shapes.specs.Shape.{leading, split, partsOf, spellings, unled, unled
 use Rattle.shapes.proofs.Patterns.{both, pattern-append, field-pattern}
 use Rattle.shapes.proofs.Shapes.{covered}
 use Rattle.places.specs.Engine.{Group, Good}
-use Rattle.scales.specs.declared.kinds.Degrees.the-variants as degrees
-use Rattle.scales.specs.declared.kinds.Tenths.the-variants as tenths
-use Rattle.scales.specs.Degrees.{wholeDegrees, roundedDegrees, degreesOf, degreesReading}
-use Rattle.scales.specs.Rounded.{pressureReading}
-use Rattle.scales.proofs.Laws.{reached}
-use Rattle.scales.proofs.DegreesLaws.{Written, too-great, degrees-rounds}
+use Rattle.scales.specs.Degrees.{roundedDegrees}
+use Rattle.scales.specs.Rounded.{pressureReading, roundedPressure}
+use Rattle.scales.proofs.DegreesLaws.{degrees-rounds, fit-written, written-fits, two-figures}
 use Rattle.scales.proofs.PressureLaws as pressures
 use Rattle.record.specs.declared.values.Number.{Number}
 use Rattle.record.specs.declared.values.Number.the-variants as number
@@ -47,24 +39,6 @@ pub temperatures-covered : (g : Group) → hasShape temperaturesShape g ≡ true
 temperatures-covered g h = covered temperaturesShape g h
 
 -- ---- one temperature
-
--- whole degrees that have a reading have two figures
-two-figures : (minus : Bool) (n : ℕ) {t : ℤ} → degreesReading minus n ≡ tenths.Is t → n ≤ 99
-two-figures minus n e =
-    ⊎-elim (λ h. h) (λ h. let u = too-great minus n h in let z : _≡_ {A = ℕ} 0 1 = cc in absurd (omega arith)) (reached n 99)
-
--- what may be written is written in whole degrees, and what is so written may be
-written : (t : ℤ) → tenthsFit (signed.Is t) ≡ true → (w : Written) × (degreesOf t ≡ degrees.Is (w .0) (w .1))
-unfolding degreesOf
-written t e = ((negative (wholeDegrees t), natAbs (wholeDegrees t)), rw e)
-
-may-be-written : (t : ℤ) (minus : Bool) (n : ℕ) → degreesOf t ≡ degrees.Is minus n → tenthsFit (signed.Is t) ≡ true
-unfolding degreesOf
-may-be-written t minus n e = go (leZ (negsuc 994) t && leZ t (pos 994)) e
-  where
-    go : (b : Bool) → cond b (degrees.Is (negative (wholeDegrees t)) (natAbs (wholeDegrees t))) degrees.OutOfRange ≡ degrees.Is minus n → b ≡ true
-    go true e = refl
-    go false e = let z : _≡_ {A = ℕ} 0 1 = cc in absurd (omega arith)
 
 -- M or nothing, and two figures or slashes, which are read as the class
 record Told (x : Signed) : Type 0 where
@@ -85,11 +59,11 @@ minus-back true = refl
 minus-back false = refl
 
 told : (x : Signed) → tenthsFit x ≡ true → Told x
-unfolding leading roundedDegrees
+unfolding leading
 told signed.Missing e =
     record { mark = chosen 1; whole = numbered 0 field.Missing; same = refl; mark-said = minus-said false; whole-said = (refl, tt); back = refl }
 told (signed.Is t) e =
-    let w = written t e in
+    let w = fit-written t e in
     let r = degrees-rounds .back t (w .0) (w .1) in
     record {
       mark = chosen (cond (w .0 .0) 0 1);
@@ -101,16 +75,14 @@ told (signed.Is t) e =
     }
 
 tenths-again : (x : Signed) → tenthsFit x ≡ true → degreesValues (classTenths x) ≡ degreesValues x
-unfolding roundedDegrees
 tenths-again signed.Missing e = refl
-tenths-again (signed.Is t) e = let w = written t e in rw (w .1, degrees-rounds .again t (w .0) (w .1))
+tenths-again (signed.Is t) e = let w = fit-written t e in rw (w .1, degrees-rounds .again t (w .0) (w .1))
 
 tenths-classed : (x : Signed) → tenthsFit x ≡ true → tenthsFit (classTenths x) ≡ true
-unfolding roundedDegrees
 tenths-classed signed.Missing e = refl
 tenths-classed (signed.Is t) e =
-    let w = written t e in
-    may-be-written (wholeDegrees t *ℤ pos 10) (w .0 .0) (w .0 .1) (degrees-rounds .again t (w .0) (w .1))
+    let w = fit-written t e in
+    written-fits (roundedDegrees t) (w .0 .0) (w .0 .1) (degrees-rounds .again t (w .0) (w .1))
 
 -- ---- T/Td
 
@@ -156,14 +128,22 @@ module _ (t : Temperatures) (e : judgeTemperatures t ≡ judged.Fine) where
 
 -- ---- Q
 
+-- a pressure in range is not above the greatest
+not-over : (p : ℕ) → isPressure p ≡ true → leb p 99999 ≡ true
+not-over p e = both (leb 0 p) (leb p 99999) e .1
+
+-- what is in range has a figure of four figures
 pressure-fits : (n : Number) → optional isPressure n ≡ true → Fits 4 (pressureField n)
 pressure-fits number.Missing e = tt
-pressure-fits (number.Is p) e = omega (arith, leb-true p 99999 (both (leb 0 p) (leb p 99999) e .1))
+pressure-fits (number.Is p) e = let w = pressures.pressure-written p (not-over p e) in rw (w .1) (omega (arith, w .2))
 
 module _ (q : Qnh) (e : judgeQnh q ≡ judged.Fine) where
-  four : Fits 4 (pressureField (q .is))
+  in-range : optional isPressure (q .is) ≡ true
   unfolding judgeQnh
-  four = pressure-fits (q .is) (fine (optional isPressure (q .is)) true e .0)
+  in-range = fine (optional isPressure (q .is)) true e .0
+
+  four : Fits 4 (pressureField (q .is))
+  four = pressure-fits (q .is) in-range
 
   pub qnh-shaped : hasPattern (showQnh q) qnhShape ≡ true
   unfolding showQnh hasPattern fits low high
@@ -176,21 +156,21 @@ module _ (q : Qnh) (e : judgeQnh q ≡ judged.Fine) where
   field-is = rw append-nil at (field-back (bytes "Q") [] 4 (pressureField (q .is)) (omega arith) (omega arith) four)
 
   pub qnh-back : readQnh (showQnh q) ≡ Good (classQnh q)
-  unfolding readQnh judgeQnh
-  qnh-back = rw field-is (by (q .is) (fine (optional isPressure (q .is)) true e .0))
+  unfolding readQnh
+  qnh-back = rw field-is (by (q .is) in-range)
     where
       by : (n : Number) → optional isPressure n ≡ true
           → mayMiss {A = Qnh} (pressureField n) (Good (record { is = number.Missing })) (λ n. used (pressureReading n) (λ p. Good (record { is = number.Is p }))) ≡ Good (record { is = classPressure n })
       by number.Missing h = refl
-      by (number.Is p) h = rw (← pressures.read (p / 10) (omega (arith, leb-true p 99999 (both (leb 0 p) (leb p 99999) h .1))))
+      by (number.Is p) h = let w = pressures.pressure-written p (not-over p h) in rw (w .1, pressures.pressure-rounds .back p (w .0) (w .1))
 
   pub qnh-classed : judgeQnh (classQnh q) ≡ judged.Fine
   unfolding judgeQnh
-  qnh-classed = rw (by (q .is) (fine (optional isPressure (q .is)) true e .0))
+  qnh-classed = rw (by (q .is) in-range)
     where
       by : (n : Number) → optional isPressure n ≡ true → optional isPressure (classPressure n) ≡ true
       by number.Missing h = refl
-      by (number.Is p) h = rw (leb·zero (p / 10 * 10)) (le-leb (p / 10 * 10) 99999 (omega (arith, leb-true p 99999 (both (leb 0 p) (leb p 99999) h .1))))
+      by (number.Is p) h = rw (leb·zero (roundedPressure p)) (pressures.pressure-low p (not-over p h))
 
 pub qnh-again : (q : Qnh) → showQnh (classQnh q) ≡ showQnh q
 unfolding showQnh
@@ -198,4 +178,4 @@ qnh-again q = rw (by (q .is))
   where
     by : (n : Number) → pressureField (classPressure n) ≡ pressureField n
     by number.Missing = refl
-    by (number.Is p) = let k : p / 10 * 10 / 10 ≡ p / 10 = omega arith in rw k
+    by (number.Is p) = rw (pressures.pressure-again p)

@@ -1,7 +1,7 @@
 -- Runway visual ranges, up to four.
 -- Assumes nothing: these are definitions.
 use Prim.Native.Nat.{ℕ, _+_}
-use mathlib.Core.Bool.{Bool, true, false, cond, not, _&&_}
+use mathlib.Core.Bool.{Bool, true, false, cond, _&&_}
 use mathlib.Core.List.{List, [], _∷_, map}
 use lib.ListN.{take, drop, set}
 use lib.Dec.{leb, ltb, eqb}
@@ -16,7 +16,7 @@ use Rattle.shapes.specs.Shape.{printOf}
 use Rattle.places.specs.Engine.{Group, Read, Good}
 use Rattle.scales.specs.declared.kinds.Range.{Range}
 use Rattle.scales.specs.declared.kinds.Range.the-variants as range
-use Rattle.scales.specs.Scale.{figureOf, footOf}
+use Rattle.scales.specs.Scale.{figureOf}
 use Rattle.scales.specs.Metres.{runway, rangeReading}
 use Rattle.record.specs.declared.values.Number.{Number}
 use Rattle.record.specs.declared.values.Number.the-variants as number
@@ -26,6 +26,7 @@ use Rattle.record.specs.declared.aerodrome.Course.{Course}
 use Rattle.record.specs.declared.aerodrome.Course.the-variants as course
 use Rattle.record.specs.declared.aerodrome.Runway.{Runway}
 use Rattle.record.specs.declared.aerodrome.Runways.{Runways}
+use Rattle.record.specs.Classes.{classOn}
 use Rattle.elements.specs.Judge.{metresFit}
 use Rattle.record.specs.Missing.{between, present}
 use Rattle.record.specs.SilentAerodrome.{isBlankRunway}
@@ -122,8 +123,7 @@ judgeRunways w =
 -- ---- what is read back
 
 abbrev pub classRange : Number → Number
-classRange number.Missing = number.Missing
-classRange (number.Is m) = number.Is (footOf runway m)
+classRange = classOn runway
 
 abbrev pub classRunway : Runway → Runway
 classRunway w = record { number = w .number; side = w .side; range = classRange (w .range); course = w .course }

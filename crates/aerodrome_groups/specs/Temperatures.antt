@@ -1,11 +1,9 @@
 -- T/Td, in tenths of a degree in the record and in whole degrees in the text; and Q, in tenths of hPa.
 -- Assumes nothing: these are definitions.
-use Prim.Native.Nat.{ℕ, _*_, _/_}
+use Prim.Native.Nat.{ℕ}
 use mathlib.Core.Bool.{Bool, true, false, cond, not, _&&_}
 use mathlib.Core.List.{List, [], _∷_, _++_}
 use lib.Dec.{eqb}
-use lib.IntN.{ℤ, pos, negsuc, _*ℤ_}
-use lib.Signed.{leZ}
 use Rattle.figures.specs.Quote.{bytes}
 use Rattle.figures.specs.declared.kinds.Field.{Field}
 use Rattle.figures.specs.declared.kinds.Field.the-variants as field
@@ -20,8 +18,9 @@ use Rattle.scales.specs.declared.kinds.Tenths.{Tenths}
 use Rattle.scales.specs.declared.kinds.Tenths.the-variants as tenths
 use Rattle.scales.specs.declared.kinds.Degrees.{Degrees}
 use Rattle.scales.specs.declared.kinds.Degrees.the-variants as degrees
-use Rattle.scales.specs.Degrees.{wholeDegrees, degreesOf, degreesReading}
-use Rattle.scales.specs.Rounded.{pressureReading}
+use Rattle.scales.specs.Degrees.{degreesFit, roundedDegrees, degreesOf, degreesReading}
+use Rattle.scales.specs.Rounded.{pressureFigure, pressureReading, roundedPressure}
+use Rattle.scales.specs.Fields.{fieldBy}
 use Rattle.record.specs.declared.values.Number.{Number}
 use Rattle.record.specs.declared.values.Number.the-variants as number
 use Rattle.record.specs.declared.values.Tenths.{Tenths as Signed}
@@ -51,7 +50,7 @@ unfoldable pub readTemperatures : Group → Read Temperatures
 readTemperatures g =
     temperaturesBy (valueAt temperaturesShape g 0) (valueAt temperaturesShape g 1) (valueAt temperaturesShape g 3) (valueAt temperaturesShape g 4)
 
--- Q: "rounds down", and Q//// is missing
+-- Q, and Q//// is missing
 
 abbrev pub qnhShape : Pattern
 qnhShape = bytes "Q####"
@@ -80,17 +79,16 @@ showTemperatures t = printOf temperaturesShape (degreesValues (t .air) ++ (chose
 
 abbrev pub pressureField : Number → Field
 pressureField number.Missing = field.Missing
-pressureField (number.Is p) = field.Number (p / 10)
+pressureField (number.Is p) = fieldBy (pressureFigure p)
 
 unfoldable pub showQnh : Qnh → Group
 showQnh q = bytes "Q" ++ fieldText 4 (pressureField (q .is))
 
 -- ---- judging
 
--- "a record may hold -99.5 to 99.4"
 abbrev pub tenthsFit : Signed → Bool
 tenthsFit signed.Missing = true
-tenthsFit (signed.Is t) = leZ (negsuc 994) t && leZ t (pos 994)
+tenthsFit (signed.Is t) = degreesFit t
 
 unfoldable pub judgeTemperatures : Temperatures → Judged
 judgeTemperatures t = judge (tenthsFit (t .air) && tenthsFit (t .dew)) true
@@ -106,14 +104,14 @@ judgeQnh q = judge (optional isPressure (q .is)) true
 
 abbrev pub classTenths : Signed → Signed
 classTenths signed.Missing = signed.Missing
-classTenths (signed.Is t) = signed.Is (wholeDegrees t *ℤ pos 10)
+classTenths (signed.Is t) = signed.Is (roundedDegrees t)
 
 abbrev pub classTemperatures : Temperatures → Temperatures
 classTemperatures t = record { air = classTenths (t .air); dew = classTenths (t .dew) }
 
 abbrev pub classPressure : Number → Number
 classPressure number.Missing = number.Missing
-classPressure (number.Is p) = number.Is (p / 10 * 10)
+classPressure (number.Is p) = number.Is (roundedPressure p)
 
 abbrev pub classQnh : Qnh → Qnh
 classQnh q = record { is = classPressure (q .is) }

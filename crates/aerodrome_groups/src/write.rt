@@ -16,9 +16,11 @@ use record::values::Number;
 use record::values::Tenths;
 use scales::degrees::degrees_figure;
 use scales::kinds::Degrees;
+use scales::kinds::Figure;
 use scales::kinds::Range;
 use scales::kinds::RangeFigure;
 use scales::metres::runway_figure;
+use scales::pressure::pressure_figure;
 use shapes::kinds::Value;
 use shapes::print::put_shape;
 use text::write::open_group;
@@ -272,7 +274,13 @@ fn pressure_field(n: Number) -> Field
 {
     match n {
         Number::Missing => Field::Missing,
-        Number::Is(p) => Field::Number(p / 10),
+        Number::Is(p) => {
+            let f = pressure_figure(p);
+            match f {
+                Figure::Is(whole) => Field::Number(whole),
+                Figure::OutOfRange => Field::Other,
+            }
+        }
     }
 }
 

@@ -1,8 +1,14 @@
--- What an answer says of the definition's reading.
+-- What a field that the code looked at, or an answer, says of the definition's reading.
 -- Assumes nothing.
 use Prim.Native.Nat.{ℕ}
-use native.Mathlib.Omega.{arith}
 use mathlib.Core.Path.{_≡_, refl}
+use mathlib.Core.List.{[], _∷_}
+use types.Run.{OneOf, miss}
+use denote.Enum.Declared.{tagOf}
+use Rattle.figures.proofs.kinds.Field.{the-type}
+use Rattle.figures.specs.declared.kinds.Field.{Field}
+use Rattle.figures.specs.declared.kinds.Field.the-variants as field
+use Rattle.figures.proofs.Impossible.{impossible}
 use Rattle.text.specs.declared.kinds.Refusal.{Refusal}
 use Rattle.text.specs.declared.kinds.Judged.the-variants as judged
 use Rattle.places.specs.Engine.{Read, Good, Bad}
@@ -20,7 +26,15 @@ use Rattle.elements.specs.declared.kinds.VisibilityRead.the-variants as 
 use Rattle.elements.specs.declared.kinds.WeatherRead.{WeatherRead}
 use Rattle.elements.specs.declared.kinds.WeatherRead.the-variants as weather
 use Rattle.elements.specs.declared.kinds.SkyRead.{SkyRead}
+use Rattle.elements.specs.Parts.{wrong, figured}
 use Rattle.elements.specs.Answers.{asSky, asWind, asVariation, asVisibility, asWeather}
+
+-- a field that is no number, where one has to be
+pub no-figure : {A : Type 0} (f : Field) → OneOf (1 ∷ 2 ∷ 3 ∷ []) (tagOf the-type f) → (k : ℕ → Read A) → figured f k ≡ wrong
+no-figure (field.Number n) h k = absurd (miss (1 ∷ 2 ∷ 3 ∷ []) 0 tt h)
+no-figure field.Missing h k = refl
+no-figure field.Mixed h k = refl
+no-figure field.Other h k = refl
 
 abbrev pub fromWind : WindRead → Read Wind
 fromWind (wind.Good x) = Good x
@@ -57,8 +71,8 @@ weather-is (Bad f) p = rw p
 -- a sky with one group more, or the group's refusal
 pub sky-good : (s : Sky) {e : SkyRead} (x : Read Sky) → e ≡ asSky s x → e .judged ≡ judged.Fine → x ≡ Good (e .sky)
 sky-good s (Good y) p q = rw p
-sky-good s (Bad f) p q = let z : _≡_ {A = ℕ} 0 1 = cc in absurd (omega arith)
+sky-good s (Bad f) p q = impossible (cc)
 
 pub sky-bad : (s : Sky) {e : SkyRead} {f : Refusal} (x : Read Sky) → e ≡ asSky s x → e .judged ≡ judged.Refused f → x ≡ Bad f
-sky-bad s (Good y) p q = let z : _≡_ {A = ℕ} 0 1 = cc in absurd (omega arith)
+sky-bad s (Good y) p q = impossible (cc)
 sky-bad s {f = f} (Bad g) p q = let z : g ≡ f = cc in rw z

@@ -4,7 +4,7 @@
 use Prim.Native.Nat.{ℕ, _+_}
 use mathlib.Core.Bool.{Bool, true, false, cond, not, _&&_, _||_}
 use mathlib.Core.List.{List, [], _∷_, _++_, map}
-use lib.ListN.{length, take, drop, set, replicate}
+use lib.ListN.{take, drop, set}
 use lib.Dec.{leb, ltb, eqb}
 use Rattle.figures.specs.Quote.{bytes}
 use Rattle.figures.specs.declared.kinds.Field.{Field}
@@ -13,8 +13,8 @@ use Rattle.figures.specs.declared.kinds.Field.the-variants as field
 use Rattle.shapes.specs.declared.kinds.Value.{Value}
 use Rattle.shapes.specs.Pattern.{Pattern, hasPattern, hasAny}
 use Rattle.shapes.specs.Shape.{hasShape, printOf}
-use Rattle.places.specs.Engine.{Group, Read, Good, Bad}
-use Rattle.scales.specs.Scale.{figureOf, footOf}
+use Rattle.places.specs.Engine.{Group, Read, Good}
+use Rattle.scales.specs.Scale.{figureOf}
 use Rattle.scales.specs.Metres.{cloud, metresReading}
 use Rattle.record.specs.declared.values.Number.{Number}
 use Rattle.record.specs.declared.values.Number.the-variants as number
@@ -27,13 +27,13 @@ use Rattle.record.specs.declared.aerodrome.Cover.{Cover}
 use Rattle.record.specs.declared.aerodrome.Cover.the-variants as cover
 use Rattle.record.specs.declared.aerodrome.Sky.{Sky}
 use Rattle.record.specs.SilentAerodrome.{noAmount, isBlankLayer, isLayers}
+use Rattle.record.specs.Classes.{classOn}
 use Rattle.text.specs.declared.kinds.Judged.{Judged}
 use Rattle.text.specs.declared.kinds.Judged.the-variants as judged
-use Rattle.text.specs.declared.kinds.Refusal.the-variants as refusal
 use Rattle.text.specs.Judge.{judge, andThen}
 use Rattle.elements.specs.Judge.{metresFit}
 use Rattle.elements.specs.Wind.{chosen, numbered}
-use Rattle.elements.specs.Parts.{wrong, disagrees, mayMiss, used, provided, agreeing, then, valueAt}
+use Rattle.elements.specs.Parts.{mayMiss, used, provided, agreeing, then, valueAt}
 
 -- ---- shapes
 
@@ -147,8 +147,7 @@ hasAmount a = not (noAmount a)
 
 -- heights as they would be written
 abbrev pub writtenHeight : Number → Number
-writtenHeight number.Missing = number.Missing
-writtenHeight (number.Is m) = number.Is (footOf cloud m)
+writtenHeight = classOn cloud
 
 abbrev pub classLayer : Layer → Layer
 classLayer l = record { amount = l .amount; height = writtenHeight (l .height); convective = l .convective }

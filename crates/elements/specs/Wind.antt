@@ -2,8 +2,8 @@
 -- mean or with calm, 000 or a zero speed without the other, or equal directions in dddVddd: 7." The missing form is ///// and unit; "in a TAF these
 -- are 5".
 -- Assumes nothing: these are definitions.
-use Prim.Native.Nat.{ℕ, _+_, _*_, _/_, _%_}
-use mathlib.Core.Bool.{Bool, true, false, cond, not, _&&_, _||_}
+use Prim.Native.Nat.{ℕ}
+use mathlib.Core.Bool.{Bool, true, false, cond, not, _&&_}
 use mathlib.Core.List.{List, [], _∷_, _++_}
 use lib.Dec.{leb, ltb, eqb}
 use Rattle.figures.specs.Quote.{bytes}
@@ -12,12 +12,8 @@ use Rattle.figures.specs.declared.kinds.Field.the-variants as field
 use Rattle.figures.specs.Figures.{fieldAt, figures}
 use Rattle.shapes.specs.declared.kinds.Value.{Value}
 use Rattle.shapes.specs.Shape.{printOf}
-use Rattle.scales.specs.declared.kinds.Figure.{Figure}
-use Rattle.scales.specs.declared.kinds.Figure.the-variants as figure
-use Rattle.scales.specs.declared.kinds.Reading.{Reading}
-use Rattle.scales.specs.declared.kinds.Reading.the-variants as reading
-use Rattle.scales.specs.Rounded.{directionFigure, directionReading}
-use Rattle.places.specs.Engine.{Group, Read, Good, Bad}
+use Rattle.scales.specs.Rounded.{roundedDirection, dddFigure, dddReading}
+use Rattle.places.specs.Engine.{Group, Read, Good}
 use Rattle.record.specs.declared.values.Direction.{Direction}
 use Rattle.record.specs.declared.values.Direction.the-variants as direction
 use Rattle.record.specs.declared.values.Speed.{Speed}
@@ -30,9 +26,10 @@ use Rattle.record.specs.declared.aerodrome.Extremes.the-variants as extremes
 use Rattle.record.specs.declared.aerodrome.Variation.{Variation}
 use Rattle.record.specs.Missing.{noSpeed}
 use Rattle.record.specs.SilentAerodrome.{noUnit}
+use Rattle.record.specs.Classes.{classDirection}
 use Rattle.text.specs.declared.kinds.Judged.{Judged}
 use Rattle.text.specs.Judge.{judge}
-use Rattle.elements.specs.Parts.{wrong, disagrees, figured, mayMiss, provided, agreeing, then, valueAt, isMissing}
+use Rattle.elements.specs.Parts.{figured, used, provided, agreeing, then, valueAt, isMissing}
 
 -- direction, speed, gust, unit
 abbrev pub windShape : List ℕ
@@ -49,14 +46,11 @@ speedOf v = figured (v .field) (λ n. provided (cond (eqb (v .which) 0) (leb 100
 abbrev pub gustOf : Value → Read Speed
 gustOf v = cond (eqb (v .which) 2) (Good speed.Missing) (then (speedOf v) (λ n. Good (speed.Is n)))
 
--- "010-360 by tens", 360 being north; 000 is calm
-abbrev pub isTens : ℕ → Bool
-isTens d = eqb (d % 10) 0 && leb 10 d && leb d 360
-
+-- 000 is calm, and alternative 1 is VRB
 abbrev pub directionOf : Value → Read Direction
 directionOf v =
     cond (eqb (v .which) 1) (Good direction.Variable)
-    (figured (v .field) (λ d. cond (eqb d 0) (Good direction.Calm) (provided (isTens d) (Good (direction.Degrees (d % 360))))))
+    (figured (v .field) (λ d. cond (eqb d 0) (Good direction.Calm) (used (dddReading d) (λ x. Good (direction.Degrees x)))))
 
 abbrev pub isCalm : Direction → Bool
 isCalm direction.Missing = false
@@ -104,7 +98,7 @@ unfoldable pub readVariation : Group → Read Variation
 readVariation g =
     figured (fieldAt g 0 3)
     (λ a. figured (fieldAt g 4 3)
-    (λ b. provided (isTens a && isTens b) (agreeing (not (eqb a b)) (Good (record { is = extremes.Between (a % 360) (b % 360) })))))
+    (λ b. used (dddReading a) (λ x. used (dddReading b) (λ y. agreeing (not (eqb a b)) (Good (record { is = extremes.Between x y }))))))
 
 -- ---- writing
 
@@ -115,19 +109,11 @@ chosen k = record { which = k; field = field.Other }
 abbrev pub numbered : ℕ → Field → Value
 numbered k f = record { which = k; field = f }
 
--- a direction's figure with a zero after it
-abbrev pub tensBy : Figure → ℕ
-tensBy (figure.Is f) = f * 10
-tensBy figure.OutOfRange = 0
-
-abbrev pub degreesText : ℕ → ℕ
-degreesText d = tensBy (directionFigure d)
-
 abbrev pub directionValue : Direction → Value
 directionValue direction.Missing = numbered 0 field.Missing
 directionValue direction.Calm = numbered 0 (field.Number 0)
 directionValue direction.Variable = chosen 1
-directionValue (direction.Degrees d) = numbered 0 (field.Number (degreesText d))
+directionValue (direction.Degrees d) = numbered 0 (field.Number (dddFigure d))
 
 abbrev pub speedValue : Speed → Value
 speedValue speed.Missing = numbered 1 field.Missing
@@ -148,7 +134,7 @@ showWind w = printOf windShape (directionValue (w .direction) ∷ speedValue (w 
 
 abbrev pub extremesGroup : Extremes → List Group
 extremesGroup extremes.Missing = []
-extremesGroup (extremes.Between a b) = (figures 3 (degreesText a) ++ bytes "V" ++ figures 3 (degreesText b)) ∷ []
+extremesGroup (extremes.Between a b) = (figures 3 (dddFigure a) ++ bytes "V" ++ figures 3 (dddFigure b)) ∷ []
 
 unfoldable pub showVariation : Variation → List Group
 showVariation v = extremesGroup (v .is)
@@ -187,28 +173,19 @@ extremesFit (extremes.Between a b) = leb a 359 && leb b 359
 -- on the figures that would be written
 abbrev pub extremesAgree : Extremes → Bool
 extremesAgree extremes.Missing = true
-extremesAgree (extremes.Between a b) = not (eqb (degreesText a) (degreesText b))
+extremesAgree (extremes.Between a b) = not (eqb (dddFigure a) (dddFigure b))
 
 unfoldable pub judgeVariation : Variation → Judged
 judgeVariation v = judge (extremesFit (v .is)) (extremesAgree (v .is))
 
 -- ---- what is read back
 
-abbrev pub readDegrees : ℕ → ℕ
-readDegrees d = degreesText d % 360
-
-abbrev pub classDirection : Direction → Direction
-classDirection direction.Missing = direction.Missing
-classDirection direction.Calm = direction.Calm
-classDirection direction.Variable = direction.Variable
-classDirection (direction.Degrees d) = direction.Degrees (readDegrees d)
-
 abbrev pub classWind : Wind → Wind
 classWind w = record { direction = classDirection (w .direction); speed = w .speed; gust = w .gust; unit = w .unit }
 
 abbrev pub classExtremes : Extremes → Extremes
 classExtremes extremes.Missing = extremes.Missing
-classExtremes (extremes.Between a b) = extremes.Between (readDegrees a) (readDegrees b)
+classExtremes (extremes.Between a b) = extremes.Between (roundedDirection a) (roundedDirection b)
 
 abbrev pub classVariation : Variation → Variation
 classVariation v = record { is = classExtremes (v .is) }

@@ -9,6 +9,7 @@ use native.Mathlib.Omega.{arith}
 use lib.ListN.{length, take, drop, replicate, length-append, length-drop, length-replicate}
 use lib.Seq.{take-at, drop-at, length-take-le}
 use borrow.Author.Tests.{le-leb}
+use Rattle.figures.proofs.Impossible.{impossible}
 use Rattle.figures.specs.declared.kinds.Field.{Field}
 use Rattle.figures.specs.declared.kinds.Field.the-variants.{Number, Missing, Mixed, Other}
 use Rattle.figures.specs.Figures.{isFigure, isSlash, figures, scan, fieldAt, numberText, slashes, fieldText, Fits, every}
@@ -120,10 +121,6 @@ field-back pre post w Mixed one five h = absurd h
 field-back pre post w Other one five h = absurd h
 
 -- the same in a group
-pub back-inner : (pre x y post : List ℕ) (w : ℕ) (f : Field) → 1 ≤ w → w ≤ 5 → Fits w f
-    → fieldAt (pre ++ (x ++ fieldText w f ++ y) ++ post) (length pre + length x) w ≡ f
-back-inner pre x y post w f one five h = inside (fieldText w f) w (λ p q. field-back p q w f one five h) pre x y post
-
 pub field-inner : (pre x y post : List ℕ) (w n : ℕ) → 1 ≤ w → w ≤ 5 → n < 10 ^ w
     → fieldAt (pre ++ (x ++ figures w n ++ y) ++ post) (length pre + length x) w ≡ Number n
 field-inner pre x y post w n one five h = inside (figures w n) w (λ p q. field-figures p q w n one five h) pre x y post
@@ -131,10 +128,7 @@ field-inner pre x y post w n one five h = inside (figures w n) w (λ p q. field-
 -- ---- what is read is what is written
 
 other-number : {n : ℕ} → Other ≡ Number n → ⊥
-other-number e = let z : _≡_ {A = ℕ} 0 1 = cc in omega arith
-
-other-missing : Other ≡ Missing → ⊥
-other-missing e = let z : _≡_ {A = ℕ} 0 1 = cc in omega arith
+other-number e = impossible (cc)
 
 one-more : (k m b : ℕ) → 48 ≤ b → b ≤ 57 → figures (suc k) (m * 10 + (b - 48)) ≡ figures k m ++ (b ∷ [])
 unfolding figures
@@ -160,15 +154,6 @@ scan-number (b ∷ x) k m n fig h e =
       | neither d ↦ absurd (other-number d)
     ]
 
-scan-missing : (x : List ℕ) (m : ℕ) (slash : Bool) → scan m false slash x ≡ Missing → x ≡ replicate (length x) 47
-scan-missing [] m slash e = refl
-scan-missing (b ∷ x) m slash e =
-    elim (byte m b false slash x Missing e) [
-      | figure lo hi d ↦ absurd (false≢true (sym (had x _ true slash Missing d)))
-      | line d r ↦ rw (d, ← scan-missing x m true r)
-      | neither d ↦ absurd (other-missing d)
-    ]
-
 -- a field that was read: its bytes are there, and say what it holds
 module _ (s : List ℕ) (at w : ℕ) where
   field-scan : {f : Field} → fieldAt s at w ≡ f → (f ≡ Other → ⊥)
@@ -188,10 +173,3 @@ module _ (s : List ℕ) (at w : ℕ) where
 
   pub field-text : {n : ℕ} → fieldAt s at w ≡ Number n → take w (drop at s) ≡ figures w n
   field-text e = sym (number e .1)
-
-  pub field-missing : fieldAt s at w ≡ Missing → take w (drop at s) ≡ slashes w
-  field-missing e =
-      let read = field-scan e (λ o. other-missing (sym o)) in
-      scan-missing (take w (drop at s)) 0 false (read .2)
-      ∙ ap (λ (k : ℕ). replicate k 47) (read .1)
-      ∙ sym (slashes-text w (read .0))

@@ -3,3 +3,4 @@ pub mod Fields
 pub mod Figures
 pub mod Signs
 pub mod Every
+pub mod Impossible

@@ -40,11 +40,6 @@ magnitude-back false m = refl
 magnitude-back true zero = refl
 magnitude-back true (suc m) = refl
 
--- zero has no sign
-pub zero-sign : (s : Bool) → negative (withSign s 0) ≡ false
-zero-sign false = refl
-zero-sign true = refl
-
 pub sign-back : (s : Bool) (m : ℕ) → 1 ≤ m → negative (withSign s m) ≡ s
 sign-back false m h = refl
 sign-back true zero h = absurd (omega arith)

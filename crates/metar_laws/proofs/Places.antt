@@ -16,11 +16,12 @@ use Rattle.places.specs.Engine.{Group, placeAt}
 use Rattle.places.proofs.ReadBack.{one-pattern, two-patterns}
 use Rattle.places.proofs.Sizes.{measured, sized-any}
 use Rattle.places.proofs.Kept.{Kept, keep-one, keep-none}
+use Rattle.scales.specs.Rounded.{dddFigure}
 use Rattle.record.specs.declared.aerodrome.Extremes.{Extremes}
 use Rattle.record.specs.declared.aerodrome.Extremes.the-variants as extremes
 use Rattle.record.specs.declared.aerodrome.Metar.{Metar}
 use Rattle.record.specs.Metar.{setCorrected, setNil, setAutomatic}
-use Rattle.elements.specs.Wind.{windShape, degreesText, variationShape, showWind, showVariation, judgeWind, judgeVariation}
+use Rattle.elements.specs.Wind.{windShape, variationShape, showWind, showVariation, judgeWind, judgeVariation}
 use Rattle.elements.specs.Visibility.{visibilityShapes, showVisibility, judgeVisibility}
 use Rattle.aerodrome_groups.specs.Head.{stationShape, stationOf, timeShape, showTime, judgeStation, judgeTime}
 use Rattle.aerodrome_groups.specs.Temperatures.{temperaturesShape, qnhShape, showTemperatures, showQnh, judgeTemperatures, judgeQnh}
@@ -127,7 +128,7 @@ module _ (r acc : Metar) (full : r .nil ≡ false) where
       go : (x : Extremes) → r .variation .is ≡ x → Kept (placeAt row 7) 7 r acc
       go extremes.Missing is = keep-none (rw is) refl (rw (is, ← b))
       go (extremes.Between a c) is =
-          let g = figures 3 (degreesText a) ++ bytes "V" ++ figures 3 (degreesText c) in
+          let g = figures 3 (dddFigure a) ++ bytes "V" ++ figures 3 (dddFigure c) in
           let s = variation-shaped (r .variation) e g (rw is) in
           keep-one g (rw is) (s .0) (s .1) (sized-any 7 (variationShape ∷ []) g refl (s .1)) (omega arith) (rw (variation-back (r .variation) e g (rw is)))
 

@@ -11,7 +11,8 @@ use Rattle.places.specs.Engine.{Done}
 use Rattle.text.proofs.Judging.{fine}
 use Rattle.record.specs.declared.aerodrome.Metar.{Metar}
 use Rattle.elements.specs.Visibility.{viewFits, judgeVisibility}
-use Rattle.wind.proofs.Promises.{DirectionNear, no-direction, wind-near, ExtremesNear, no-extremes, variation-near, ViewRead, visibility-read}
+use Rattle.record.proofs.Near.{DirectionNear, no-direction}
+use Rattle.wind.proofs.Promises.{wind-near, ExtremesNear, no-extremes, variation-near, ViewRead, visibility-read}
 use Rattle.sky.proofs.Promises.{SkyBack, sky-read}
 use Rattle.aerodrome_groups.proofs.Promises.{RunwaysKept, runways-kept, TemperaturesKept, temperatures-kept, QnhKept, qnh-kept}
 use Rattle.metar_row.specs.Row.{row}

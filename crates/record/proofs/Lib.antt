@@ -1,3 +1,4 @@
 pub mod Blanks
 pub mod SurfaceBlanks
 pub mod AerodromeBlanks
+pub mod Near

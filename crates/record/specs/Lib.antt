@@ -6,3 +6,4 @@ pub mod Missing
 pub mod SilentSurface
 pub mod SilentAerodrome
 pub mod Arrays
+pub mod Classes

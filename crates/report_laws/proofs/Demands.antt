@@ -8,10 +8,10 @@ use mathlib.Core.Bool.{Bool, true, false, cond}
 use mathlib.Core.List.{List, [], map, _∷_, _++_}
 use mathlib.Core.Logic.{⊎-elim}
 use lib.ListN.{length, take, drop}
-use lib.IntN.{ℤ, pos, _+ℤ_}
-use lib.Signed.{leZ}
+use lib.IntN.{ℤ}
 use lib.Dec.{leb}
 use borrow.Author.Tests.{leb-true, leb-false, le-leb, lt-leb}
+use Rattle.figures.proofs.Impossible.{impossible}
 use Rattle.figures.specs.Put.{splice}
 use Rattle.figures.proofs.Puts.{splice-eq}
 use Rattle.scales.specs.declared.kinds.Rain.the-variants as rain
@@ -20,8 +20,8 @@ use Rattle.scales.specs.Scale.{run, classIn}
 use Rattle.scales.specs.Metres as scale
 use Rattle.scales.specs.Degrees.{roundedDegrees}
 use Rattle.scales.proofs.Laws.{reached}
-use Rattle.scales.proofs.DegreesLaws.{degrees-near}
-use Rattle.scales.proofs.PressureLaws.{pressure-near}
+use Rattle.scales.proofs.DegreesLaws.{DegreesNear, degrees-near}
+use Rattle.scales.proofs.PressureLaws.{PressureNear, pressure-near}
 use Rattle.scales.proofs.DirectionLaws.{direction-near}
 use Rattle.scales.proofs.RainLaws.{rain-order, trace-exact, rain-near, rain-most}
 use Rattle.text.specs.declared.kinds.Refusal.{Refusal}
@@ -32,7 +32,7 @@ use Rattle.text.specs.declared.kinds.Verdict.the-variants as verdict
 use Rattle.text.specs.declared.kinds.Written.{Written}
 use Rattle.text.specs.declared.kinds.Written.the-variants as answer
 use Rattle.text.specs.Write.{answerBy, bufferBy}
-use Rattle.walker.proofs.Walks.{part-nothing}
+use Rattle.text.proofs.Groups.{part-nothing}
 use Rattle.places.specs.Engine.{Outcome, Done, Fault}
 use Rattle.record.specs.declared.values.Number.the-variants as number
 use Rattle.record.specs.declared.values.Tenths.the-variants as tenths
@@ -76,7 +76,7 @@ unfolding restOf restPlace
 refused-blank t f at e = (go (readOf t) (every-text t) e, rw (e, part-nothing t (length t)))
   where
     go : (a : Reading) → Answered a → a .verdict ≡ verdict.Refused f at → a .report ≡ blankReport
-    go _ (yes rest r) e = let z : _≡_ {A = ℕ} 0 1 = cc in absurd (omega arith)
+    go _ (yes rest r) e = impossible (cc)
     go _ (no g p) e = refl
 
 -- A record that is judged fine is written where it has room, "The count of bytes written is the canonical text's length", and the bytes past the text are as they were; or it is refused, and
@@ -146,7 +146,7 @@ only-causes r b f e = go (judgeOf r) refl (causes r) e
   where
     short : (c : Bool) → leb (length (canonicalOf r)) (length b) ≡ c → judgeOf r ≡ judged.Fine
         → cond c (answer.Count (length (canonicalOf r))) (answer.Refused refusal.Room) ≡ answer.Refused f → Cause r b f
-    short true t j e = let z : _≡_ {A = ℕ} 0 1 = cc in absurd (omega arith)
+    short true t j e = impossible (cc)
     short false t j e =
         let g : refusal.Room ≡ f = cc in
         rw (← g) (room j (leb-false (length (canonicalOf r)) (length b) t))
@@ -235,10 +235,10 @@ pub how-far : (t : Table) (v : ℕ) → DownOn t v (footOn t v)
 how-far = down-on
 
 -- Aerodrome temperature and rain: "Value less reading, in tenths: -5 to 4"; Q: 0 to 9; "989 (from 988.5 mm) is open and is read 989.0"
-pub temperature-far : (t : ℤ) → (leZ (roundedDegrees t) (t +ℤ pos 5) ≡ true) × (leZ t (roundedDegrees t +ℤ pos 4) ≡ true)
+pub temperature-far : (t : ℤ) → DegreesNear t (roundedDegrees t)
 temperature-far = degrees-near
 
-pub pressure-far : (p : ℕ) → (roundedPressure p ≤ p) × (p ≤ roundedPressure p + 9)
+pub pressure-far : (p : ℕ) → PressureNear p (roundedPressure p)
 pressure-far = pressure-near
 
 pub rain-far : (t : ℕ) → t < 9885 → (rainRank (roundedRain (rain.Tenths t)) ≤ t + 5) × (t ≤ rainRank (roundedRain (rain.Tenths t)) + 4)

@@ -3,17 +3,18 @@
 -- Assumes nothing.
 use Prim.Native.Nat.{ℕ, _≤_}
 use mathlib.Core.Path.{_≡_, refl, sym, ap, _∙_}
-use mathlib.Core.Bool.{true}
+use mathlib.Core.Bool.{Bool, true}
 use mathlib.Core.List.{List, [], _∷_, _++_, map}
 use lib.ListN.{getD, List·getD-map}
 use lib.Dec.{eqb}
 use lib.IntN.{ℤ}
 use lib.Signed.{leZ}
 use Rattle.scales.specs.declared.kinds.Rain.{Rain}
-use Rattle.scales.specs.Scale.{footOf}
+use Rattle.scales.specs.declared.kinds.Range.{Range}
+use Rattle.scales.specs.Scale.{Scale, footOf}
 use Rattle.scales.specs.Metres as scale
-use Rattle.scales.specs.Degrees.{roundedDegrees}
-use Rattle.scales.specs.Rounded.{roundedPressure, roundedRain, rainRank}
+use Rattle.scales.specs.Rounded.{roundedRain, rainRank}
+use Rattle.scales.proofs.Laws.{Lawful}
 use Rattle.scales.proofs.Down.{Down, down}
 use Rattle.scales.proofs.MetresLaws.{land-laws, sea-laws, base-laws, visibility-laws, runway-laws, cloud-laws}
 use Rattle.scales.proofs.DegreesLaws.{degrees-order}
@@ -37,13 +38,11 @@ use Rattle.record.specs.declared.aerodrome.Sky.{Sky}
 use Rattle.record.specs.declared.aerodrome.Change.{Change}
 use Rattle.record.specs.declared.aerodrome.Metar.{Metar}
 use Rattle.record.specs.declared.aerodrome.Taf.{Taf}
-use Rattle.synop_groups.specs.Judge.{amountFits, fallFits}
+use Rattle.record.specs.Classes as classes
 use Rattle.synop_groups.specs.Classes.{classBase, classSight, classFall}
-use Rattle.synop_groups.proofs.RoundTripScales.{rain-classed}
-use Rattle.shapes.proofs.Patterns.{both}
 use Rattle.elements.specs.Visibility.{classView}
-use Rattle.elements.specs.Sky.{writtenHeight, classLayer, classCover, classSky}
-use Rattle.aerodrome_groups.specs.Runway.{classRange, classRunway}
+use Rattle.elements.specs.Sky.{classLayer, classCover, classSky}
+use Rattle.aerodrome_groups.specs.Runway.{classRunway}
 use Rattle.aerodrome_groups.specs.Temperatures.{classTenths, classPressure}
 use Rattle.taf_row.specs.Row.{row}
 use Rattle.taf.specs.Write.{classChange}
@@ -62,18 +61,45 @@ pub data Table : Type 0 where
   runway : Table
   cloud : Table
 
+-- the figures of each, when two are one, the scale and its laws
+abbrev pub Figures : Table → Type 0
+Figures land = ℕ
+Figures sea = ℕ
+Figures base = ℕ
+Figures visibility = ℕ
+Figures runway = Range
+Figures cloud = ℕ
+
+abbrev pub scaleOf : (t : Table) → Scale (Figures t)
+scaleOf land = scale.land
+scaleOf sea = scale.sea
+scaleOf base = scale.base
+scaleOf visibility = scale.visibility
+scaleOf runway = scale.runway
+scaleOf cloud = scale.cloud
+
+abbrev sameOf : (t : Table) → Figures t → Figures t → Bool
+sameOf land = eqb
+sameOf sea = eqb
+sameOf base = eqb
+sameOf visibility = eqb
+sameOf runway = scale.sameRange
+sameOf cloud = eqb
+
+lawsOf : (t : Table) → Lawful (sameOf t) (scaleOf t)
+lawsOf land = land-laws
+lawsOf sea = sea-laws
+lawsOf base = base-laws
+lawsOf visibility = visibility-laws
+lawsOf runway = runway-laws
+lawsOf cloud = cloud-laws
+
 -- what a value is read back as: the foot of its class
 abbrev pub footOn : Table → ℕ → ℕ
-footOn land m = footOf scale.land m
-footOn sea m = footOf scale.sea m
-footOn base m = footOf scale.base m
-footOn visibility m = footOf scale.visibility m
-footOn runway m = footOf scale.runway m
-footOn cloud m = footOf scale.cloud m
+footOn t m = footOf (scaleOf t) m
 
 abbrev pub classOn : Table → Number → Number
-classOn t number.Missing = number.Missing
-classOn t (number.Is m) = number.Is (footOn t m)
+classOn t = classes.classOn (scaleOf t)
 
 -- ---- a record's numbers on each
 
@@ -193,33 +219,21 @@ sight-sea sight.Missing = refl
 sight-sea (sight.Land m) = refl
 sight-sea (sight.Sea m) = refl
 
-base-is : (n : Number) → classBase n ≡ classOn base n
-base-is number.Missing = refl
-base-is (number.Is m) = refl
-
 view-is : (v : View) → viewMetres (classView v) ≡ classOn visibility (viewMetres v)
 view-is view.Missing = refl
 view-is view.Cavok = refl
 view-is (view.Metres m) = refl
-
-range-is : (n : Number) → classRange n ≡ classOn runway n
-range-is number.Missing = refl
-range-is (number.Is m) = refl
-
-height-is : (n : Number) → writtenHeight n ≡ classOn cloud n
-height-is number.Missing = refl
-height-is (number.Is m) = refl
 
 vertical-is : (c : Cover) → verticalOf (classCover c) ≡ classOn cloud (verticalOf c)
 vertical-is cover.Layers = refl
 vertical-is cover.Clear = refl
 vertical-is cover.NoneSignificant = refl
 vertical-is cover.NoneDetected = refl
-vertical-is (cover.Vertical h) = height-is h
+vertical-is (cover.Vertical h) = refl
 
 sky-is : (s : Sky) → skyHeights (classSky s) ≡ map (classOn cloud) (skyHeights s)
 sky-is s =
-    rw (vertical-is (s .cover), map-square (λ (l : Layer). l .height) classLayer (classOn cloud) (λ l. height-is (l .height)) (s .layers))
+    rw (vertical-is (s .cover), map-square (λ (l : Layer). l .height) classLayer (classOn cloud) (λ l. refl) (s .layers))
 
 change-view : (c : Change) → viewMetres (classChange c .visibility .is) ≡ classOn visibility (viewMetres (c .visibility .is))
 unfolding classChange row
@@ -240,7 +254,7 @@ pub surface-numbers : (t : Table) (s q : Surface) → q .indicators .sight ≡ c
     → surfaceNumbers t q ≡ map (classOn t) (surfaceNumbers t s)
 surface-numbers land s q e f = rw (e, sight-land (s .indicators .sight))
 surface-numbers sea s q e f = rw (e, sight-sea (s .indicators .sight))
-surface-numbers base s q e f = rw (f, base-is (s .indicators .base))
+surface-numbers base s q e f = rw f
 surface-numbers visibility s q e f = refl
 surface-numbers runway s q e f = refl
 surface-numbers cloud s q e f = refl
@@ -252,7 +266,7 @@ observed-numbers sea r q e f g = refl
 observed-numbers base r q e f g = refl
 observed-numbers visibility r q e f g = rw (e, view-is (r .visibility .is))
 observed-numbers runway r q e f g =
-    rw (f, map-square (λ (w : Runway). w .range) classRunway (classOn runway) (λ w. range-is (w .range)) (r .runways .items))
+    rw (f, map-square (λ (w : Runway). w .range) classRunway (classOn runway) (λ w. refl) (r .runways .items))
 observed-numbers cloud r q e f g = rw (g, sky-is (r .sky))
 
 pub forecast-numbers : (t : Table) (r q : Taf) → q .leg .visibility .is ≡ classView (r .leg .visibility .is) → q .leg .sky ≡ classSky (r .leg .sky)
@@ -270,37 +284,22 @@ forecast-numbers cloud r q e f g =
     ∙ ap (λ (l : List Number). map (classOn cloud) (skyHeights (r .leg .sky)) ++ l) (changes-is (r .changes .items))
     ∙ sym (map-append (classOn cloud) (skyHeights (r .leg .sky)) (changesHeights (r .changes .items)))
 
-pub amount-is : (f : Fall) → fallFits f ≡ true → amountOf (classFall f) ≡ map roundedRain (amountOf f)
-amount-is fall.Missing e = refl
-amount-is (fall.Is a t) e = rw (rain-classed a (both (amountFits a) _ e .0))
+pub amount-is : (f : Fall) → amountOf (classFall f) ≡ map roundedRain (amountOf f)
+amount-is fall.Missing = refl
+amount-is (fall.Is a t) = refl
 
 -- ---- how far off, on each scale
 
 abbrev pub DownOn : Table → ℕ → ℕ → Type 0
-DownOn land v r = Down scale.land v r
-DownOn sea v r = Down scale.sea v r
-DownOn base v r = Down scale.base v r
-DownOn visibility v r = Down scale.visibility v r
-DownOn runway v r = Down scale.runway v r
-DownOn cloud v r = Down scale.cloud v r
+DownOn t v r = Down (scaleOf t) v r
 
 pub down-on : (t : Table) (v : ℕ) → DownOn t v (footOn t v)
-down-on land v = down eqb scale.land land-laws v
-down-on sea v = down eqb scale.sea sea-laws v
-down-on base v = down eqb scale.base base-laws v
-down-on visibility v = down eqb scale.visibility visibility-laws v
-down-on runway v = down _ scale.runway runway-laws v
-down-on cloud v = down eqb scale.cloud cloud-laws v
+down-on t v = down (sameOf t) (scaleOf t) (lawsOf t) v
 
 -- ---- the order
 
 pub order-on : (t : Table) (v w : ℕ) → v ≤ w → footOn t v ≤ footOn t w
-order-on land v w h = land-laws .order v w h
-order-on sea v w h = sea-laws .order v w h
-order-on base v w h = base-laws .order v w h
-order-on visibility v w h = visibility-laws .order v w h
-order-on runway v w h = runway-laws .order v w h
-order-on cloud v w h = cloud-laws .order v w h
+order-on t v w h = lawsOf t .order v w h
 
 -- the one is not above the other; both are there
 pub data NumberOrder : Number → Number → Type 0 where
@@ -317,11 +316,9 @@ pub class-order : (t : Table) (a b : Number) → NumberOrder a b → NumberOrder
 class-order t _ _ (numbers {m} {n} h) = numbers (order-on t m n h)
 
 pub temperature-order : (a b : Tenths) → TenthsOrder a b → TenthsOrder (classTenths a) (classTenths b)
-unfolding roundedDegrees
 temperature-order _ _ (in-tenths {t} {u} h) = in-tenths (degrees-order t u h)
 
 pub qnh-order : (a b : Number) → NumberOrder a b → NumberOrder (classPressure a) (classPressure b)
-unfolding roundedPressure
 qnh-order _ _ (numbers {m} {n} h) = numbers (pressure-order m n h)
 
 -- any two of two lists, wherever they stand, are in the same order in the lists that are read back

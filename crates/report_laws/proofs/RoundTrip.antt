@@ -6,6 +6,7 @@ use mathlib.Core.Path.{_≡_, refl}
 use mathlib.Core.Bool.{Bool, true, false, _&&_}
 use mathlib.Core.List.{List, _∷_, map}
 use lib.ListN.{length}
+use Rattle.figures.proofs.Impossible.{impossible}
 use Rattle.text.specs.declared.kinds.Judged.the-variants as judged
 use Rattle.text.specs.Judge.{judge}
 use Rattle.text.specs.Groups.{join, placed}
@@ -70,7 +71,7 @@ unfolding judgeOf
 fair r arrays e = go (r .kind) refl e
   where
     go : (k : Kind) → r .kind ≡ k → judgeBy k r ≡ judged.Fine → Fair r
-    go kind.Missing is e = let z : _≡_ {A = ℕ} 0 1 = cc in absurd (omega arith)
+    go kind.Missing is e = impossible (cc)
     go kind.Surface is e =
         let j = and-then (judge (isBlankMetar (r .observed) && isBlankTaf (r .forecast)) true) (synop.judgeOf (r .surface)) e in
         let b = both (isBlankMetar (r .observed)) (isBlankTaf (r .forecast)) (fine _ true (j .0) .0) in
@@ -208,6 +209,6 @@ pressures-back (forecast f arrays e) = refl
 
 pub rains-back : {r : Report} → Fair r → rainsOf (classedOf r) ≡ map roundedRain (rainsOf r)
 unfolding classedOf synop.classedOf
-rains-back (surface s nine e) = amount-is (s .surface .rainfall .is) (synop-text.parts-fit s e .1)
+rains-back (surface s nine e) = amount-is (s .surface .rainfall .is)
 rains-back (observed m arrays e) = refl
 rains-back (forecast f arrays e) = refl

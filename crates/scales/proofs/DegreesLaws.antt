@@ -2,16 +2,17 @@
 -- Assumes nothing.
 use mathlib.Core.Path.{_≡_, refl, sym, ap, _∙_}
 use mathlib.Core.Bool.{Bool, true, false, cond, _&&_, or-true, false≢true}
-use mathlib.Core.Logic.{_⊎_, ⊎-elim}
+use mathlib.Core.Logic.{⊎-elim}
 use Prim.Native.Nat.{ℕ, zero, suc, _+_, _-_, _*_, _/_, _≤_, _<_}
 use native.Mathlib.Omega.{arith}
 use lib.Dec.{ltb, eqb}
 use lib.IntN.{ℤ, pos, negsuc, natAbs, _+ℤ_}
 use lib.Signed.{leZ}
-use borrow.Author.Tests.{lt-ltb, le-ltb, le-leb, lt-leb, leb-true, ne-eqb, eqb-false}
+use borrow.Author.Tests.{lt-ltb, le-ltb, le-leb, lt-leb, leb-true, ne-eqb}
+use Rattle.figures.proofs.Impossible.{impossible}
 use Rattle.figures.specs.Signed.{negative, withSign}
 use Rattle.figures.proofs.Signs.{magnitude-back}
-use Rattle.scales.specs.Degrees.{wholeDegrees, roundedDegrees, degreesOf, degreesReading, signedReading}
+use Rattle.scales.specs.Degrees.{degreesFit, wholeDegrees, roundedDegrees, degreesOf, degreesReading, signedReading}
 use Rattle.scales.specs.declared.kinds.Degrees.the-variants as degrees
 use Rattle.scales.specs.declared.kinds.Tenths.the-variants as tenths
 use Rattle.scales.proofs.Laws.{reached}
@@ -140,7 +141,7 @@ module _ (w : Written) where
       (reached n 994)
     where
       out : degrees.OutOfRange ≡ degreesOf (pos n) → ⊥
-      out i = let z : _≡_ {A = ℕ} 0 1 = cc in omega arith
+      out i = impossible (cc)
   back (negsuc n) e =
       ⊎-elim
       (λ h. ⊎-elim (λ l. cold l (omega arith)) cool (reached 5 n))
@@ -148,7 +149,7 @@ module _ (w : Written) where
       (reached (suc n) 995)
     where
       out : degrees.OutOfRange ≡ degreesOf (negsuc n) → ⊥
-      out i = let z : _≡_ {A = ℕ} 0 1 = cc in omega arith
+      out i = impossible (cc)
 
       cool : n < 5 → degreesReading (w .0) (w .1) ≡ tenths.Is (roundedDegrees (negsuc n))
       cool h = rw (rounded-cool n h) (read-as (negsuc n) false 0 (cool-written n h) e (omega arith) refl)
@@ -168,12 +169,11 @@ own (false, k) t e =
     let j : pos (k * 10) ≡ t = cc in
     let m : (k * 10 + 5) / 10 ≡ k = omega arith in
     rw (← j) (sym (from-zero (pos (k * 10)) (k * 10) refl refl (omega arith)) ∙ ap (degrees.Is false) m))
-    (λ h. let i : tenths.Unused ≡ degreesReading false k = too-great false k h in let z : _≡_ {A = ℕ} 0 1 = cc in absurd (omega arith))
+    (λ h. let i : tenths.Unused ≡ degreesReading false k = too-great false k h in impossible (cc))
     (reached k 99)
 own (true, zero) t e =
     let i : tenths.Unused ≡ degreesReading true 0 = minus-zero true 0 (omega arith) refl in
-    let z : _≡_ {A = ℕ} 0 1 = cc in
-    absurd (omega arith)
+    impossible (cc)
 own (true, suc k) t e =
     ⊎-elim
     (λ h.
@@ -182,16 +182,36 @@ own (true, suc k) t e =
     let j : negsuc (k * 10 + 9) ≡ t = cc in
     let m : suc ((k * 10 + 9 - 5) / 10) ≡ suc k = omega arith in
     rw (← j) (sym (cold-written (k * 10 + 9) (omega arith) (omega arith)) ∙ ap (degrees.Is true) m))
-    (λ h. let i : tenths.Unused ≡ degreesReading true (suc k) = too-great true (suc k) h in let z : _≡_ {A = ℕ} 0 1 = cc in absurd (omega arith))
+    (λ h. let i : tenths.Unused ≡ degreesReading true (suc k) = too-great true (suc k) h in impossible (cc))
     (reached (suc k) 99)
 
 pub degrees-rounds : Rounds (λ (t : ℤ) (w : Written). degreesOf t ≡ degrees.Is (w .0) (w .1)) (λ (w : Written) (t : ℤ). degreesReading (w .0) (w .1) ≡ tenths.Is t) (λ (w : Written). degreesReading (w .0) (w .1) ≡ tenths.Unused) roundedDegrees
-degrees-rounds = rounds (λ t w. back w t) own (λ w t u e. let z : _≡_ {A = ℕ} 0 1 = cc in omega arith)
+degrees-rounds = rounds (λ t w. back w t) own (λ w t u e. impossible (cc))
+
+-- what may be written is written in whole degrees, and what is so written may be
+pub fit-written : (t : ℤ) → degreesFit t ≡ true → (w : Written) × (degreesOf t ≡ degrees.Is (w .0) (w .1))
+unfolding degreesOf
+fit-written t e = ((negative (wholeDegrees t), natAbs (wholeDegrees t)), rw e)
+
+pub written-fits : (t : ℤ) (minus : Bool) (n : ℕ) → degreesOf t ≡ degrees.Is minus n → degreesFit t ≡ true
+unfolding degreesOf
+written-fits t minus n e = go (degreesFit t) e
+  where
+    go : (b : Bool) → cond b (degrees.Is (negative (wholeDegrees t)) (natAbs (wholeDegrees t))) degrees.OutOfRange ≡ degrees.Is minus n → b ≡ true
+    go true e = refl
+    go false e = impossible (cc)
+
+-- whole degrees that have a reading have two figures
+pub two-figures : (minus : Bool) (n : ℕ) {t : ℤ} → degreesReading minus n ≡ tenths.Is t → n ≤ 99
+two-figures minus n e = ⊎-elim (λ h. h) (λ h. let u = too-great minus n h in impossible (cc)) (reached n 99)
 
 -- ---- how far off, in tenths, and the order
 
--- value less reading is -5 to 4
-pub degrees-near : (t : ℤ) → (leZ (roundedDegrees t) (t +ℤ pos 5) ≡ true) × (leZ t (roundedDegrees t +ℤ pos 4) ≡ true)
+-- a value and its reading: "value less reading, in tenths: -5 to 4"
+abbrev pub DegreesNear : ℤ → ℤ → Type 0
+DegreesNear value read = (leZ read (value +ℤ pos 5) ≡ true) × (leZ value (read +ℤ pos 4) ≡ true)
+
+pub degrees-near : (t : ℤ) → DegreesNear t (roundedDegrees t)
 degrees-near (pos n) =
     rw (rounded-warm n)
     (le-leb ((n + 5) / 10 * 10) (n + 5) (omega arith), le-leb n ((n + 5) / 10 * 10 + 4) (omega arith))
@@ -220,6 +240,6 @@ degrees-order (negsuc n) (negsuc m) h =
     (reached 5 m)
 
 -- ---- the signed tenths of SYNOP and SHIP are exact: a sign's figure and three figures say the value
-pub signed-exact : (minus : Bool) (m : ℕ) → m ≤ 999 → (minus && eqb m 0) ≡ false → signedReading (cond minus 1 0) m ≡ tenths.Is (withSign minus m)
-signed-exact false m h z = sym (plus-read 0 m refl h)
-signed-exact true m h z = sym (minus-read 1 m refl (eqb-false m 0 z) h)
+pub signed-exact : (t : ℤ) → natAbs t ≤ 999 → signedReading (cond (negative t) 1 0) (natAbs t) ≡ tenths.Is t
+signed-exact (pos n) h = sym (plus-read 0 n refl h)
+signed-exact (negsuc n) h = sym (minus-read 1 (suc n) refl (λ e. omega arith) h)

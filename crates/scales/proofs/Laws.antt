@@ -1,13 +1,14 @@
 -- The laws of a scale, once over any list of classes whose feet rise and whose figures differ; each scale has them by `lawful`.
 -- Assumes nothing.
 use mathlib.Core.Path.{_≡_, refl, sym, ap, _∙_}
-use mathlib.Core.Bool.{Bool, true, false, not, and-eq-true-iff, false≢true}
+use mathlib.Core.Bool.{Bool, true, false, not, _&&_, and-eq-true-iff, false≢true}
 use mathlib.Core.List.{List, [], _∷_}
 use mathlib.Core.Logic.{_⊎_, inl, inr, ⊎-elim}
 use Prim.Native.Nat.{ℕ, _+_, _-_, _≤_, _<_}
 use native.Mathlib.Omega.{arith}
 use lib.Dec.{leb}
 use borrow.Author.Tests.{le-leb, lt-leb, leb-true, leb-false, not-true}
+use Rattle.figures.proofs.Impossible.{impossible}
 use Rattle.scales.specs.Scale.{Class, Of, Open, Foot, None, Scale, classIn, lengthIn, lastIn, readIn, classOf, lengthOf, figureOf, footOf, readOf, rising, unlike, distinct}
 use Rattle.scales.proofs.Runs.{under, onto, rises}
 
@@ -23,6 +24,8 @@ pub record Lawful {F : Type 0} (same : F → F → Bool) (s : Scale F) : Type 0 
   pub within : (v l : ℕ) → lengthOf s v ≡ Of l → v < footOf s v + l
   -- and only the last class is open above
   pub open-last : (v : ℕ) → lengthOf s v ≡ Open → classOf s v ≡ lastIn (s .lowest) (s .above)
+  -- which every value has from its foot on
+  pub last : (v : ℕ) → lastIn (s .lowest) (s .above) .foot ≤ v → classOf s v ≡ lastIn (s .lowest) (s .above)
   -- the greater value never reads smaller
   pub order : (v w : ℕ) → v ≤ w → footOf s v ≤ footOf s w
   -- a value is read as the greatest foot not above it
@@ -49,7 +52,7 @@ module _ {F : Type 0} where
 
   within-in : (c : Class F) (ds : List (Class F)) (v l : ℕ) → c .foot ≤ v → lengthIn c ds v ≡ Of l → v < classIn c ds v .foot + l
   unfolding lengthIn
-  within-in c [] v l h e = let z : _≡_ {A = ℕ} 0 1 = cc in absurd (omega arith)
+  within-in c [] v l h e = impossible (cc)
   within-in c (d ∷ ds) v l h e =
       ⊎-elim
       (λ w. rw (onto d ds v w c) (within-in d ds v l w (rw (le-leb (d .foot) v w) at e)))
@@ -62,7 +65,7 @@ module _ {F : Type 0} where
   open-in c (d ∷ ds) v e =
       ⊎-elim
       (λ w. onto d ds v w c ∙ open-in d ds v (rw (le-leb (d .foot) v w) at e))
-      (λ w. let f : Of (d .foot - c .foot) ≡ Open = rw (lt-leb (d .foot) v w) at e in let z : _≡_ {A = ℕ} 0 1 = cc in absurd (omega arith))
+      (λ w. let f : Of (d .foot - c .foot) ≡ Open = rw (lt-leb (d .foot) v w) at e in impossible (cc))
       (reached (d .foot) v)
 
   -- ---- where the feet rise
@@ -73,6 +76,18 @@ module _ {F : Type 0} where
       (λ w. rw (onto d ds v w c) (omega (arith, rises c d ds r .0, above-in d ds v (rises c d ds r .1))))
       (λ w. rw (under d ds v w c) (omega arith))
       (reached (d .foot) v)
+
+  last-above : (c : Class F) (ds : List (Class F)) → rising c ds ≡ true → c .foot ≤ lastIn c ds .foot
+  unfolding lastIn
+  last-above c [] r = omega arith
+  last-above c (d ∷ ds) r = omega (arith, rises c d ds r .0, last-above d ds (rises c d ds r .1))
+
+  last-in : (c : Class F) (ds : List (Class F)) (v : ℕ) → rising c ds ≡ true → lastIn c ds .foot ≤ v → classIn c ds v ≡ lastIn c ds
+  unfolding lastIn
+  last-in c [] v r h = unfold classIn in refl
+  last-in c (d ∷ ds) v r h =
+      let t = rises c d ds r .1 in
+      onto d ds v (omega (arith, last-above d ds t)) c ∙ last-in d ds v t h
 
   order-in : (c : Class F) (ds : List (Class F)) (v w : ℕ) → rising c ds ≡ true → v ≤ w → classIn c ds v .foot ≤ classIn c ds w .foot
   order-in c [] v w r h = unfold classIn in omega arith
@@ -96,7 +111,7 @@ module _ {F : Type 0} where
 
     pub none-left : (f : F) (m : ℕ) → readIn same [] f ≡ Foot m → ⊥
     unfolding readIn
-    none-left f m e = let z : _≡_ {A = ℕ} 0 1 = cc in omega arith
+    none-left f m e = impossible (cc)
 
     -- no reading is below the lowest foot
     read-above : (c : Class F) (ds : List (Class F)) (f : F) (m : ℕ) → rising c ds ≡ true → readIn same (c ∷ ds) f ≡ Foot m → c .foot ≤ m
@@ -180,6 +195,22 @@ module _ {F : Type 0} where
         (λ w. rw (under d ds v w c) (read-first c (d ∷ ds)))
         (reached (d .foot) v)
 
+-- ---- what the figures of all classes are, by a test, the figure of every value is
+
+module _ {F : Type 0} (ok : F → Bool) where
+  abbrev pub eachFigure : List (Class F) → Bool
+  eachFigure [] = true
+  eachFigure (c ∷ cs) = ok (c .figure) && eachFigure cs
+
+  figure-in : (c : Class F) (ds : List (Class F)) (v : ℕ) → eachFigure (c ∷ ds) ≡ true → ok (classIn c ds v .figure) ≡ true
+  figure-in c [] v e = unfold classIn in and-eq-true-iff (ok (c .figure)) true .0 e .0
+  figure-in c (d ∷ ds) v e =
+      let t = and-eq-true-iff (ok (c .figure)) (eachFigure (d ∷ ds)) .0 e in
+      ⊎-elim (λ w. rw (onto d ds v w c) (figure-in d ds v (t .1))) (λ w. rw (under d ds v w c) (t .0)) (reached (d .foot) v)
+
+  pub figure-such : (s : Scale F) (v : ℕ) → eachFigure (s .lowest ∷ s .above) ≡ true → ok (figureOf s v) ≡ true
+  figure-such s v e = figure-in (s .lowest) (s .above) v e
+
 -- Every scale whose lowest foot is 0, whose feet rise and whose figures differ has all of these.
 pub lawful : {F : Type 0} (same : F → F → Bool) (s : Scale F) → Decides same → s .lowest .foot ≡ 0 → rising (s .lowest) (s .above) ≡ true
     → distinct same (s .lowest ∷ s .above) ≡ true → Lawful same s
@@ -188,12 +219,13 @@ lawful {F} same s dec z r u =
       not-above = λ v. below-in (s .lowest) (s .above) v (omega arith);
       within = λ v l e. within-in (s .lowest) (s .above) v l (omega arith) e;
       open-last = open-in (s .lowest) (s .above);
+      last = λ v h. last-in (s .lowest) (s .above) v r h;
       order = λ v w h. order-in (s .lowest) (s .above) v w r h;
       greatest = λ f m v e h. greatest-in same dec (s .lowest) (s .above) f m v r e h;
       reads-back = back;
       own = mine;
       again = λ v. mine (figureOf s v) (footOf s v) (back v);
-      unused = λ f e v g. let h : None ≡ Foot (footOf s v) = sym e ∙ ap (readOf same s) (sym g) ∙ back v in let z : _≡_ {A = ℕ} 0 1 = cc in omega arith;
+      unused = λ f e v g. let h : None ≡ Foot (footOf s v) = sym e ∙ ap (readOf same s) (sym g) ∙ back v in impossible (cc);
     }
   where
     back : (v : ℕ) → readOf same s (figureOf s v) ≡ Foot (footOf s v)

@@ -9,6 +9,7 @@ use Prim.Native.Nat.{ℕ, _≤_}
 use native.Mathlib.Omega.{arith}
 use lib.Dec.{leb, eqb}
 use borrow.Author.Tests.{le-leb, lt-leb, leb-true}
+use Rattle.figures.proofs.Impossible.{impossible}
 use Rattle.scales.specs.Scale.{Class, Scale, Read, Foot, None, run, readIn, readOf, figureOf, footOf}
 use Rattle.scales.specs.Metres.{land, sea, base, visibility, runway, cloud, sameRange, answered, metresFigure, metresReading, rangeFigure, rangeReading}
 use Rattle.scales.specs.declared.kinds.Figure.the-variants as figure
@@ -20,7 +21,7 @@ use Rattle.scales.proofs.Rounds.{Rounds, rounds}
 
 foot-of : (r : Read) (v : ℕ) → answered r ≡ reading.Is v → r ≡ Foot v
 foot-of (Foot m) v e = let j : m ≡ v = cc in ap Foot j
-foot-of None v e = let z : _≡_ {A = ℕ} 0 1 = cc in absurd (omega arith)
+foot-of None v e = impossible (cc)
 
 module _ {F : Type 0} where
   -- every foot may be written
@@ -58,7 +59,7 @@ module _ {F : Type 0} where
         rw (le-leb v 99999 (low-read same dec (s .lowest ∷ s .above) f v l r)) (ap is (law .own f v r))
 
     answers : Rounds figureIs reads (λ f. answered (readOf same s f) ≡ reading.Unused) (footOf s)
-    answers = rounds back own (λ f v u e. let z : _≡_ {A = ℕ} 0 1 = cc in omega arith)
+    answers = rounds back own (λ f v u e. impossible (cc))
 
 -- what a scale with whole numbers for figures keeps to
 abbrev pub MetresRounds : Scale ℕ → Type 0
@@ -67,7 +68,7 @@ MetresRounds s = Rounds (λ v f. metresFigure s v ≡ figure.Is f) (λ f v. metr
 metres : (s : Scale ℕ) → Lawful eqb s → low (s .lowest ∷ s .above) ≡ true → MetresRounds s
 unfolding metresFigure metresReading
 metres s law l =
-    answers figure.Is figure.OutOfRange (λ a b e. (cc)) (λ a e. let z : _≡_ {A = ℕ} 0 1 = cc in omega arith) eqb numbers s law l
+    answers figure.Is figure.OutOfRange (λ a b e. (cc)) (λ a e. impossible (cc)) eqb numbers s law l
 
 pub land-rounds : MetresRounds land
 unfolding land run low
@@ -92,4 +93,4 @@ cloud-rounds = metres cloud cloud-laws refl
 pub runway-rounds : Rounds (λ v f. rangeFigure v ≡ written.Is f) (λ f v. rangeReading f ≡ reading.Is v) (λ f. rangeReading f ≡ reading.Unused) (footOf runway)
 unfolding rangeFigure rangeReading runway run low
 runway-rounds =
-    answers written.Is written.OutOfRange (λ a b e. (cc)) (λ a e. let z : _≡_ {A = ℕ} 0 1 = cc in omega arith) sameRange ranges runway runway-laws refl
+    answers written.Is written.OutOfRange (λ a b e. (cc)) (λ a e. impossible (cc)) sameRange ranges runway runway-laws refl

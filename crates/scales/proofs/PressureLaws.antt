@@ -1,10 +1,13 @@
 -- Q in and out of range, and its laws: how far off, the order, and what is written reads back.
 -- Assumes nothing.
 use mathlib.Core.Path.{_≡_, sym, ap, _∙_}
+use mathlib.Core.Bool.{true}
 use mathlib.Core.Logic.{⊎-elim}
 use Prim.Native.Nat.{ℕ, _+_, _*_, _/_, _≤_, _<_}
 use native.Mathlib.Omega.{arith}
-use borrow.Author.Tests.{le-leb, lt-leb}
+use lib.Dec.{leb}
+use borrow.Author.Tests.{le-leb, lt-leb, leb-true}
+use Rattle.figures.proofs.Impossible.{impossible}
 use Rattle.scales.specs.Rounded.{pressureFigure, pressureReading, roundedPressure}
 use Rattle.scales.specs.declared.kinds.Figure.the-variants as figure
 use Rattle.scales.specs.declared.kinds.Reading.the-variants as reading
@@ -34,7 +37,7 @@ unfolding roundedPressure
 back v f w =
     ⊎-elim
     (λ h. let i : figure.Is (v / 10) ≡ pressureFigure v = written v h in let j : v / 10 ≡ f = cc in rw j (sym (read f (omega arith))))
-    (λ h. let i : figure.OutOfRange ≡ pressureFigure v = none-written v h in let z : _≡_ {A = ℕ} 0 1 = cc in absurd (omega arith))
+    (λ h. let i : figure.OutOfRange ≡ pressureFigure v = none-written v h in impossible (cc))
     (reached v 99999)
 
 own : (f v : ℕ) → pressureReading f ≡ reading.Is v → pressureFigure v ≡ figure.Is f
@@ -45,17 +48,35 @@ own f v e =
     let j : f * 10 ≡ v = cc in
     let k : v / 10 ≡ f = omega arith in
     sym (written v (omega arith)) ∙ ap figure.Is k)
-    (λ h. let i : reading.Unused ≡ pressureReading f = none-read f h in let z : _≡_ {A = ℕ} 0 1 = cc in absurd (omega arith))
+    (λ h. let i : reading.Unused ≡ pressureReading f = none-read f h in impossible (cc))
     (reached f 9999)
 
 pub pressure-rounds : Rounds (λ v f. pressureFigure v ≡ figure.Is f) (λ f v. pressureReading f ≡ reading.Is v) (λ f. pressureReading f ≡ reading.Unused) roundedPressure
-pressure-rounds = rounds back own (λ f v u e. let z : _≡_ {A = ℕ} 0 1 = cc in omega arith)
+pressure-rounds = rounds back own (λ f v u e. impossible (cc))
 
--- value less reading is 0 to 9
-pub pressure-near : (v : ℕ) → (roundedPressure v ≤ v) × (v ≤ roundedPressure v + 9)
+-- a value and its reading: the value less its reading is 0 to 9
+abbrev pub PressureNear : ℕ → ℕ → Type 0
+PressureNear value read = (read ≤ value) × (value ≤ read + 9)
+
+pub pressure-near : (v : ℕ) → PressureNear v (roundedPressure v)
 unfolding roundedPressure
 pressure-near v = (omega arith, omega arith)
 
 pub pressure-order : (v w : ℕ) → v ≤ w → roundedPressure v ≤ roundedPressure w
 unfolding roundedPressure
 pressure-order v w h = omega arith
+
+-- what may be written has four figures, and so may its reading; the reading has the same figure, or none, as the value
+pub pressure-written : (v : ℕ) → leb v 99999 ≡ true → (f : ℕ) × (pressureFigure v ≡ figure.Is f) × (f ≤ 9999)
+pressure-written v e = let h = leb-true v 99999 e in (v / 10, sym (written v h), omega arith)
+
+pub pressure-low : (v : ℕ) → leb v 99999 ≡ true → leb (roundedPressure v) 99999 ≡ true
+pressure-low v e = le-leb (roundedPressure v) 99999 (omega (arith, pressure-near v .0, leb-true v 99999 e))
+
+pub pressure-again : (v : ℕ) → pressureFigure (roundedPressure v) ≡ pressureFigure v
+unfolding roundedPressure
+pressure-again v =
+    ⊎-elim
+    (λ h. pressure-rounds .again v (v / 10) (sym (written v h)) ∙ written v h)
+    (λ h. sym (none-written (v / 10 * 10) (omega arith)) ∙ none-written v h)
+    (reached v 99999)

@@ -4,8 +4,11 @@ use mathlib.Core.Path.{_≡_, refl, sym, ap, _∙_}
 use mathlib.Core.Logic.{_⊎_, inl, inr, ⊎-elim}
 use Prim.Native.Nat.{ℕ, _+_, _-_, _*_, _/_, _≤_, _<_}
 use native.Mathlib.Omega.{arith}
-use borrow.Author.Tests.{lt-ltb, le-ltb, le-leb, lt-leb, ne-eqb}
-use Rattle.scales.specs.Rounded.{rainFigure, rainReading, roundedRain, rainRank}
+use mathlib.Core.Bool.{true, and-eq-true-iff}
+use lib.Dec.{leb}
+use borrow.Author.Tests.{lt-ltb, le-ltb, le-leb, lt-leb, leb-true, ne-eqb}
+use Rattle.figures.proofs.Impossible.{impossible}
+use Rattle.scales.specs.Rounded.{rainFits, rainFigure, rainReading, roundedRain, rainRank}
 use Rattle.scales.specs.declared.kinds.Figure.the-variants as figure
 use Rattle.scales.specs.declared.kinds.Rain.{Rain}
 use Rattle.scales.specs.declared.kinds.Rain.the-variants as rain
@@ -81,7 +84,7 @@ module _ (t f : ℕ) (w : rainFigure (rain.Tenths t) ≡ figure.Is f) where
       (reached 1 t)
     where
       out : figure.OutOfRange ≡ rainFigure (rain.Tenths t) → (1 ≤ t) × (t ≤ 99999)
-      out e = let z : _≡_ {A = ℕ} 0 1 = cc in absurd (omega arith)
+      out e = impossible (cc)
 
   back-tenths : Band t → rainReading f ≡ amount.Is (roundedRain (rain.Tenths t))
   back-tenths (tenth h e) =
@@ -131,8 +134,7 @@ module _ (f : ℕ) (r : Rain) (e : rainReading f ≡ amount.Is r) where
   own-none : (f ≡ 0) ⊎ (999 < f) → rainFigure r ≡ figure.Is f
   own-none h =
       let i : amount.Unused ≡ rainReading f = none-read f h in
-      let z : _≡_ {A = ℕ} 0 1 = cc in
-      absurd (omega arith)
+      impossible (cc)
 
   own : rainFigure r ≡ figure.Is f
   own =
@@ -142,9 +144,53 @@ module _ (f : ℕ) (r : Rain) (e : rainReading f ≡ amount.Is r) where
       (reached f 989)
 
 pub rain-rounds : Rounds (λ r f. rainFigure r ≡ figure.Is f) (λ f r. rainReading f ≡ amount.Is r) (λ f. rainReading f ≡ amount.Unused) roundedRain
-rain-rounds = rounds back own (λ f r u e. let z : _≡_ {A = ℕ} 0 1 = cc in omega arith)
+rain-rounds = rounds back own (λ f r u e. impossible (cc))
+
+-- what may be written has three figures
+pub rain-written : (r : Rain) → rainFits r ≡ true → (f : ℕ) × (rainFigure r ≡ figure.Is f) × (f ≤ 999)
+rain-written rain.Trace e = (990, sym trace-written, omega arith)
+rain-written (rain.Tenths t) e =
+    let r = and-eq-true-iff (leb 1 t) (leb t 99999) .0 e in
+    let least = leb-true 1 t (r .0) in
+    let greatest = leb-true t 99999 (r .1) in
+    elim (band t) [
+      | tenth h i ↦ (990 + t, sym (tenths-written t least h), omega arith)
+      | whole l h i ↦ ((t + 5) / 10, sym (whole-written t l h), omega arith)
+      | most l i ↦ (989, sym (most-written t l greatest), omega arith)
+    ]
+
+-- and its reading may be written, with the same figure
+pub rain-again : (r : Rain) → rainFits r ≡ true → rainFigure (roundedRain r) ≡ rainFigure r
+rain-again r h = let w = rain-written r h in rain-rounds .again r (w .0) (w .1) ∙ sym (w .1)
+
+pub rain-classed : (r : Rain) → rainFits r ≡ true → rainFits (roundedRain r) ≡ true
+rain-classed rain.Trace e = unfold roundedRain in refl
+rain-classed (rain.Tenths t) e =
+    elim (band t) [
+      | tenth h i ↦ rw i e
+      | whole l h i ↦ rw (i, le-leb 1 ((t + 5) / 10 * 10) (omega arith), le-leb ((t + 5) / 10 * 10) 99999 (omega arith))
+      | most l i ↦ rw i
+    ]
 
 -- ---- how far off, in tenths, and the order
+
+-- an amount and its reading: "Value less reading, in tenths: .. -5 to 4; 989 (from 988.5 mm) is open and is read 989.0"; below 1.0 mm, and trace,
+-- exact
+pub data RainNear : Rain → Rain → Type 0 where
+  trace-near : RainNear rain.Trace rain.Trace
+  tenth-near : {t : ℕ} → t < 10 → RainNear (rain.Tenths t) (rain.Tenths t)
+  whole-near : {t u : ℕ} → 10 ≤ t → t < 9885 → u ≤ t + 5 → t ≤ u + 4 → RainNear (rain.Tenths t) (rain.Tenths u)
+  most-near : {t : ℕ} → 9885 ≤ t → RainNear (rain.Tenths t) (rain.Tenths 9890)
+
+pub rain-kept : (r : Rain) → RainNear r (roundedRain r)
+rain-kept rain.Trace = unfold roundedRain in trace-near
+rain-kept (rain.Tenths t) =
+    elim (band t) [
+      | tenth h e ↦ rw e (tenth-near h)
+      | whole l h e ↦ rw e (whole-near {u = (t + 5) / 10 * 10} l h (omega arith) (omega arith))
+      | most l e ↦ rw e (most-near l)
+    ]
+
 -- -5 to 4, and below 1.0 mm nothing
 pub rain-near : (t : ℕ) → t < 9885 → (rainRank (roundedRain (rain.Tenths t)) ≤ t + 5) × (t ≤ rainRank (roundedRain (rain.Tenths t)) + 4)
 unfolding rainRank

@@ -13,6 +13,10 @@ use Rattle.scales.specs.declared.kinds.Tenths.the-variants as tenths
 
 -- "Aerodrome temperature is kept in tenths and written as whole degrees, -99 to 99, halves up (a record may hold -99.5 to 99.4)"
 
+-- what may be written
+abbrev pub degreesFit : ℤ → Bool
+degreesFit t = leZ (negsuc 994) t && leZ t (pos 994)
+
 -- the nearest whole degree, halves up: five tenths more, divided by ten and rounded down
 unfoldable pub wholeDegrees : ℤ → ℤ
 wholeDegrees t = shrZ (t +ℤ pos 5) 10
@@ -23,8 +27,7 @@ roundedDegrees t = wholeDegrees t *ℤ pos 10
 
 -- "M goes by the rounded value": minus where that is below zero
 unfoldable pub degreesOf : ℤ → Degrees
-degreesOf t =
-    cond (leZ (negsuc 994) t && leZ t (pos 994)) (degrees.Is (negative (wholeDegrees t)) (natAbs (wholeDegrees t))) degrees.OutOfRange
+degreesOf t = cond (degreesFit t) (degrees.Is (negative (wholeDegrees t)) (natAbs (wholeDegrees t))) degrees.OutOfRange
 
 -- "M00 is 5"
 unfoldable pub degreesReading : Bool → ℕ → Tenths

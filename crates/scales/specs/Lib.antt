@@ -2,4 +2,5 @@ pub mod Scale
 pub mod Metres
 pub mod Rounded
 pub mod Degrees
+pub mod Fields
 pub mod MarkedRows

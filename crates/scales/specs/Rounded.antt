@@ -1,7 +1,7 @@
 -- "The scales and how far off": Q, rain and direction.
 -- Assumes nothing: these are definitions.
 use Prim.Native.Nat.{ℕ, _+_, _-_, _*_, _/_, _%_}
-use mathlib.Core.Bool.{cond, _||_}
+use mathlib.Core.Bool.{Bool, true, cond, _&&_, _||_}
 use lib.Dec.{leb, ltb, eqb}
 use Rattle.scales.specs.declared.kinds.Figure.{Figure}
 use Rattle.scales.specs.declared.kinds.Figure.the-variants as figure
@@ -24,6 +24,10 @@ unfoldable pub roundedPressure : ℕ → ℕ
 roundedPressure v = v / 10 * 10
 
 -- "rain is trace or 0.1 to 9,999.9 mm, from 1.0 mm written to the nearest mm, halves up"; "989 (from 988.5 mm) is open and is read 989.0"
+abbrev pub rainFits : Rain → Bool
+rainFits rain.Trace = true
+rainFits (rain.Tenths t) = leb 1 t && leb t 99999
+
 -- "6RRRt: 001-988 mm, 989 that or more, 990 trace, 991-999 0.1-0.9 mm; 000 is 5."
 unfoldable pub rainFigure : Rain → Figure
 rainFigure rain.Trace = figure.Is 990
@@ -58,3 +62,14 @@ directionReading f = cond (eqb f 0 || ltb 36 f) reading.Unused (reading.Is (f * 
 -- the reading of a direction
 unfoldable pub roundedDirection : ℕ → ℕ
 roundedDirection d = (d + 5) / 10 * 10 % 360
+
+-- the same in three figures, a zero after the tens: "ddd 010-360 by tens"; 000 where a direction is out of range
+abbrev pub withZero : Figure → ℕ
+withZero (figure.Is f) = f * 10
+withZero figure.OutOfRange = 0
+
+abbrev pub dddFigure : ℕ → ℕ
+dddFigure d = withZero (directionFigure d)
+
+abbrev pub dddReading : ℕ → Reading
+dddReading f = cond (eqb (f % 10) 0) (directionReading (f / 10)) reading.Unused

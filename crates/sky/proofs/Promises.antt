@@ -1,37 +1,29 @@
 -- What the round trip promises of a sky, in document 01's words: each height comes back as the reading of its class, near its value and never above
 -- it, and all else as it was.
 -- Assumes nothing.
-use Prim.Native.Nat.{ℕ}
 use mathlib.Core.Path.{_≡_, refl}
-use lib.Dec.{eqb}
 use mathlib.Core.List.{List, [], _∷_, map}
 use Rattle.scales.specs.Metres.{cloud}
-use Rattle.scales.proofs.Down.{Down, down}
 use Rattle.scales.proofs.MetresLaws.{cloud-laws}
 use Rattle.record.specs.declared.values.Number.{Number}
-use Rattle.record.specs.declared.values.Number.the-variants as number
 use Rattle.record.specs.declared.aerodrome.Layer.{Layer}
 use Rattle.record.specs.declared.aerodrome.Cover.{Cover}
 use Rattle.record.specs.declared.aerodrome.Cover.the-variants as cover
 use Rattle.record.specs.declared.aerodrome.Sky.{Sky}
+use Rattle.record.proofs.Near.{NumberDown, number-down}
 use Rattle.elements.specs.Sky.{writtenHeight, classLayer, classCover, classSky}
 
 -- ---- how far off
 
 -- a height in metres and its reading
-pub data HeightRead : Number → Number → Type 0 where
-  no-height : HeightRead number.Missing number.Missing
-  metres : {m n : ℕ} → Down cloud m n → HeightRead (number.Is m) (number.Is n)
-
-pub height-read : (h : Number) → HeightRead h (writtenHeight h)
-height-read number.Missing = no-height
-height-read (number.Is m) = metres (down eqb cloud cloud-laws m)
+pub height-read : (h : Number) → NumberDown cloud h (writtenHeight h)
+height-read = number-down cloud-laws
 
 -- ---- the sky that is read back
 
 pub record LayerBack (l k : Layer) : Type 0 where
   pub amount : k .amount ≡ l .amount
-  pub height : HeightRead (l .height) (k .height)
+  pub height : NumberDown cloud (l .height) (k .height)
   pub convective : k .convective ≡ l .convective
 
 pub data LayersBack : List Layer → List Layer → Type 0 where
@@ -43,7 +35,7 @@ pub data CoverBack : Cover → Cover → Type 0 where
   clear : CoverBack cover.Clear cover.Clear
   none-significant : CoverBack cover.NoneSignificant cover.NoneSignificant
   none-detected : CoverBack cover.NoneDetected cover.NoneDetected
-  vertical : {h k : Number} → HeightRead h k → CoverBack (cover.Vertical h) (cover.Vertical k)
+  vertical : {h k : Number} → NumberDown cloud h k → CoverBack (cover.Vertical h) (cover.Vertical k)
 
 pub record SkyBack (s q : Sky) : Type 0 where
   pub cover : CoverBack (s .cover) (q .cover)

@@ -9,6 +9,7 @@ use mathlib.Core.List.{List, [], _∷_}
 use mathlib.Core.Logic.{_⊎_, ⊎-elim}
 use lib.ListN.{length, getD, take, drop, length-take, drop-of-length-le}
 use lib.Seq.{drop-cons, getD-take}
+use Rattle.figures.proofs.Impossible.{impossible}
 use Rattle.text.specs.declared.kinds.Refusal.{Refusal}
 use Rattle.shapes.specs.declared.kinds.Value.{Value}
 use Rattle.places.specs.Engine.{Read, Good, Bad}
@@ -24,10 +25,6 @@ use Rattle.elements.specs.Sky.{layerBy, notAbove, rises}
 use Rattle.sky.specs.declared.read.HeightRead.{HeightRead}
 use Rattle.sky.specs.declared.read.HeightRead.the-variants as height
 use Rattle.sky.specs.Answers.{asHeight}
-
--- where two constructors would be one
-pub impossible : {A : Type 0} → _≡_ {A = ℕ} 0 1 → A
-impossible z = absurd (omega arith)
 
 -- ---- x, answered as r
 

@@ -28,6 +28,7 @@ use Rattle.record.specs.declared.aerodrome.Sky.{Sky}
 use Rattle.record.specs.Metar.{blankLayer, blankSky}
 use Rattle.elements.specs.Parts.{then}
 use Rattle.elements.specs.Judge.{metresFit}
+use Rattle.elements.proofs.Classed.{cover-classed}
 use Rattle.elements.specs.Sky.{layerShape, aloneShapes, hasSky, readAlone, rises, addLayer, readSky, showLayer, coverGroups, showSky, coverFits, judgeCover, hasAmount, writtenHeight, classLayer, judgeLayers, judgeSky, classCover, classSky}
 use Rattle.record.specs.SilentAerodrome.{isLayers, isBlankLayer}
 use Rattle.record.proofs.AerodromeBlanks.{layer-blank, cover-layers}
@@ -74,13 +75,6 @@ cover-again (cover.Vertical h) = rw (height-again h)
 layers-again : (ls : List Layer) → map showLayer (map classLayer ls) ≡ map showLayer ls
 layers-again [] = refl
 layers-again (l ∷ ls) = rw (layer-again l, layers-again ls)
-
-cover-classed : (c : Cover) → isLayers (classCover c) ≡ isLayers c
-cover-classed cover.Layers = refl
-cover-classed cover.Clear = refl
-cover-classed cover.NoneSignificant = refl
-cover-classed cover.NoneDetected = refl
-cover-classed (cover.Vertical h) = refl
 
 missing-classed : (h : Number) → isMissing (writtenHeight h) ≡ isMissing h
 missing-classed number.Missing = refl

@@ -3,7 +3,7 @@
 use Prim.Native.Nat.{ℕ, _+_, _≤_, _<_}
 use native.Mathlib.Omega.{arith}
 use native.Mathlib.Numerals.{add-one}
-use mathlib.Core.Path.{_≡_, refl}
+use mathlib.Core.Path.{_≡_}
 use mathlib.Core.List.{List, [], _∷_, _++_, map, map-append}
 use mathlib.Core.Logic.{_⊎_, ⊎-elim}
 use lib.ListN.{length, getD, take, length-take}
@@ -12,28 +12,17 @@ use Rattle.figures.specs.Put.{Put}
 use Rattle.figures.proofs.Puts.{put-none}
 use Rattle.text.specs.Groups.{written}
 use Rattle.shapes.specs.declared.kinds.Value.{Value}
-use Rattle.shapes.specs.Shape.{Part, split, partsOf, printParts, printOf}
+use Rattle.shapes.specs.Shape.{split, partsOf, printOf}
 use Rattle.record.specs.declared.aerodrome.Layer.{Layer}
 use Rattle.elements.specs.Sky.{layerShape, showLayer}
+use Rattle.elements.proofs.Scanned.{print-enough}
 
 pub write-none : (b : List ℕ) (at : ℕ) → Put b at (written at []) at b
 unfolding written
 write-none b at = put-none b at
 
--- values past the parts of a shape are not printed
-print-more : (ps : List Part) (vs more : List Value) → length ps ≤ length vs → printParts ps (vs ++ more) ≡ printParts ps vs
-unfolding printParts
-print-more [] vs more h = refl
-print-more (p ∷ ps) [] more h = absurd (omega arith)
-print-more (p ∷ ps) (v ∷ vs) more h = rw (print-more ps vs more (omega arith))
-
-layer-parts : length (partsOf layerShape) ≡ 3
-unfolding partsOf split
-layer-parts = refl
-
 pub three-parts : (a h c : Value) (more : List Value) → printOf layerShape (a ∷ h ∷ c ∷ more) ≡ printOf layerShape (a ∷ h ∷ c ∷ [])
-unfolding printOf
-three-parts a h c more = print-more (partsOf layerShape) (a ∷ h ∷ c ∷ []) more (omega (arith, layer-parts))
+three-parts a h c more = print-enough layerShape (a ∷ h ∷ c ∷ []) more (unfold partsOf split in omega arith)
 
 -- the first k layers, of which i are written
 module _ (layers : List Layer) (k i : ℕ) where

@@ -16,6 +16,7 @@ use mir.Val.{toZ, ofZ}
 use mir.Facts.{toZ-ofZ}
 use types.Run.{OneOf, miss}
 use denote.Enum.Declared.{tagOf}
+use Rattle.figures.proofs.Impossible.{impossible}
 use Rattle.figures.proofs.kinds.Field.{the-type}
 use Rattle.figures.specs.declared.kinds.Field.{Field}
 use Rattle.figures.specs.declared.kinds.Field.the-variants as field
@@ -195,5 +196,4 @@ module _ (minus : Bool) (n : ℕ) (h : n < 10000) {s : Signed} (asked : s ≡ si
   pub unsigned : s ≡ signs.TooLarge → ⊥
   unsigned is =
       let e = fitting in
-      let z : _≡_ {A = ℕ} 0 1 = cc in
-      omega arith
+      impossible (cc)

@@ -19,8 +19,11 @@ use Rattle.shapes.proofs.Patterns.{both, or-cases, or-right}
 use Rattle.scales.specs.declared.kinds.Tenths.the-variants as tenths
 use Rattle.scales.specs.Degrees.{signedReading}
 use Rattle.scales.specs.declared.kinds.Rain.{Rain}
-use Rattle.scales.specs.Rounded.{rainFigure, rainReading}
+use Rattle.scales.specs.Rounded.{rainFits, rainFigure, rainReading}
+use Rattle.scales.specs.Fields.{fieldBy}
 use Rattle.scales.proofs.Laws.{reached}
+use Rattle.scales.proofs.DegreesLaws.{signed-exact}
+use Rattle.scales.proofs.RainLaws.{rain-written, rain-rounds, rain-again, rain-classed}
 use Rattle.record.specs.declared.values.Number.{Number}
 use Rattle.record.specs.declared.values.Number.the-variants as number
 use Rattle.record.specs.declared.values.Tenths.{Tenths as Signed}
@@ -56,15 +59,14 @@ use Rattle.text.specs.declared.kinds.Judged.the-variants as judged
 use Rattle.text.specs.Judge.{judge}
 use Rattle.text.proofs.Judging.{fine}
 use Rattle.synop_groups.specs.Reads.{Group, wrong, mayMiss, usedRain, speedIs, saidSpeed, pressureOf, isLevel, airIs, saidAir, moistureIs, saidMoisture, saidPressure, levelIs, saidLevel, tendencyIs, saidTendency, saidRainfall, saidWeather, saidClouds, clockIs, saidClock}
-use Rattle.synop_groups.specs.Shows.{moistureSpoken, fieldOf, fieldBy, isGale, speedGroup, showSpeed, signText, airGroup, showAir, moistGroup, showMoisture, pressureGroup, showPressure, levelGroup, showLevel, tendencyGroup, showTendency, rainfallGroup, showRainfall, weatherText, showWeather, cloudsText, showClouds, clockGroup, showClock}
+use Rattle.synop_groups.specs.Shows.{moistureSpoken, fieldOf, isGale, speedGroup, showSpeed, signText, airGroup, showAir, moistGroup, showMoisture, pressureGroup, showPressure, levelGroup, showLevel, tendencyGroup, showTendency, rainfallGroup, showRainfall, weatherText, showWeather, cloudsText, showClouds, clockGroup, showClock}
 use Rattle.record.specs.Missing.{between, optional}
 use Rattle.record.specs.SilentSurface.{noWeather, noClouds, noFall}
 use Rattle.record.proofs.SurfaceBlanks.{weather-blank, clouds-blank}
-use Rattle.synop_groups.specs.Judge.{windFits, judgeWind, tenthsFit, judgeAir, moistFits, judgeMoisture, judgePressure, heightFits, judgeLevel, changeFits, changeAgrees, judgeTendency, amountFits, fallFits, judgeRainfall, judgeWeather, judgeClouds, clockFits, judgeClock}
+use Rattle.synop_groups.specs.Judge.{windFits, judgeWind, tenthsFit, judgeAir, moistFits, judgeMoisture, judgePressure, heightFits, judgeLevel, changeFits, changeAgrees, judgeTendency, fallFits, judgeRainfall, judgeWeather, judgeClouds, clockFits, judgeClock}
 use Rattle.synop_groups.specs.Classes.{classFall, classRainfall, speedInTwo}
 use Rattle.synop_groups.proofs.RoundTripParts.{figures-join, at, Laid, parts}
 use Rattle.synop_groups.proofs.RoundTripFields.{in-range, chosen, optional-fits, oneFigure, one-fits, Slot, slot, partsOf, nth, part-is, asked-back}
-use Rattle.synop_groups.proofs.RoundTripScales.{rain-written, rain-is, rain-again, amount-classed}
 use Rattle.synop_groups.proofs.RoundTripHead.{wind-fine}
 
 -- The groups written for a part x of the record: none, where none must stand and the part is blank, or one that has the shape and says the part.
@@ -141,15 +143,10 @@ sign-small : (t : ℤ) → natAbs t ≤ 999 → signFigure t * 1000 + natAbs t <
 sign-small (pos n) h = omega arith
 sign-small (negsuc n) h = omega arith
 
-signed-read : (t : ℤ) → natAbs t ≤ 999 → signedReading (signFigure t) (natAbs t) ≡ tenths.Is t
-unfolding signedReading
-signed-read (pos n) h = rw (le-ltb 999 n h)
-signed-read (negsuc n) h = rw (le-ltb 999 (suc n) h, ne-eqb (suc n) 0 (λ e. omega arith))
-
 -- the field of a sign and three figures is read as they were
 signed-field : (t : ℤ) → natAbs t ≤ 999
     → signedReading ((signFigure t * 1000 + natAbs t) / 1000) ((signFigure t * 1000 + natAbs t) % 1000) ≡ tenths.Is t
-signed-field t h = let d = split (signFigure t) (natAbs t) h in rw (d .0, d .1) (signed-read t h)
+signed-field t h = let d = split (signFigure t) (natAbs t) h in rw (d .0, d .1) (signed-exact t h)
 
 pub air-back : (a : Air) → judgeAir a ≡ judged.Fine → Back (bytes "1####") false saidAir said.Air (blankSurface .air) a (showAir a)
 unfolding judgeAir showAir saidAir airIs
@@ -346,7 +343,7 @@ fall-back : (r : Rain) (t : Number) → fallFits (fall.Is r t) ≡ true
     → Back (bytes "6####") true (saidRainfall false) said.Rainfall (blankSurface .rainfall) (record { is = classFall (fall.Is r t) }) (rainfallGroup true (fall.Is r t))
 unfolding saidRainfall
 fall-back r t e =
-    let s = both (amountFits r) (oneFigure t) e in
+    let s = both (rainFits r) (oneFigure t) e in
     let w = rain-written r (s .0) in
     let l =
     parts (bytes "6") (at 3 (fieldBy (rainFigure r)) ∷ at 1 (fieldOf t) ∷ []) refl refl
@@ -354,7 +351,7 @@ fall-back r t e =
     one (l .shaped)
     (rw (l .holds .0 ∙ ap fieldBy (w .1))
     (part-is _ t (λ n. usedRain (rainReading (w .0)) (λ a. said.Rainfall (record { is = fall.Is a n }))) (l .holds .1 .0)
-    ∙ rw (rain-is r (s .0) (w .0) (w .1))))
+    ∙ rw (rain-rounds .back r (w .0) (w .1))))
 
 -- required or forbidden by iR
 pub rainfall-back : (required : Bool) (r : Rainfall) → judgeRainfall (not required) r ≡ judged.Fine
@@ -375,8 +372,8 @@ rainfall-back required r e = go required (r .is) (fine (fallFits (r .is)) (not (
 fall-again : (f : Fall) → fallFits f ≡ true → (fallFits (classFall f) ≡ true) × (noFall (classFall f) ≡ noFall f) × ((required : Bool) → rainfallGroup required (classFall f) ≡ rainfallGroup required f)
 fall-again fall.Missing e = (refl, refl, λ required. refl)
 fall-again (fall.Is r t) e =
-    let s = both (amountFits r) (oneFigure t) e in
-    (rw (amount-classed r (s .0), s .1), refl, λ required. rw (rain-again r (s .0)))
+    let s = both (rainFits r) (oneFigure t) e in
+    (rw (rain-classed r (s .0), s .1), refl, λ required. rw (rain-again r (s .0)))
 
 pub rainfall-again : (required forbidden : Bool) (r : Rainfall) → judgeRainfall forbidden r ≡ judged.Fine → showRainfall required (classRainfall r) ≡ showRainfall required r
 unfolding judgeRainfall showRainfall

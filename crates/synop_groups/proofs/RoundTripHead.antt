@@ -21,7 +21,8 @@ use Rattle.figures.proofs.Signs.{with-sign}
 use Rattle.shapes.specs.Pattern.{Pattern, hasPattern}
 use Rattle.shapes.proofs.Patterns.{both}
 use Rattle.scales.proofs.Laws.{reached}
-use Rattle.scales.proofs.DirectionLaws.{direction-rounds}
+use Rattle.scales.specs.Rounded.{roundedDirection}
+use Rattle.scales.proofs.DirectionLaws.{direction-rounds, direction-written, rounded-below}
 use Rattle.record.specs.declared.values.Number.{Number}
 use Rattle.record.specs.declared.values.Number.the-variants as number
 use Rattle.record.specs.declared.values.Tenths.{Tenths as Signed}
@@ -44,11 +45,12 @@ use Rattle.synop_groups.specs.Position.{isQuadrant, isSouth, isWest, qua
 use Rattle.synop_groups.specs.Reads.{Group, isUnit, timeOf, saidTime, saidStation, latitudeIs, saidLatitude, positionOf, saidLongitude, sightOf, indicatorsOf, saidIndicators, figured, mayMiss, missing, windBy, noWind, saidWind}
 use Rattle.synop_groups.specs.Shows.{fieldOf, magnitudeOf, showTime, showStation, showSign, showLatitude, showLongitude, baseField, sightField, showIndicators, directionField, showWind}
 use Rattle.synop_groups.specs.Judge.{presentTenths, metres, isStation, judgeTime, judgeStation, judgeSign, judgePosition, sightFits, judgeIndicators, windFits, windAgrees, judgeWind}
+use Rattle.record.specs.Classes.{classDirection}
 use Rattle.record.specs.Missing.{between, present, optional}
-use Rattle.synop_groups.specs.Classes.{classBase, classSight, classIndicators, classDirection, classWind, unsignedPosition, inTwo, windInTwo}
+use Rattle.synop_groups.specs.Classes.{classBase, classSight, classIndicators, classWind, unsignedPosition, inTwo, windInTwo}
 use Rattle.synop_groups.proofs.RoundTripParts.{Part, at, parts}
 use Rattle.synop_groups.proofs.RoundTripFields.{in-range, chosen, oneFigure, one-fits, part-is}
-use Rattle.synop_groups.proofs.RoundTripScales.{base-fits, base-is, base-again, base-classed, sight-fits, sight-is, sight-again, sight-classed, direction-written, direction-classed}
+use Rattle.synop_groups.proofs.RoundTripScales.{base-fits, base-is, base-again, base-classed, sight-fits, sight-is, sight-again, sight-classed}
 
 -- A group that has the shape, and says what is meant.
 pub record Stands (shape : Pattern) (says : Group → Said) (meant : Said) (g : Group) : Type 0 where
@@ -246,9 +248,9 @@ blows n (direction.Degrees d) s f a =
     record {
       figure = w .0;
       written = rw (w .1);
-      again = rw (w .1, back, direction-rounds .again d (w .0) (w .1));
+      again = rw (direction-rounds .again d (w .0) (w .1));
       small = omega (arith, w .3);
-      read = rw (w .1, back, ne-eqb (w .0) 0 (λ q. omega (arith, w .2)), ne-eqb (w .0) 99 (λ q. omega (arith, w .3)), two-figures s .1, a);
+      read = rw (back, ne-eqb (w .0) 0 (λ q. omega (arith, w .2)), ne-eqb (w .0) 99 (λ q. omega (arith, w .3)), two-figures s .1, a);
     }
 
 -- what is judged fine: each part is in range, and they agree
@@ -324,4 +326,4 @@ wind-classed w e =
     go (direction.Degrees d) speed.Missing f = absurd (false≢true f)
     go (direction.Degrees d) (speed.Is s) f =
         let t = both (leb d 359) (leb s 999) f in
-        (rw (direction-classed d (leb-true d 359 (t .0)), t .1), refl)
+        (rw (le-leb (roundedDirection d) 359 (omega (arith, rounded-below d)), t .1), refl)

@@ -6,18 +6,8 @@ use lib.Dec.{leb}
 use lib.IntN.{pos}
 use Rattle.scales.specs.Scale.{footOf}
 use Rattle.scales.specs.Metres.{land, sea, base}
-use Rattle.scales.specs.declared.kinds.Figure.{Figure}
-use Rattle.scales.specs.declared.kinds.Figure.the-variants as figure
-use Rattle.scales.specs.declared.kinds.Reading.{Reading}
-use Rattle.scales.specs.declared.kinds.Reading.the-variants as reading
-use Rattle.scales.specs.declared.kinds.Rain.{Rain}
-use Rattle.scales.specs.declared.kinds.RainReading.{RainReading}
-use Rattle.scales.specs.declared.kinds.RainReading.the-variants as amount
-use Rattle.scales.specs.Rounded.{rainFigure, rainReading, directionFigure, directionReading}
+use Rattle.scales.specs.Rounded.{roundedRain}
 use Rattle.record.specs.declared.values.Number.{Number}
-use Rattle.record.specs.declared.values.Number.the-variants as number
-use Rattle.record.specs.declared.values.Direction.{Direction}
-use Rattle.record.specs.declared.values.Direction.the-variants as direction
 use Rattle.record.specs.declared.values.Tenths.the-variants as signed
 use Rattle.record.specs.declared.values.Speed.{Speed}
 use Rattle.record.specs.declared.values.Speed.the-variants as speed
@@ -29,13 +19,13 @@ use Rattle.record.specs.declared.surface.Wind.{Wind}
 use Rattle.record.specs.declared.surface.Fall.{Fall}
 use Rattle.record.specs.declared.surface.Fall.the-variants as fall
 use Rattle.record.specs.declared.surface.Rainfall.{Rainfall}
+use Rattle.record.specs.Classes.{classOn, classDirection}
 use Rattle.synop_groups.specs.Shows.{magnitudeOf}
 
 -- ---- h and VV: the foot of the class
 
 abbrev pub classBase : Number → Number
-classBase number.Missing = number.Missing
-classBase (number.Is m) = number.Is (footOf base m)
+classBase = classOn base
 
 abbrev pub classSight : Sight → Sight
 classSight sight.Missing = sight.Missing
@@ -45,39 +35,14 @@ classSight (sight.Sea m) = sight.Sea (footOf sea m)
 abbrev pub classIndicators : Indicators → Indicators
 classIndicators i = record { rain = i .rain; weather = i .weather; base = classBase (i .base); sight = classSight (i .sight) }
 
--- ---- direction and rain: the reading of the figure that is written; a value that has none stays
-
-abbrev pub readingOr : ℕ → Reading → ℕ
-readingOr d (reading.Is n) = n
-readingOr d reading.Unused = d
-
-abbrev pub degreesBy : ℕ → Figure → ℕ
-degreesBy d (figure.Is f) = readingOr d (directionReading f)
-degreesBy d figure.OutOfRange = d
-
-abbrev pub classDirection : Direction → Direction
-classDirection direction.Missing = direction.Missing
-classDirection direction.Calm = direction.Calm
-classDirection direction.Variable = direction.Variable
-classDirection (direction.Degrees d) = direction.Degrees (degreesBy d (directionFigure d))
+-- ---- direction and rain
 
 abbrev pub classWind : Wind → Wind
 classWind w = record { cover = w .cover; direction = classDirection (w .direction); speed = w .speed }
 
-abbrev pub amountOr : Rain → RainReading → Rain
-amountOr r (amount.Is a) = a
-amountOr r amount.Unused = r
-
-abbrev pub rainBy : Rain → Figure → Rain
-rainBy r (figure.Is f) = amountOr r (rainReading f)
-rainBy r figure.OutOfRange = r
-
-abbrev pub classRain : Rain → Rain
-classRain r = rainBy r (rainFigure r)
-
 abbrev pub classFall : Fall → Fall
 classFall fall.Missing = fall.Missing
-classFall (fall.Is r t) = fall.Is (classRain r) t
+classFall (fall.Is r t) = fall.Is (roundedRain r) t
 
 abbrev pub classRainfall : Rainfall → Rainfall
 classRainfall r = record { is = classFall (r .is) }

@@ -11,8 +11,7 @@ use Rattle.figures.specs.Figures.{isFigure, isLetter, every}
 use Rattle.figures.specs.Signed.{negative}
 use Rattle.text.specs.declared.kinds.Judged.{Judged}
 use Rattle.text.specs.Judge.{judge}
-use Rattle.scales.specs.declared.kinds.Rain.{Rain}
-use Rattle.scales.specs.declared.kinds.Rain.the-variants as rain
+use Rattle.scales.specs.Rounded.{rainFits}
 use Rattle.record.specs.declared.values.Number.{Number}
 use Rattle.record.specs.declared.values.Number.the-variants as number
 use Rattle.record.specs.declared.values.Tenths.{Tenths as Signed}
@@ -180,13 +179,9 @@ changeAgrees (change.Is a c) = changeSuits a c
 unfoldable pub judgeTendency : Tendency → Judged
 judgeTendency t = judge (changeFits (t .is)) (changeAgrees (t .is))
 
-abbrev pub amountFits : Rain → Bool
-amountFits rain.Trace = true
-amountFits (rain.Tenths t) = between 1 99999 t
-
 abbrev pub fallFits : Fall → Bool
 fallFits fall.Missing = true
-fallFits (fall.Is r t) = amountFits r && optional (between 0 9) t
+fallFits (fall.Is r t) = rainFits r && optional (between 0 9) t
 
 -- forbidden: iR is not 0 or 1
 unfoldable pub judgeRainfall : Bool → Rainfall → Judged

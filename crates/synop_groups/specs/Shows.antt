@@ -12,10 +12,9 @@ use Rattle.figures.specs.declared.kinds.Field.the-variants as field
 use Rattle.figures.specs.Quote.{bytes}
 use Rattle.figures.specs.Figures.{figures, fieldText}
 use Rattle.figures.specs.Signed.{negative}
-use Rattle.scales.specs.declared.kinds.Figure.{Figure}
-use Rattle.scales.specs.declared.kinds.Figure.the-variants as figure
 use Rattle.scales.specs.Metres.{land, sea, base, metresFigure}
 use Rattle.scales.specs.Rounded.{rainFigure, directionFigure}
+use Rattle.scales.specs.Fields.{fieldBy}
 use Rattle.record.specs.declared.values.Number.{Number}
 use Rattle.record.specs.declared.values.Number.the-variants as number
 use Rattle.record.specs.declared.values.Tenths.{Tenths as Signed}
@@ -57,14 +56,10 @@ use Rattle.synop_groups.specs.Reads.{Group}
 
 -- ---- parts
 
--- a number as a field; the figure of a scale as a field (a value out of range has none)
+-- a number as a field
 abbrev pub fieldOf : Number → Field
 fieldOf number.Missing = field.Missing
 fieldOf (number.Is n) = field.Number n
-
-abbrev pub fieldBy : Figure → Field
-fieldBy (figure.Is f) = field.Number f
-fieldBy figure.OutOfRange = field.Other
 
 abbrev pub magnitudeOf : Signed → ℕ
 magnitudeOf signed.Missing = 0

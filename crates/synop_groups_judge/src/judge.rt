@@ -30,8 +30,9 @@ use synop_groups::sign::slots_fit;
 use text::judge::judge;
 use text::kinds::Judged;
 ghost use mathlib.Core.Path.{_≡_};
+ghost use Rattle.scales.specs.Rounded.{rainFits};
 ghost use Rattle.synop_groups.specs.Judge.{unitFits, latitudeFits, longitudeFits, sightFits, speedFits, windFits, isStill, windAgrees};
-ghost use Rattle.synop_groups.specs.Judge.{tenthsFit, moistFits, heightFits, changeFits, changeSuits, changeAgrees, amountFits, fallFits, clockFits};
+ghost use Rattle.synop_groups.specs.Judge.{tenthsFit, moistFits, heightFits, changeFits, changeSuits, changeAgrees, fallFits, clockFits};
 ghost use Rattle.synop_groups.specs.Judge.{judgeTime, judgeStation, judgeSign, judgePosition, judgeIndicators, judgeWind};
 ghost use Rattle.synop_groups.specs.Judge.{judgeAir, judgeMoisture, judgePressure, judgeLevel, judgeTendency, judgeRainfall, judgeWeather, judgeClouds, judgeClock};
 
@@ -277,7 +278,7 @@ pub fn judge_tendency(t: Tendency) -> Judged
 }
 
 fn amount_fits(r: Rain) -> bool
-    ensures { λ b. ⌜ b ≡ amountFits r ⌝ }
+    ensures { λ b. ⌜ b ≡ rainFits r ⌝ }
 {
     match r {
         Rain::Trace => true,

@@ -1,13 +1,14 @@
 -- THE ROUND TRIP OF SYNOP AND SHIP, at the level of the text: the canonical text of a record that the writer accepts is read back whole, as the record
 -- with each rounded number the reading of its class; written again it is the same text.
 -- Assumes nothing.
-use Prim.Native.Nat.{ℕ, _+_, _≤_}
+use Prim.Native.Nat.{ℕ, _≤_}
 use native.Mathlib.Omega.{arith}
 use mathlib.Core.Path.{_≡_, refl, sym, ap, _∙_}
 use mathlib.Core.Bool.{Bool, true, false, not, cond, _&&_, _||_, false≢true}
 use mathlib.Core.List.{List, [], _∷_, _++_}
 use lib.ListN.{length, drop}
 use borrow.Author.Tests.{not-true}
+use Rattle.figures.proofs.Impossible.{impossible}
 use Rattle.figures.specs.Quote.{bytes}
 use Rattle.text.specs.declared.kinds.Refusal.the-variants as refusal
 use Rattle.text.specs.declared.kinds.Tail.the-variants.{Clear}
@@ -29,13 +30,13 @@ use Rattle.record.specs.Missing.{isMissing}
 use Rattle.record.proofs.Blanks.{number-blank}
 use Rattle.record.specs.SilentSurface.{noSign, noPosition, noSurface}
 use Rattle.record.proofs.SurfaceBlanks.{sign-blank, position-blank, surface-blank}
-use Rattle.synop_groups.specs.Judge.{judgeIndicators, judgeWind, windFits, fallFits}
+use Rattle.synop_groups.specs.Judge.{judgeIndicators, judgeWind, windFits}
 use Rattle.synop_groups.proofs.RoundTripHead.{wind-fine, indicators-again, indicators-classed, wind-again, wind-classed}
 use Rattle.synop_row.specs.Row.{needsOf, row}
 use Rattle.synop_section.specs.Answer.{section, begun}
 use Rattle.synop.specs.Read.{walk, groupsRead}
 use Rattle.synop.specs.Write.{foreignBlank, judgeSite, judgeSection, judgeSurface, judgeOf, siteGroups, surfaceGroups, groupsOf, canonicalOf, classedOf}
-use Rattle.synop_laws.proofs.Sections.{classedSurface, section-back, section-fall, section-sizes, section-again, section-classed}
+use Rattle.synop_laws.proofs.Sections.{classedSurface, section-back, section-sizes, section-again, section-classed}
 use Rattle.synop_laws.proofs.Heads.{shown, putPosts, walk-stood, sitePosts, surfacePosts, posts-are, site-stood, surface-stood, site-sizes, surface-sizes}
 
 -- ---- what is judged fine
@@ -48,7 +49,7 @@ record Fair (r : Synop) : Type 0 where
 
 blank-fine : (b : Bool) → cond b judged.Fine (judged.Refused refusal.Value) ≡ judged.Fine → b ≡ true
 blank-fine true e = refl
-blank-fine false e = let z : _≡_ {A = ℕ} 0 1 = cc in absurd (omega arith)
+blank-fine false e = impossible (cc)
 
 fair : (r : Synop) → judgeOf r ≡ judged.Fine → Fair r
 unfolding judgeOf
@@ -90,15 +91,13 @@ module _ (r : Synop) (e : foreignBlank r ≡ true) where
   foreign-nil : r .site .nil ≡ true → noSurface (r .surface) ≡ true
   foreign-nil is = rw is at (foreign-parts .1)
 
--- the wind and the rain of such a record are in range, or missing
-pub parts-fit : (r : Synop) → judgeOf r ≡ judged.Fine → (windFits (r .surface .wind .direction) (r .surface .wind .speed) ≡ true) × (fallFits (r .surface .rainfall .is) ≡ true)
-parts-fit r e = go (r .site .nil) refl
+-- the wind of such a record is in range, or missing
+pub wind-fits : (r : Synop) → judgeOf r ≡ judged.Fine → windFits (r .surface .wind .direction) (r .surface .wind .speed) ≡ true
+wind-fits r e = go (r .site .nil) refl
   where
-    go : (nil : Bool) → r .site .nil ≡ nil → (windFits (r .surface .wind .direction) (r .surface .wind .speed) ≡ true) × (fallFits (r .surface .rainfall .is) ≡ true)
-    go true n = rw (surface-blank (r .surface) (foreign-nil r (fair r e .blank) n)) (refl, refl)
-    go false n =
-        let s = fair-surface (r .surface) (rw n at (fair r e .surface)) in
-        (wind-fine (r .surface .wind) (s .wind) .1, section-fall (r .surface) (s .section))
+    go : (nil : Bool) → r .site .nil ≡ nil → windFits (r .surface .wind .direction) (r .surface .wind .speed) ≡ true
+    go true n = rw (surface-blank (r .surface) (foreign-nil r (fair r e .blank) n))
+    go false n = wind-fine (r .surface .wind) (fair-surface (r .surface) (rw n at (fair r e .surface)) .wind) .1
 
 -- ---- the groups of the site
 
@@ -137,9 +136,9 @@ groups-are ship r is = rw (site-groups ship r is)
 nil-back : (r : Synop) (end : ℕ) (gs : List Piece) → pieceGroups gs ≡ bytes "NIL" ∷ []
     → walk (surfacePosts false) (siteRead r) Clear end gs ≡ Done end (record { ship = r .ship; site = setNil true (r .site); surface = blankSurface })
 unfolding walk hasPattern fits low high
-nil-back r end [] are = let z : _≡_ {A = ℕ} 0 1 = cc in absurd (omega arith)
+nil-back r end [] are = impossible (cc)
 nil-back r end (g ∷ []) are = let here : g .bytes ≡ bytes "NIL" = cc in rw here
-nil-back r end (g ∷ h ∷ gs) are = let z : _≡_ {A = ℕ} 0 1 = cc in absurd (omega arith)
+nil-back r end (g ∷ h ∷ gs) are = impossible (cc)
 
 surface-back : (ship : Bool) (r : Synop) (end : ℕ) (gs : List Piece) → FairSurface (r .surface) → pieceGroups gs ≡ surfaceGroups (r .surface)
     → walk (surfacePosts ship) (siteRead r) Clear end gs ≡ Done end (setSurface (classedSurface (r .surface)) (siteRead r))

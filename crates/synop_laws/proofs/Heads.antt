@@ -1,11 +1,12 @@
 -- The groups through Nddff as a whole: what is written of a record that is judged fine has the shape of its position and is read back.
 -- Assumes nothing.
-use Prim.Native.Nat.{ℕ, _+_}
+use Prim.Native.Nat.{ℕ}
 use native.Mathlib.Omega.{arith}
 use mathlib.Core.Path.{_≡_, refl}
 use mathlib.Core.Bool.{Bool, true, false, not, _&&_, and-false}
 use mathlib.Core.List.{List, [], _∷_, _++_}
 use lib.ListN.{length}
+use Rattle.figures.proofs.Impossible.{impossible}
 use Rattle.figures.specs.Quote.{bytes}
 use Rattle.text.specs.declared.kinds.Tail.{Tail}
 use Rattle.text.specs.Groups.{Piece}
@@ -52,7 +53,7 @@ pub walk-stood : (ps qs : List Post) (r acc : Synop) (tail : Tail) (end : ℕ) (
     → walk (ps ++ qs) acc tail end gs ≡ x
 unfolding walk
 walk-stood [] qs r acc tail end gs after x s are f = f gs are
-walk-stood (p ∷ ps) qs r acc tail end [] after x s are f = let z : _≡_ {A = ℕ} 0 1 = cc in absurd (omega arith)
+walk-stood (p ∷ ps) qs r acc tail end [] after x s are f = impossible (cc)
 walk-stood (p ∷ ps) qs r acc tail end (g ∷ gs) after x s are f =
     let here : g .bytes ≡ p .show r = cc in
     let rest : groupsOf gs ≡ shown ps r ++ after = cc in

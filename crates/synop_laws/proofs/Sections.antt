@@ -4,7 +4,7 @@ use Prim.Native.Nat.{ℕ, _<_}
 use Prim.Native.String.{String}
 use native.Mathlib.Omega.{arith}
 use mathlib.Core.Path.{_≡_, refl, sym, ap, _∙_}
-use mathlib.Core.Bool.{Bool, true, false, not, _&&_, _||_, or-true, false≢true}
+use mathlib.Core.Bool.{Bool, true, false, not, _&&_, or-true, false≢true}
 use mathlib.Core.List.{List, [], _∷_}
 use mathlib.Core.Logic.{⊎-elim}
 use lib.ListN.{length, replicate}
@@ -12,7 +12,7 @@ use borrow.Author.Tests.{le-leb, lt-leb}
 use Rattle.figures.specs.Quote.{bytes}
 use Rattle.text.specs.declared.kinds.Tail.the-variants.{Clear}
 use Rattle.text.specs.Groups.{Piece}
-use Rattle.text.proofs.Judging.{fine, and-then}
+use Rattle.text.proofs.Judging.{and-then}
 use Rattle.shapes.specs.Pattern.{Pattern, low, high, hasPattern, hasAny, clash, clashEach, allApart}
 use Rattle.places.specs.Engine.{Group, Good, Done, Place, written, putAll}
 use Rattle.places.proofs.ReadBack.{All, one-pattern, sound, Covered, Served, groupsOf, read-back}
@@ -29,7 +29,7 @@ use Rattle.synop_groups.specs.declared.kinds.Said.{Said}
 use Rattle.text.specs.declared.kinds.Judged.the-variants as judged
 use Rattle.synop_groups.specs.Classes.{classIndicators, classWind, classRainfall}
 use Rattle.synop_groups.specs.Shows.{isGale, speedGroup, showSpeed}
-use Rattle.synop_groups.specs.Judge.{fallFits, judgeWind, judgeAir, judgeMoisture, judgePressure, judgeLevel, judgeTendency, judgeRainfall, judgeWeather, judgeClouds, judgeClock}
+use Rattle.synop_groups.specs.Judge.{judgeWind, judgeAir, judgeMoisture, judgePressure, judgeLevel, judgeTendency, judgeRainfall, judgeWeather, judgeClouds, judgeClock}
 use Rattle.record.specs.SilentSurface.{noFall}
 use Rattle.synop_groups.specs.Classes.{speedInTwo, windInTwo}
 use Rattle.synop_groups.proofs.RoundTrip.{Back, none, one, Each, back-shaped, meantSpeed, speed-back, air-back, moisture-back, moisture-covered, pressure-back, level-back, tendency-back, rainfall-back, weather-back, clouds-back, clock-back, rainfall-again, rainfall-classed}
@@ -162,10 +162,6 @@ section-fine n s e =
       clouds = c .0;
       clock = c .1;
     }
-
-pub section-fall : (s : Surface) → judgeSection (needsOf s) s ≡ judged.Fine → fallFits (s .rainfall .is) ≡ true
-unfolding judgeRainfall
-section-fall s e = fine (fallFits (s .rainfall .is)) (not (not (needsOf s .rain)) || noFall (s .rainfall .is)) (section-fine (needsOf s) s e .rainfall) .0
 
 speed-meant : (x : Speed) (s : Surface) → 0 < length (speedGroup x) → withSaid (meantSpeed x) s ≡ Good (setSpeed x s)
 unfolding withSaid

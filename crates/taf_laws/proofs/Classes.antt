@@ -17,7 +17,8 @@ use Rattle.record.specs.declared.aerodrome.Visibility.{Visibility}
 use Rattle.record.specs.declared.aerodrome.Leg.{Leg}
 use Rattle.record.specs.declared.aerodrome.Change.{Change}
 use Rattle.record.specs.Taf.{blankLeg}
-use Rattle.elements.specs.Wind.{showWind, judgeWind, classDirection, classWind}
+use Rattle.record.specs.Classes.{classDirection}
+use Rattle.elements.specs.Wind.{showWind, judgeWind, classWind}
 use Rattle.record.specs.Missing.{noDirection}
 use Rattle.record.specs.SilentAerodrome.{isBlankWind, noView, noInstant}
 use Rattle.record.proofs.AerodromeBlanks.{wind-blank, visibility-blank}

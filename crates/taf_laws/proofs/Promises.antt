@@ -23,7 +23,8 @@ use Rattle.record.specs.SilentAerodrome.{isBlankWind, noView}
 use Rattle.record.proofs.AerodromeBlanks.{wind-blank, LegBare, visibility-blank}
 use Rattle.record.specs.Arrays.{TafArrays}
 use Rattle.elements.specs.Visibility.{viewFits, judgeVisibility, classView}
-use Rattle.wind.proofs.Promises.{DirectionNear, no-direction, wind-near, ViewRead, visibility-read}
+use Rattle.record.proofs.Near.{DirectionNear, no-direction}
+use Rattle.wind.proofs.Promises.{wind-near, ViewRead, visibility-read}
 use Rattle.sky.proofs.Promises.{SkyBack, sky-read}
 use Rattle.taf_row.specs.declared.kinds.Part.{Part}
 use Rattle.taf_row.specs.declared.kinds.Part.the-variants as part

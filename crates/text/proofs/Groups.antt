@@ -4,10 +4,10 @@ use mathlib.Core.Path.{_≡_, refl, sym, ap, _∙_, subst}
 use mathlib.Core.Bool.{Bool, true, false, false≢true}
 use mathlib.Core.List.{List, [], _∷_}
 use Prim.Native.Nat.{ℕ, zero, suc, _+_, _-_, _≤_, _<_}
-use native.Mathlib.Nat.{add-zero, add-suc, suc-add, add-sub-cancel-left}
+use native.Mathlib.Nat.{add-zero, add-suc, suc-add, add-sub-cancel-left, sub-self}
 use native.Mathlib.Omega.{arith}
 use lib.ListN.{length, getD, take, drop, drop-of-length-le, length-drop}
-use lib.Seq.{drop-cons, drop-drop, drop-nil, getD-drop, length-take-le}
+use lib.Seq.{drop-cons, drop-drop, drop-nil, getD-drop}
 use lib.Dec.{leb}
 use borrow.Author.Tests.{le-leb, lt-leb, leb-true, leb-false}
 use Rattle.text.specs.declared.kinds.Cut.{Cut}
@@ -21,9 +21,6 @@ pub part-is : (t : List ℕ) (s e : ℕ) → s ≤ e → e ≤ length t → part
 unfolding partOf
 part-is t s e h k = simp (le-leb s e h, le-leb e (length t) k)
 
-pub part-length : (t : List ℕ) (s e : ℕ) → s ≤ e → e ≤ length t → length (partOf t s e) ≡ e - s
-part-length t s e h k = ap length (part-is t s e h k) ∙ length-take-le (e - s) (drop s t) (omega (arith, length-drop s t))
-
 -- no part where it would end before its start, or past the text
 pub part-none : (t : List ℕ) (s e : ℕ) → e < s → partOf t s e ≡ []
 unfolding partOf
@@ -32,6 +29,14 @@ part-none t s e h = simp (lt-leb s e h)
 pub part-over : (t : List ℕ) (s e : ℕ) → s ≤ e → length t < e → partOf t s e ≡ []
 unfolding partOf
 part-over t s e h k = simp (le-leb s e h, lt-leb e (length t) k)
+
+-- a part from a position up to itself is empty
+pub part-nothing : (t : List ℕ) (at : ℕ) → partOf t at at ≡ []
+part-nothing t at = go (leb at (length t)) refl
+  where
+    go : (b : Bool) → leb at (length t) ≡ b → partOf t at at ≡ []
+    go true e = part-is t at at (omega arith) (leb-true _ _ e) ∙ ap (λ (k : ℕ). take k (drop at t)) (sub-self at)
+    go false e = part-over t at at (omega arith) (leb-false _ _ e)
 
 -- ---- the next group: its four cases, as the code comes to them
 cut-end : (t : List ℕ) (s : ℕ) → length t ≤ s → cutAt s (drop s t) ≡ End s

@@ -3,8 +3,8 @@
 -- Assumes nothing.
 use mathlib.Core.Path.{_≡_, refl, sym, ap, _∙_}
 use mathlib.Core.Bool.{Bool, true, false, false≢true, or-true}
-use mathlib.Core.List.{List, [], _∷_, _++_, map, append-assoc, append-nil}
-use Prim.Native.Nat.{ℕ, suc, _+_, _-_, _≤_, _<_}
+use mathlib.Core.List.{List, [], _∷_, _++_, map, append-assoc}
+use Prim.Native.Nat.{ℕ, suc, _+_, _≤_, _<_}
 use native.Mathlib.Nat.{add-zero, suc-add, zero-add, sub-zero}
 use native.Mathlib.Numerals.{add-one}
 use native.Mathlib.Omega.{arith}
@@ -166,31 +166,9 @@ unfolding spaced written
 spaced-written n [] = refl
 spaced-written n (g ∷ gs) = rw (suc-add n (suc (length g)), ← spaced-written (n + suc (length g)) gs)
 
-spaced-append : (gs hs : List (List ℕ)) → spaced (gs ++ hs) ≡ spaced gs ++ spaced hs
-unfolding spaced
-spaced-append [] hs = refl
-spaced-append (g ∷ gs) hs = ap (λ (l : List ℕ). 32 ∷ l) (ap (λ (l : List ℕ). g ++ l) (spaced-append gs hs) ∙ sym (append-assoc g (spaced gs) (spaced hs)))
-
 -- the canonical text is what the groups add to an empty one
 pub parted-written : (gs : List (List ℕ)) → Wholes gs → parted gs ≡ written 0 gs
 unfolding parted written
 parted-written [] w = refl
 parted-written ([] ∷ gs) w = absurd (w .0 .0)
 parted-written ((x ∷ g) ∷ gs) w = rw (zero-add (suc (length g)), ← spaced-written (length g) gs)
-
--- groups after a first one
-parted-after : (g : List ℕ) (gs hs : List (List ℕ)) → Whole g → parted ((g ∷ gs) ++ hs) ≡ parted (g ∷ gs) ++ written (length (parted (g ∷ gs))) hs
-unfolding parted
-parted-after [] gs hs w = absurd (w .0)
-parted-after (x ∷ g) gs hs w = rw (← spaced-written (length (g ++ spaced gs)) hs, spaced-append gs hs, append-assoc g (spaced gs) (spaced hs))
-
-pub parted-append : (gs hs : List (List ℕ)) → Wholes gs → Wholes hs → parted (gs ++ hs) ≡ parted gs ++ written (length (parted gs)) hs
-unfolding parted
-parted-append [] hs v w = parted-written hs w
-parted-append (g ∷ gs) hs v w = parted-after g gs hs (v .0)
-
--- one group more
-pub parted-snoc : (gs : List (List ℕ)) (g : List ℕ) → Wholes gs → parted (gs ++ (g ∷ [])) ≡ parted gs ++ (opening (length (parted gs)) ++ g)
-unfolding parted written spaced
-parted-snoc [] g w = append-nil g
-parted-snoc (h ∷ gs) g w = parted-after h gs (g ∷ []) (w .0) ∙ ap (λ (l : List ℕ). parted (h ∷ gs) ++ l) (append-nil _)

@@ -1,21 +1,15 @@
 -- Walking a text gives its groups, one after another: what stands at a position is the first of the groups from there on, and the others are those
 -- from where the walk goes on.
 -- Assumes nothing.
-use mathlib.Core.Path.{_≡_, refl, ap, _∙_}
-use mathlib.Core.Bool.{Bool, true, false}
+use mathlib.Core.Path.{_≡_, refl}
 use mathlib.Core.List.{List, []}
 use Prim.Native.Nat.{ℕ}
-use native.Mathlib.Nat.{sub-self}
-use native.Mathlib.Omega.{arith}
-use lib.ListN.{length, take, drop}
-use lib.Dec.{leb}
-use borrow.Author.Tests.{leb-true, leb-false}
 use Rattle.figures.specs.Quote.{bytes}
 use Rattle.text.specs.Bytes.{lead}
-use Rattle.text.specs.Groups.{groupsFrom, cutAt, pastParting, nextOf, partOf}
+use Rattle.text.specs.Groups.{groupsFrom, cutAt, pastParting, nextOf}
 use Rattle.text.specs.declared.kinds.Cut.{Cut}
 use Rattle.text.specs.declared.kinds.Cut.the-variants.{Group, End}
-use Rattle.text.proofs.Groups.{NextLaw, next-law, part-is, part-over}
+use Rattle.text.proofs.Groups.{NextLaw, next-law}
 use Rattle.walker.specs.Walk.{afterOf, givenFrom}
 
 pub walked : (t : List ℕ) (at : ℕ) → groupsFrom t at ≡ givenFrom t (nextOf t at) (groupsFrom t (afterOf (nextOf t at)))
@@ -24,14 +18,6 @@ walked t at = go (nextOf t at) (next-law t at)
     go : (cut : Cut) → NextLaw t at cut → groupsFrom t at ≡ givenFrom t cut (groupsFrom t (afterOf cut))
     go (Group s e) law = law .groups
     go (End e) law = law
-
--- a part from a position up to itself is empty
-pub part-nothing : (t : List ℕ) (at : ℕ) → partOf t at at ≡ []
-part-nothing t at = go (leb at (length t)) refl
-  where
-    go : (b : Bool) → leb at (length t) ≡ b → partOf t at at ≡ []
-    go true e = part-is t at at (omega arith) (leb-true _ _ e) ∙ ap (λ (k : ℕ). take k (drop at t)) (sub-self at)
-    go false e = part-over t at at (omega arith) (leb-false _ _ e)
 
 -- a walker that always says End is shut out: here a group stands
 pub gives-a-group : nextOf (bytes " AAXX 24124=") 0 ≡ Group 1 5

@@ -10,6 +10,7 @@ use Rattle.shapes.specs.Pattern.{low, high, fits, hasPattern}
 use Rattle.shapes.specs.Shape.{leading, split, partsOf, begins, valueOf, pickOf, scanParts, answered, scanOf}
 use Rattle.places.specs.Engine.{Read, Good}
 use Rattle.scales.specs.Scale.{run, readIn}
+use Rattle.scales.specs.Rounded.{directionReading}
 use Rattle.scales.specs.Metres.{visibility, metresReading}
 use Rattle.record.specs.declared.values.Direction.{Direction}
 use Rattle.record.specs.declared.values.Direction.the-variants as direction
@@ -36,19 +37,19 @@ winds : map (readWind false)
     ∷ steady (direction.Degrees 270) 150
     ∷ Good (noWind unit.Knots)
     ∷ []
-unfolding windBy readWind scanOf answered scanParts partsOf split leading begins fits low high pickOf valueOf fieldAt scan
+unfolding windBy readWind scanOf answered scanParts partsOf split leading begins fits low high pickOf valueOf fieldAt scan directionReading
 winds = refl
 
 -- no ten, three figures below 100, slashes in part
 wrong-winds : map (readWind false) (bytes "27515KT" ∷ bytes "270015KT" ∷ bytes "VRB//KT" ∷ bytes "//////KT" ∷ bytes "/////G20KT" ∷ [])
     ≡ wrong ∷ wrong ∷ wrong ∷ wrong ∷ wrong ∷ []
-unfolding windBy readWind scanOf answered scanParts partsOf split leading begins fits low high pickOf valueOf fieldAt scan
+unfolding windBy readWind scanOf answered scanParts partsOf split leading begins fits low high pickOf valueOf fieldAt scan directionReading
 wrong-winds = refl
 
 -- a gust not above the mean or with calm, 000 or a zero speed without the other
 winds-at-odds : map (readWind false) (bytes "27015G15KT" ∷ bytes "00000G20KT" ∷ bytes "00005KT" ∷ bytes "27000KT" ∷ [])
     ≡ disagrees ∷ disagrees ∷ disagrees ∷ disagrees ∷ []
-unfolding windBy readWind scanOf answered scanParts partsOf split leading begins fits low high pickOf valueOf fieldAt scan
+unfolding windBy readWind scanOf answered scanParts partsOf split leading begins fits low high pickOf valueOf fieldAt scan directionReading
 winds-at-odds = refl
 
 -- the missing form is 5 in a TAF
@@ -58,7 +59,7 @@ no-forecast = refl
 
 variations : map readVariation (bytes "350V010" ∷ bytes "360V090" ∷ bytes "000V010" ∷ bytes "010V010" ∷ [])
     ≡ Good (record { is = extremes.Between 350 10 }) ∷ Good (record { is = extremes.Between 0 90 }) ∷ wrong ∷ disagrees ∷ []
-unfolding readVariation fieldAt scan
+unfolding readVariation fieldAt scan directionReading
 variations = refl
 
 abbrev sees : View → Read Visibility

@@ -1,6 +1,5 @@
 -- Laws of wind, variation and visibility.
 pub mod Readings
-pub mod DirectionLaws
 pub mod VisibilityLaws
 pub mod RoundTripWind
 pub mod RoundTripVariation

@@ -1,44 +1,65 @@
--- What a group's parts come to, as the code finds them: a field that is no number, a gust by what its figures are read as, a wind by its parts.
+-- What a group's parts come to, as the code finds them: three figures that are read as a direction or not, a gust by what its figures are read as, a wind by its parts.
 -- Assumes nothing.
-use Prim.Native.Nat.{ℕ}
-use native.Mathlib.Omega.{arith}
-use mathlib.Core.Path.{_≡_, refl, sym, _∙_}
-use mathlib.Core.List.{[], _∷_}
+use Prim.Native.Nat.{ℕ, _%_}
+use mathlib.Core.Path.{_≡_, refl, sym, ap, _∙_}
+use mathlib.Core.Bool.{Bool, true, false, cond, _&&_, false≢true}
+use lib.Dec.{leb, eqb}
 use borrow.Author.Tests.{ne-eqb}
-use types.Run.{OneOf, miss}
-use denote.Enum.Declared.{tagOf}
-use Rattle.figures.proofs.kinds.Field.{the-type}
-use Rattle.figures.specs.declared.kinds.Field.{Field}
-use Rattle.figures.specs.declared.kinds.Field.the-variants as field
+use Rattle.figures.proofs.Impossible.{impossible}
 use Rattle.text.specs.declared.kinds.Refusal.{Refusal}
 use Rattle.shapes.specs.declared.kinds.Value.{Value}
+use Rattle.shapes.proofs.Patterns.{both}
+use Rattle.scales.specs.declared.kinds.Reading.{Reading}
+use Rattle.scales.specs.declared.kinds.Reading.the-variants as reading
+use Rattle.scales.specs.Rounded.{dddReading}
+use Rattle.scales.proofs.DirectionLaws.{ddd-is}
 use Rattle.places.specs.Engine.{Read, Good, Bad}
 use Rattle.record.specs.declared.values.Direction.{Direction}
 use Rattle.record.specs.declared.values.Speed.{Speed}
 use Rattle.record.specs.declared.values.Speed.the-variants as speed
 use Rattle.record.specs.declared.aerodrome.Unit.{Unit}
-use Rattle.elements.specs.Parts.{wrong, figured, agreeing, then}
+use Rattle.elements.specs.Parts.{wrong, used, agreeing, then}
 use Rattle.elements.specs.Wind.{speedOf, gustOf, windAgrees, windWith}
 use Rattle.wind.specs.declared.kinds.FiguresRead.{FiguresRead}
 use Rattle.wind.specs.declared.kinds.FiguresRead.the-variants as found
 use Rattle.wind.specs.declared.kinds.SpeedRead.the-variants as gust
-use Rattle.wind.specs.Parts.{asDirection, asFigures, asSpeed, windOf}
+use Rattle.wind.specs.Parts.{asDirection, asFigures, asSpeed, windOf, isUsed}
 
--- a field that is no number, where one has to be
-pub no-figure : {A : Type 0} (f : Field) → OneOf (1 ∷ 2 ∷ 3 ∷ []) (tagOf the-type f) → (k : ℕ → Read A) → figured f k ≡ wrong
-no-figure (field.Number n) h k = absurd (miss (1 ∷ 2 ∷ 3 ∷ []) 0 tt h)
-no-figure field.Missing h k = refl
-no-figure field.Mixed h k = refl
-no-figure field.Other h k = refl
+-- ---- three figures that are read as a direction, and two groups of them of which one is not
+
+pub ddd-test : (d : ℕ) → (eqb (d % 10) 0 && leb 10 d && leb d 360) ≡ isUsed (dddReading d)
+ddd-test d = go (eqb (d % 10) 0 && leb 10 d && leb d 360) ∙ ap isUsed (sym (ddd-is d))
+  where
+    go : (b : Bool) → b ≡ isUsed (cond b (reading.Is (d % 360)) reading.Unused)
+    go true = refl
+    go false = refl
+
+pub ddd-used : (d : ℕ) → isUsed (dddReading d) ≡ true → dddReading d ≡ reading.Is (d % 360)
+ddd-used d h = ddd-is d ∙ rw (ddd-test d ∙ h)
+
+pub not-used : (r : Reading) → isUsed r ≡ false → r ≡ reading.Unused
+not-used (reading.Is d) h = absurd (false≢true (sym h))
+not-used reading.Unused h = refl
+
+module _ {x y : Bool} (a b : ℕ) (first : x ≡ isUsed (dddReading a)) (second : y ≡ isUsed (dddReading b)) where
+  pub both-used : (x && y) ≡ true → (dddReading a ≡ reading.Is (a % 360)) × (dddReading b ≡ reading.Is (b % 360))
+  both-used h = let t = both x y h in (ddd-used a (sym first ∙ t .0), ddd-used b (sym second ∙ t .1))
+
+  pub not-both : {A : Type 0} (k : ℕ → ℕ → Read A) → (x && y) ≡ false → used (dddReading a) (λ d. used (dddReading b) (λ e. k d e)) ≡ wrong
+  not-both k h = go (dddReading a) (dddReading b) (rw (first, second) at h)
+    where
+      go : (q r : Reading) → (isUsed q && isUsed r) ≡ false → used q (λ d. used r (λ e. k d e)) ≡ wrong
+      go (reading.Is d) r h = rw (not-used r h)
+      go reading.Unused r h = refl
 
 -- ---- a gust, by what its figures are read as
 
 read-on : (x : Read ℕ) (n : ℕ) → asFigures x ≡ found.Good n → gust.Good (speed.Is n) ≡ asSpeed (then x (λ m. Good (speed.Is m)))
 read-on (Good m) n e = cc
-read-on (Bad f) n e = let z : _≡_ {A = ℕ} 0 1 = cc in absurd (omega arith)
+read-on (Bad f) n e = impossible (cc)
 
 refused-on : (x : Read ℕ) (f : Refusal) → asFigures x ≡ found.Bad f → gust.Bad f ≡ asSpeed (then x (λ m. Good (speed.Is m)))
-refused-on (Good m) f e = let z : _≡_ {A = ℕ} 0 1 = cc in absurd (omega arith)
+refused-on (Good m) f e = impossible (cc)
 refused-on (Bad g) f e = cc
 
 module _ (v : Value) (there : v .which ≡ 2 → ⊥) {s : FiguresRead} (asked : s ≡ asFigures (speedOf v)) where

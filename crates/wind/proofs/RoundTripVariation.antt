@@ -9,6 +9,7 @@ use mathlib.Core.List.{[], _∷_, _++_, append-assoc, append-nil}
 use lib.ListN.{length, length-append}
 use lib.Dec.{leb}
 use borrow.Author.Tests.{leb-true, le-leb}
+use Rattle.figures.proofs.Impossible.{impossible}
 use Rattle.figures.specs.Quote.{bytes}
 use Rattle.figures.specs.declared.kinds.Field.the-variants as field
 use Rattle.figures.specs.Figures.{figures, numberText, fieldText, fieldAt}
@@ -17,12 +18,13 @@ use Rattle.text.specs.declared.kinds.Judged.the-variants as judged
 use Rattle.text.proofs.Judging.{fine}
 use Rattle.shapes.specs.Pattern.{low, high, fits, hasPattern, hasAny}
 use Rattle.shapes.proofs.Patterns.{both, pattern-append, field-pattern}
+use Rattle.scales.specs.Rounded.{roundedDirection, dddFigure}
+use Rattle.scales.proofs.DirectionLaws.{rounded-below, ddd-most, ddd-back, ddd-again}
 use Rattle.places.specs.Engine.{Group, Good}
 use Rattle.record.specs.declared.aerodrome.Extremes.{Extremes}
 use Rattle.record.specs.declared.aerodrome.Extremes.the-variants as extremes
 use Rattle.record.specs.declared.aerodrome.Variation.{Variation}
-use Rattle.elements.specs.Wind.{variationShape, readVariation, degreesText, readDegrees, showVariation, extremesGroup, extremesFit, extremesAgree, judgeVariation, classExtremes, classVariation}
-use Rattle.wind.proofs.DirectionLaws.{text-is, text-tens, text-again, degrees-fit}
+use Rattle.elements.specs.Wind.{variationShape, readVariation, showVariation, extremesGroup, extremesFit, extremesAgree, judgeVariation, classExtremes, classVariation}
 
 pub variation-covered : (g : Group) → hasPattern g variationShape ≡ true → hasAny (variationShape ∷ []) g ≡ true
 unfolding hasAny
@@ -60,31 +62,28 @@ module _ (a b : ℕ) (h : a ≤ 360) (k : b ≤ 360) where
 
 -- ---- the extremes
 
-text-small : (d : ℕ) → leb d 359 ≡ true → degreesText d ≤ 360
-text-small d h = let w = text-is d (leb-true d 359 h) in omega arith
-
 group-shaped : (x : Extremes) → extremesFit x ≡ true → (g : Group) → extremesGroup x ≡ g ∷ [] → hasPattern g variationShape ≡ true
-group-shaped extremes.Missing h g s = let z : _≡_ {A = ℕ} 0 1 = cc in absurd (omega arith)
+group-shaped extremes.Missing h g s = impossible (cc)
 group-shaped (extremes.Between a b) h g s =
     let t = both (leb a 359) (leb b 359) h in
-    let same : pair (degreesText a) (degreesText b) (text-small a (t .0)) (text-small b (t .1)) ≡ g = cc in
-    rw same at (pair-shaped (degreesText a) (degreesText b) (text-small a (t .0)) (text-small b (t .1)))
+    let same : pair (dddFigure a) (dddFigure b) (ddd-most a) (ddd-most b) ≡ g = cc in
+    rw same at (pair-shaped (dddFigure a) (dddFigure b) (ddd-most a) (ddd-most b))
 
 group-back : (x : Extremes) → extremesFit x ≡ true → extremesAgree x ≡ true → (g : Group) → extremesGroup x ≡ g ∷ []
     → readVariation g ≡ Good (record { is = classExtremes x })
 unfolding readVariation
-group-back extremes.Missing h e g s = let z : _≡_ {A = ℕ} 0 1 = cc in absurd (omega arith)
+group-back extremes.Missing h e g s = impossible (cc)
 group-back (extremes.Between a b) h e g s =
     let t = both (leb a 359) (leb b 359) h in
-    let m = text-small a (t .0) in
-    let n = text-small b (t .1) in
-    let same : pair (degreesText a) (degreesText b) m n ≡ g = cc in
+    let m = ddd-most a in
+    let n = ddd-most b in
+    let same : pair (dddFigure a) (dddFigure b) m n ≡ g = cc in
     rw (
       ← same,
-      pair-from (degreesText a) (degreesText b) m n,
-      pair-to (degreesText a) (degreesText b) m n,
-      text-tens a (leb-true a 359 (t .0)),
-      text-tens b (leb-true b 359 (t .1)),
+      pair-from (dddFigure a) (dddFigure b) m n,
+      pair-to (dddFigure a) (dddFigure b) m n,
+      ddd-back a (leb-true a 359 (t .0)),
+      ddd-back b (leb-true b 359 (t .1)),
       e,
     )
 
@@ -92,21 +91,21 @@ group-again : (x : Extremes) → extremesFit x ≡ true → extremesGroup (class
 group-again extremes.Missing h = refl
 group-again (extremes.Between a b) h =
     let t = both (leb a 359) (leb b 359) h in
-    rw (text-again a (leb-true a 359 (t .0)), text-again b (leb-true b 359 (t .1)))
+    rw (ddd-again a (leb-true a 359 (t .0)), ddd-again b (leb-true b 359 (t .1)))
 
 fits-classed : (x : Extremes) → extremesFit (classExtremes x) ≡ true
 fits-classed extremes.Missing = refl
-fits-classed (extremes.Between a b) = rw (le-leb (readDegrees a) 359 (omega (arith, degrees-fit a)), le-leb (readDegrees b) 359 (omega (arith, degrees-fit b)))
+fits-classed (extremes.Between a b) = rw (le-leb (roundedDirection a) 359 (omega (arith, rounded-below a)), le-leb (roundedDirection b) 359 (omega (arith, rounded-below b)))
 
 agree-classed : (x : Extremes) → extremesFit x ≡ true → extremesAgree (classExtremes x) ≡ extremesAgree x
 agree-classed extremes.Missing h = refl
 agree-classed (extremes.Between a b) h =
     let t = both (leb a 359) (leb b 359) h in
-    rw (text-again a (leb-true a 359 (t .0)), text-again b (leb-true b 359 (t .1)))
+    rw (ddd-again a (leb-true a 359 (t .0)), ddd-again b (leb-true b 359 (t .1)))
 
 none-shown : (x : Extremes) → extremesGroup x ≡ [] → x ≡ extremes.Missing
 none-shown extremes.Missing s = refl
-none-shown (extremes.Between a b) s = let z : _≡_ {A = ℕ} 0 1 = cc in absurd (omega arith)
+none-shown (extremes.Between a b) s = impossible (cc)
 
 -- ---- the variation
 

@@ -1,11 +1,10 @@
 -- The visibility's round trip: what is judged fine is written as a group of a visibility's shape, read back as its class, and written the same again.
 -- Assumes nothing.
-use Prim.Native.Nat.{ℕ, _<_}
+use Prim.Native.Nat.{_<_}
 use native.Mathlib.Omega.{arith}
 use mathlib.Core.Path.{_≡_, refl}
 use mathlib.Core.Bool.{Bool, true, false}
 use mathlib.Core.List.{[], append-nil}
-use borrow.Author.Tests.{leb-true, le-leb}
 use Rattle.figures.specs.Quote.{bytes}
 use Rattle.figures.specs.declared.kinds.Field.{Field}
 use Rattle.figures.specs.declared.kinds.Field.the-variants as field
@@ -16,9 +15,9 @@ use Rattle.text.proofs.Judging.{fine}
 use Rattle.shapes.specs.Pattern.{low, high, fits, hasPattern, hasAny, clash}
 use Rattle.shapes.proofs.Patterns.{field-pattern, excluded}
 use Rattle.places.specs.Engine.{Good}
-use Rattle.scales.specs.declared.kinds.Reading.the-variants as reading
-use Rattle.scales.specs.Scale.{figureOf, footOf}
-use Rattle.scales.specs.Metres.{visibility, metresReading}
+use Rattle.scales.specs.Scale.{figureOf}
+use Rattle.scales.specs.Metres.{visibility}
+use Rattle.scales.proofs.Answers.{foot-low, metres-read}
 use Rattle.scales.proofs.MetresLaws.{visibility-laws}
 use Rattle.record.specs.declared.aerodrome.View.{View}
 use Rattle.record.specs.declared.aerodrome.View.the-variants as view
@@ -47,10 +46,6 @@ view-shaped forecast view.Missing h = unfold fieldText slashes in rw (field-shap
 view-shaped forecast view.Cavok h = unfold hasPattern fits low high in refl
 view-shaped forecast (view.Metres m) h = unfold fieldText numberText in rw (field-shaped (field.Number (figureOf visibility m)) (omega (arith, figure-small m)))
 
-metres-read : (m : ℕ) → metresReading visibility (figureOf visibility m) ≡ reading.Is (footOf visibility m)
-unfolding metresReading
-metres-read m = rw (visibility-laws .reads-back m)
-
 view-back : (forecast : Bool) (x : View) → viewFits forecast x ≡ true → readVisibility forecast (viewGroup x) ≡ Good (record { is = classView x })
 unfolding readVisibility fieldText numberText slashes
 view-back forecast view.Missing h = rw (field-plain field.Missing tt, field-read field.Missing tt, h)
@@ -58,7 +53,7 @@ view-back forecast view.Cavok h = unfold hasPattern fits low high in refl
 view-back forecast (view.Metres m) h =
     let f = figureOf visibility m in
     let four : f < 10000 = omega (arith, figure-small m) in
-    rw (field-plain (field.Number f) four, field-read (field.Number f) four, metres-read m)
+    rw (field-plain (field.Number f) four, field-read (field.Number f) four, metres-read visibility-laws m)
 
 view-again : (x : View) → viewGroup (classView x) ≡ viewGroup x
 view-again view.Missing = refl
@@ -68,7 +63,7 @@ view-again (view.Metres m) = rw (visibility-laws .again m)
 view-classed : (forecast : Bool) (x : View) → viewFits forecast x ≡ true → viewFits forecast (classView x) ≡ true
 view-classed forecast view.Missing h = h
 view-classed forecast view.Cavok h = h
-view-classed forecast (view.Metres m) h = le-leb (footOf visibility m) 99999 (omega (arith, visibility-laws .not-above m, leb-true m 99999 h))
+view-classed forecast (view.Metres m) h = foot-low visibility-laws m h
 
 -- ---- the visibility
 

@@ -15,11 +15,14 @@ use Rattle.text.proofs.Judging.{fine}
 use Rattle.shapes.specs.declared.kinds.Value.{Value}
 use Rattle.shapes.specs.declared.kinds.Scan.{Scan}
 use Rattle.shapes.specs.Pattern.{Pattern, low, high, hasAny}
-use Rattle.shapes.specs.Shape.{Part, leading, split, partsOf, fieldWidth, blankValue, padded, scanOf, hasShape, printParts, printOf, spellings, unled, unledEach, clear, printable, sound, FieldOf, Sayable}
+use Rattle.shapes.specs.Shape.{Part, leading, split, partsOf, fieldWidth, blankValue, padded, scanOf, hasShape, printOf, spellings, unled, unledEach, clear, printable, sound, FieldOf, Sayable}
 use Rattle.shapes.proofs.Patterns.{both}
 use Rattle.shapes.proofs.Shapes.{scan-back, covered}
+use Rattle.scales.specs.Rounded.{roundedDirection}
+use Rattle.scales.proofs.DirectionLaws.{rounded-below, ddd-most, ddd-some, ddd-back, ddd-again}
 use Rattle.places.specs.Engine.{Group, Read, Good}
 use Rattle.elements.specs.Parts.{then}
+use Rattle.elements.proofs.Scanned.{print-enough}
 use Rattle.record.specs.declared.values.Direction.{Direction}
 use Rattle.record.specs.declared.values.Direction.the-variants as direction
 use Rattle.record.specs.declared.values.Speed.{Speed}
@@ -27,9 +30,10 @@ use Rattle.record.specs.declared.values.Speed.the-variants as speed
 use Rattle.record.specs.declared.aerodrome.Unit.{Unit}
 use Rattle.record.specs.declared.aerodrome.Unit.the-variants as unit
 use Rattle.record.specs.declared.aerodrome.Wind.{Wind}
-use Rattle.elements.specs.Wind.{windShape, unitOf, speedOf, gustOf, directionOf, isCalm, windAgrees, windWith, isNoWind, windBy, readWind, numbered, readDegrees, directionValue, speedValue, gustValue, unitValue, showWind, hasUnit, gustFits, speedFits, windFits, speedsAgree, judgeWind, classDirection, classWind}
+use Rattle.record.specs.Classes.{classDirection}
+use Rattle.record.proofs.Near.{directionFits}
 use Rattle.record.specs.Missing.{noSpeed}
-use Rattle.wind.proofs.DirectionLaws.{text-is, text-tens, text-some, text-again, degrees-fit}
+use Rattle.elements.specs.Wind.{windShape, unitOf, speedOf, gustOf, directionOf, isCalm, windAgrees, windWith, isNoWind, windBy, readWind, numbered, directionValue, speedValue, gustValue, unitValue, showWind, hasUnit, gustFits, speedFits, windFits, speedsAgree, judgeWind, classWind}
 
 -- ---- the shape
 
@@ -58,8 +62,7 @@ wind-sound = refl
 
 -- values past the fourth are not printed
 pub print-four : (a b c d : Value) (others : List Value) → printOf windShape (a ∷ b ∷ c ∷ d ∷ others) ≡ printOf windShape (a ∷ b ∷ c ∷ d ∷ [])
-unfolding printOf printParts
-print-four a b c d others = rw parts-are
+print-four a b c d others = print-enough windShape (a ∷ b ∷ c ∷ d ∷ []) others (rw parts-are (omega arith))
 
 -- what is printed of four values is scanned as them
 scan-four : (a b c d : Value) → Sayable (directions ∷ speeds ∷ gusts ∷ units ∷ []) (a ∷ b ∷ c ∷ d ∷ [])
@@ -72,19 +75,12 @@ scan-four a b c d say =
 abbrev Said : Part → Value → Type 0
 Said p v = (ltb (v .which) (length p) ≡ true) × FieldOf (fieldWidth (getD p (v .which) [])) (v .field)
 
--- a direction in degrees is below 360
-abbrev pub degreesFit : Direction → Bool
-degreesFit direction.Missing = true
-degreesFit direction.Calm = true
-degreesFit direction.Variable = true
-degreesFit (direction.Degrees d) = leb d 359
-
-direction-said : (d : Direction) → degreesFit d ≡ true → Said directions (directionValue d)
+direction-said : (d : Direction) → directionFits d ≡ true → Said directions (directionValue d)
 unfolding leading
 direction-said direction.Missing h = (refl, tt)
 direction-said direction.Calm h = (refl, omega arith)
 direction-said direction.Variable h = (refl, refl)
-direction-said (direction.Degrees d) h = let w = text-is d (leb-true d 359 h) in (refl, omega arith)
+direction-said (direction.Degrees d) h = (refl, omega (arith, ddd-most d))
 
 -- three figures from 100 on, and two below it
 number-said : (a b : Pattern) (others : Part) → fieldWidth a ≡ 3 → fieldWidth b ≡ 2 → (n : ℕ) → leb n 199 ≡ true
@@ -121,7 +117,7 @@ speed-fits speed.Missing h = absurd (false≢true h)
 speed-fits (speed.Is n) h = h
 
 parts-fit : (forecast : Bool) (d : Direction) (s g : Speed) → windFits forecast d s g ≡ true
-    → (degreesFit d ≡ true) × (gustFits s ≡ true) × (gustFits g ≡ true)
+    → (directionFits d ≡ true) × (gustFits s ≡ true) × (gustFits g ≡ true)
 parts-fit forecast direction.Missing s g h =
     let t = both (not forecast && noSpeed s) (noSpeed g) h in
     (refl, missing-fits s (both (not forecast) (noSpeed s) (t .0) .1), missing-fits g (t .1))
@@ -198,15 +194,15 @@ values-back forecast (direction.Degrees d) (speed.Is s) g u k h e =
     let t = both (leb d 359 && leb s 199) (gustFits g) h in
     let r = both (leb d 359) (leb s 199) (t .0) in
     let l = leb-true d 359 (r .0) in
-    known forecast (directionValue (direction.Degrees d)) (direction.Degrees (readDegrees d)) s g u refl (rw (text-some d l, text-tens d l)) (r .1) (t .1)
+    known forecast (directionValue (direction.Degrees d)) (direction.Degrees (roundedDirection d)) s g u refl (rw (ddd-some d l, ddd-back d l)) (r .1) (t .1)
     (agree-classed (direction.Degrees d) (speed.Is s) g ∙ e) k
 
 -- the class is written as the same values, and is in range
-direction-again : (d : Direction) → degreesFit d ≡ true → directionValue (classDirection d) ≡ directionValue d
+direction-again : (d : Direction) → directionFits d ≡ true → directionValue (classDirection d) ≡ directionValue d
 direction-again direction.Missing h = refl
 direction-again direction.Calm h = refl
 direction-again direction.Variable h = refl
-direction-again (direction.Degrees d) h = ap (λ (t : ℕ). numbered 0 (field.Number t)) (text-again d (leb-true d 359 h))
+direction-again (direction.Degrees d) h = ap (λ (t : ℕ). numbered 0 (field.Number t)) (ddd-again d (leb-true d 359 h))
 
 fits-classed : (forecast : Bool) (d : Direction) (s g : Speed) → windFits forecast d s g ≡ true → windFits forecast (classDirection d) s g ≡ true
 fits-classed forecast direction.Missing s g h = h
@@ -214,7 +210,7 @@ fits-classed forecast direction.Calm s g h = h
 fits-classed forecast direction.Variable s g h = h
 fits-classed forecast (direction.Degrees d) s g h =
     let t = both (leb d 359 && speedFits s) (gustFits g) h in
-    rw (le-leb (readDegrees d) 359 (omega (arith, degrees-fit d)), both (leb d 359) (speedFits s) (t .0) .1, t .1)
+    rw (le-leb (roundedDirection d) 359 (omega (arith, rounded-below d)), both (leb d 359) (speedFits s) (t .0) .1, t .1)
 
 -- ---- the wind
 
@@ -226,7 +222,7 @@ module _ (forecast : Bool) (w : Wind) (e : judgeWind forecast w ≡ judged.Fine)
       let u = both (hasUnit (w .unit)) (windFits forecast (w .direction) (w .speed) (w .gust)) (t .0) in
       (u .0, u .1, t .1)
 
-  pub direction-fits : degreesFit (w .direction) ≡ true
+  pub direction-fits : directionFits (w .direction) ≡ true
   direction-fits = parts-fit forecast (w .direction) (w .speed) (w .gust) (judged-fine .1) .0
 
   abbrev shown : List Value

@@ -1,9 +1,10 @@
 -- What the reader finds in the parts of a wind and of a visibility: the definition's readings, as enums of the code.
 -- Assumes nothing: these are definitions.
 use Prim.Native.Nat.{ℕ}
-use mathlib.Core.Bool.{Bool, not}
+use mathlib.Core.Bool.{Bool, true, false, not}
 use Rattle.places.specs.Engine.{Read, Good, Bad}
 use Rattle.scales.specs.declared.kinds.Reading.{Reading}
+use Rattle.scales.specs.declared.kinds.Reading.the-variants as reading
 use Rattle.record.specs.declared.values.Direction.{Direction}
 use Rattle.record.specs.declared.values.Speed.{Speed}
 use Rattle.record.specs.declared.aerodrome.Unit.{Unit}
@@ -37,6 +38,11 @@ windOf u (direction.Bad f) s g = Bad f
 windOf u (direction.Good x) (figures.Bad f) g = Bad f
 windOf u (direction.Good x) (figures.Good y) (speed.Bad f) = Bad f
 windOf u (direction.Good x) (figures.Good y) (speed.Good z) = agreeing (windAgrees x y z) (Good (windWith u x y z))
+
+-- three figures that are read as a direction
+abbrev pub isUsed : Reading → Bool
+isUsed (reading.Is d) = true
+isUsed reading.Unused = false
 
 -- VVVV by its reading; ////
 abbrev pub seenBy : Reading → Read Visibility

@@ -30,7 +30,8 @@ ghost use Rattle.figures.specs.Quote.{bytes};
 ghost use Rattle.text.specs.Groups.{written};
 ghost use Rattle.scales.specs.Scale.{figureOf};
 ghost use Rattle.scales.specs.Metres.{visibility};
-ghost use Rattle.elements.specs.Wind.{numbered, directionValue, speedValue, gustValue, unitValue, degreesText, showWind, showVariation};
+ghost use Rattle.scales.specs.Rounded.{dddFigure};
+ghost use Rattle.elements.specs.Wind.{numbered, directionValue, speedValue, gustValue, unitValue, showWind, showVariation};
 ghost use Rattle.elements.specs.Visibility.{showVisibility};
 
 // ---- wind: at each part of its shape the number of the alternative, and its number field
@@ -145,7 +146,7 @@ pub fn put_wind(out: &mut [u8], at: usize, w: Wind) -> usize
 
 // dddVddd
 fn put_extremes(out: &mut [u8], at: usize, from: u32, to: u32) -> usize
-    ensures { λ r. ⌜ Put (now (out .entry)) at (written at ((figures 3 (degreesText from) ++ bytes "V" ++ figures 3 (degreesText to)) ∷ [])) r (now (out .exit)) ⌝ }
+    ensures { λ r. ⌜ Put (now (out .entry)) at (written at ((figures 3 (dddFigure from) ++ bytes "V" ++ figures 3 (dddFigure to)) ∷ [])) r (now (out .exit)) ⌝ }
 {
     let opened = open_group(out, at);
     let first = put_number(out, opened, 3, degrees_text(from));

@@ -2,7 +2,7 @@
 -- Assumes nothing.
 use borrow.Author.Needs.{needs}
 use mathlib.Core.Path.{_∙_}
-use Rattle.walker.proofs.Walks.{part-nothing}
+use Rattle.text.proofs.Groups.{part-nothing}
 use Rattle.report.specs.Standing.{standingOf}
 use Rattle.report.proofs.standing.Statement.{statement}
 use Rattle.report.proofs.standing.Tie as tie

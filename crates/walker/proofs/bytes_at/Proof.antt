@@ -2,7 +2,7 @@
 -- Assumes nothing.
 use mathlib.Core.Path.{_∙_}
 use borrow.Author.Needs.{needs}
-use Rattle.walker.proofs.Walks.{part-nothing}
+use Rattle.text.proofs.Groups.{part-nothing}
 use Rattle.walker.proofs.bytes_at.Statement.{statement}
 use Rattle.walker.proofs.bytes_at.Tie as tie
 

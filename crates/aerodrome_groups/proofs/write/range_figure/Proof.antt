@@ -1,8 +1,10 @@
 -- `write::range_figure` meets its contract: what is out of range is past the last foot.
 -- Assumes nothing.
 use mathlib.Core.Path.{sym, _∙_}
+use native.Mathlib.Omega.{arith}
 use borrow.Author.Needs.{needs}
-use Rattle.aerodrome_groups.proofs.Writings.{in-reach, out-of-reach}
+use Rattle.scales.proofs.Answers.{range-told, range-beyond}
+use Rattle.aerodrome_groups.proofs.Writings.{last-class}
 use Rattle.aerodrome_groups.proofs.write.range_figure.Statement.{statement}
 use Rattle.aerodrome_groups.proofs.write.range_figure.Tie as tie
 
@@ -11,5 +13,5 @@ range-figure-spec =
     tie.close
     (tie.spec
     (λ c κs. tt) (λ c. search needs) (λ c. search needs)
-    (λ c. in-reach _ (sym (c .before .f .given .1) ∙ c .before .before .before .runway-figure .ensures))
-    (λ c. out-of-reach _ (sym (c .enum-told .given .1) ∙ c .before .before .runway-figure .ensures)))
+    (λ c. range-told _ (sym (c .before .before .before .runway-figure .ensures) ∙ c .before .f .given .1))
+    (λ c. last-class _ (omega (arith, range-beyond _ (sym (c .before .before .runway-figure .ensures) ∙ c .enum-told .given .1)))))

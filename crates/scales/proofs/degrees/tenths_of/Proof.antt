@@ -9,6 +9,7 @@ use mir.Syntax.{w32}
 use mir.Val.{toZ, ofZ}
 use mir.Facts.{toZ-ofZ}
 use borrow.Author.Needs.{needs}
+use Rattle.figures.proofs.Impossible.{impossible}
 use Rattle.figures.specs.declared.kinds.Signed.{Signed}
 use Rattle.figures.specs.declared.kinds.Signed.the-variants as signed
 use Rattle.figures.specs.Signed.{withSign, signedOf}
@@ -27,8 +28,7 @@ module _ (s : Bool) (m : ℕ) (h : m ≤ 999) {r : Signed} (e : r ≡ signedOf s
   never : r ≡ signed.TooLarge → tenths.Unused ≡ tenths.Is (withSign s m)
   never g =
       let i : signed.Is (withSign s m) ≡ signedOf s m = signed-in s m (omega arith) in
-      let z : _≡_ {A = ℕ} 0 1 = cc in
-      absurd (omega arith)
+      impossible (cc)
 
 pub tenths-of-spec : {M : Type 1} → statement M
 tenths-of-spec =

@@ -1,7 +1,10 @@
 -- `sky::write::cloud_number` meets its contract, case by case: the last class is open above.
 -- Assumes nothing.
-use Rattle.sky.proofs.Heights.{figure-told, open-above}
+use mathlib.Core.Path.{sym, _∙_}
 use borrow.Author.Needs.{needs}
+use Rattle.scales.specs.Metres.{cloud}
+use Rattle.scales.proofs.Answers.{figure-told}
+use Rattle.sky.proofs.Heights.{open-above}
 use Rattle.sky.proofs.write.cloud_number.Statement.{statement}
 use Rattle.sky.proofs.write.cloud_number.Tie as tie
 
@@ -12,5 +15,5 @@ cloud-number-spec =
     (λ c κs. tt)
     (λ c. search needs)
     (λ c. search needs)
-    (λ c. figure-told (c .before .before .before .before .args .metres) (c .before .before .before .cloud-figure .ensures) (c .before .f .given .1))
-    (λ c. open-above (c .before .before .before .args .metres) (c .before .before .cloud-figure .ensures) (c .enum-told .given .1)))
+    (λ c. figure-told cloud _ (sym (c .before .before .before .cloud-figure .ensures) ∙ c .before .f .given .1))
+    (λ c. open-above _ (sym (c .before .before .cloud-figure .ensures) ∙ c .enum-told .given .1)))

@@ -3,7 +3,7 @@
 use mathlib.Core.Path.{sym, _∙_}
 use native.Mathlib.Omega.{arith}
 use borrow.Author.Needs.{needs}
-use Rattle.wind.proofs.DirectionLaws.{figure-small}
+use Rattle.scales.proofs.DirectionLaws.{ddd-most}
 use Rattle.wind.proofs.directions.degrees_text.Statement.{statement}
 use Rattle.wind.proofs.directions.degrees_text.Tie as tie
 
@@ -13,7 +13,7 @@ degrees-text-spec =
     (tie.spec
     (λ c κs. tt)
     (λ c. search needs)
-    (λ c. omega (arith, figure-small (c .before .before .before .before .args .d) (c .before .f .given .0 .0) (sym (c .before .before .before .direction-figure .ensures) ∙ c .before .f .given .1)))
+    (λ c. omega (arith, rw (sym (c .before .before .before .direction-figure .ensures) ∙ c .before .f .given .1) at (ddd-most (c .before .before .before .before .args .d))))
     (λ c. search needs)
     (λ c. rw (← c .before .before .before .direction-figure .ensures, c .before .f .given .1))
     (λ c. rw (← c .before .before .direction-figure .ensures, c .enum-told .given .1)))

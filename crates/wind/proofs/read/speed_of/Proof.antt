@@ -2,7 +2,7 @@
 -- Assumes nothing.
 use borrow.Author.Needs.{needs}
 use borrow.Author.Tests.{eq-eqb, ne-eqb}
-use Rattle.wind.proofs.Readings.{no-figure}
+use Rattle.elements.proofs.Answers.{no-figure}
 use Rattle.wind.proofs.read.speed_of.Statement.{statement}
 use Rattle.wind.proofs.read.speed_of.Tie as tie
 

@@ -1,8 +1,11 @@
 -- `wind::write::view_figure` meets its contract: what is out of range is 10,000 m or more.
 -- Assumes nothing.
 use mathlib.Core.Path.{sym, _∙_}
+use native.Mathlib.Omega.{arith}
 use borrow.Author.Needs.{needs}
-use Rattle.wind.proofs.VisibilityLaws.{figure-is, figure-far}
+use Rattle.scales.specs.Metres.{visibility}
+use Rattle.scales.proofs.Answers.{figure-told, figure-beyond}
+use Rattle.wind.proofs.VisibilityLaws.{figure-far}
 use Rattle.wind.proofs.write.view_figure.Statement.{statement}
 use Rattle.wind.proofs.write.view_figure.Tie as tie
 
@@ -13,5 +16,5 @@ view-figure-spec =
     (λ c κs. tt)
     (λ c. search needs)
     (λ c. search needs)
-    (λ c. figure-is (c .before .before .before .before .args .metres) (c .before .f .given .0 .0) (sym (c .before .before .before .visibility-figure .ensures) ∙ c .before .f .given .1))
-    (λ c. figure-far (c .before .before .before .args .metres) (sym (c .before .before .visibility-figure .ensures) ∙ c .enum-told .given .1)))
+    (λ c. figure-told visibility _ (sym (c .before .before .before .visibility-figure .ensures) ∙ c .before .f .given .1))
+    (λ c. figure-far _ (omega (arith, figure-beyond visibility _ (sym (c .before .before .visibility-figure .ensures) ∙ c .enum-told .given .1)))))
