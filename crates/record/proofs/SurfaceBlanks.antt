@@ -18,10 +18,10 @@ use Rattle.record.specs.declared.surface.Sight.{Sight}
 use Rattle.record.specs.declared.surface.Sight.the-variants as sight
 use Rattle.record.specs.declared.surface.Moist.{Moist}
 use Rattle.record.specs.declared.surface.Moist.the-variants as moist
-use Rattle.record.specs.declared.surface.Height.{Height}
-use Rattle.record.specs.declared.surface.Height.the-variants as height
-use Rattle.record.specs.declared.surface.Change.{Change}
-use Rattle.record.specs.declared.surface.Change.the-variants as change
+use Rattle.record.specs.declared.surface.AtLevel.{AtLevel}
+use Rattle.record.specs.declared.surface.AtLevel.the-variants as at-level
+use Rattle.record.specs.declared.surface.PressureChange.{PressureChange}
+use Rattle.record.specs.declared.surface.PressureChange.the-variants as change
 use Rattle.record.specs.declared.surface.Fall.{Fall}
 use Rattle.record.specs.declared.surface.Fall.the-variants as fall
 use Rattle.record.specs.declared.surface.Weather.{Weather}
@@ -32,7 +32,7 @@ use Rattle.record.specs.declared.surface.Surface.{Surface}
 use Rattle.record.specs.declared.surface.Site.{Site}
 use Rattle.record.specs.declared.surface.Synop.{Synop}
 use Rattle.record.specs.Blank.{blankSign, blankPosition, blankTime, blankSite, blankSurface, blankSynop}
-use Rattle.record.specs.SilentSurface.{noSign, noPosition, noTime, noSight, noMoist, noHeight, noChange, noFall, noWeather, noClouds, noClock, noSite, noSurface, isBlankSynop}
+use Rattle.record.specs.SilentSurface.{noSign, noPosition, noTime, noSight, noMoist, noLevel, noChange, noFall, noWeather, noClouds, noClock, noSite, noSurface, isBlankSynop}
 use Rattle.record.proofs.Blanks.{number-blank, tenths-blank, direction-blank, speed-blank, letters-blank}
 
 -- ---- the groups
@@ -47,12 +47,12 @@ moist-blank moist.Missing e = refl
 moist-blank (moist.DewPoint t) e = absurd (false≢true e)
 moist-blank (moist.Humidity u) e = absurd (false≢true e)
 
-height-blank : (h : Height) → noHeight h ≡ true → h ≡ height.Missing
-height-blank height.Missing e = refl
-height-blank (height.SeaLevel p) e = absurd (false≢true e)
-height-blank (height.Surface a h) e = absurd (false≢true e)
+level-blank : (h : AtLevel) → noLevel h ≡ true → h ≡ at-level.Missing
+level-blank at-level.Missing e = refl
+level-blank (at-level.Pressure p) e = absurd (false≢true e)
+level-blank (at-level.Isobaric a h) e = absurd (false≢true e)
 
-change-blank : (c : Change) → noChange c ≡ true → c ≡ change.Missing
+change-blank : (c : PressureChange) → noChange c ≡ true → c ≡ change.Missing
 change-blank change.Missing e = refl
 change-blank (change.Is a c) e = absurd (false≢true e)
 
@@ -156,7 +156,7 @@ surface-blank s e =
       tenths-blank (s .air .temperature) (air .1),
       moist-blank (s .moisture .is) (moisture .1),
       number-blank (s .pressure .station) (pressure .1),
-      height-blank (s .level .is) (level .1),
+      level-blank (s .level .is) (level .1),
       change-blank (s .tendency .is) (tendency .1),
       fall-blank (s .rainfall .is) (rainfall .1),
       weather-blank (s .weather) (weather .1),

@@ -11,8 +11,8 @@ use Rattle.record.specs.declared.surface.Position.{Position}
 use Rattle.record.specs.declared.surface.Time.{Time}
 use Rattle.record.specs.declared.surface.Sight.the-variants as sight
 use Rattle.record.specs.declared.surface.Moist.the-variants as moist
-use Rattle.record.specs.declared.surface.Height.the-variants as height
-use Rattle.record.specs.declared.surface.Change.the-variants as change
+use Rattle.record.specs.declared.surface.AtLevel.the-variants as at-level
+use Rattle.record.specs.declared.surface.PressureChange.the-variants as change
 use Rattle.record.specs.declared.surface.Fall.the-variants as fall
 use Rattle.record.specs.declared.surface.Observed.the-variants as observed
 use Rattle.record.specs.declared.surface.Surface.{Surface}
@@ -37,7 +37,7 @@ blankSurface =
       air = record { temperature = tenths.Missing };
       moisture = record { is = moist.Missing };
       pressure = record { station = number.Missing };
-      level = record { is = height.Missing };
+      level = record { is = at-level.Missing };
       tendency = record { is = change.Missing };
       rainfall = record { is = fall.Missing };
       weather = record { present = number.Missing; past = number.Missing; past2 = number.Missing };

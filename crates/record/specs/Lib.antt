@@ -7,3 +7,4 @@ pub mod SilentSurface
 pub mod SilentAerodrome
 pub mod Arrays
 pub mod Classes
+pub mod Meaning

@@ -11,10 +11,10 @@ use Rattle.record.specs.declared.surface.Indicators.{Indicators}
 use Rattle.record.specs.declared.surface.Wind.{Wind}
 use Rattle.record.specs.declared.surface.Moist.{Moist}
 use Rattle.record.specs.declared.surface.Moist.the-variants as moist
-use Rattle.record.specs.declared.surface.Height.{Height}
-use Rattle.record.specs.declared.surface.Height.the-variants as height
-use Rattle.record.specs.declared.surface.Change.{Change}
-use Rattle.record.specs.declared.surface.Change.the-variants as change
+use Rattle.record.specs.declared.surface.AtLevel.{AtLevel}
+use Rattle.record.specs.declared.surface.AtLevel.the-variants as at-level
+use Rattle.record.specs.declared.surface.PressureChange.{PressureChange}
+use Rattle.record.specs.declared.surface.PressureChange.the-variants as change
 use Rattle.record.specs.declared.surface.Fall.{Fall}
 use Rattle.record.specs.declared.surface.Fall.the-variants as fall
 use Rattle.record.specs.declared.surface.Weather.{Weather}
@@ -53,12 +53,12 @@ noMoist moist.Missing = true
 noMoist (moist.DewPoint t) = false
 noMoist (moist.Humidity u) = false
 
-abbrev pub noHeight : Height → Bool
-noHeight height.Missing = true
-noHeight (height.SeaLevel p) = false
-noHeight (height.Surface a h) = false
+abbrev pub noLevel : AtLevel → Bool
+noLevel at-level.Missing = true
+noLevel (at-level.Pressure p) = false
+noLevel (at-level.Isobaric a h) = false
 
-abbrev pub noChange : Change → Bool
+abbrev pub noChange : PressureChange → Bool
 noChange change.Missing = true
 noChange (change.Is a c) = false
 
@@ -85,7 +85,7 @@ noSite s = isMissing (s .station) && noSign (s .sign) && noPosition (s .position
 unfoldable pub noSurface : Surface → Bool
 noSurface s =
     noIndicators (s .indicators) && noWind (s .wind) && noTenths (s .air .temperature) && noMoist (s .moisture .is) && isMissing (s .pressure .station)
-    && noHeight (s .level .is) && noChange (s .tendency .is) && noFall (s .rainfall .is) && noWeather (s .weather) && noClouds (s .clouds)
+    && noLevel (s .level .is) && noChange (s .tendency .is) && noFall (s .rainfall .is) && noWeather (s .weather) && noClouds (s .clouds)
     && noClock (s .clock .is)
 
 unfoldable pub isBlankSynop : Synop → Bool

@@ -1,11 +1,10 @@
 // The blank record of a SYNOP or SHIP.
 use crate::surface::Air;
+use crate::surface::AtLevel;
 use crate::surface::CallSign;
-use crate::surface::Change;
 use crate::surface::Clock;
 use crate::surface::Clouds;
 use crate::surface::Fall;
-use crate::surface::Height;
 use crate::surface::Indicators;
 use crate::surface::Level;
 use crate::surface::Moist;
@@ -13,6 +12,7 @@ use crate::surface::Moisture;
 use crate::surface::Observed;
 use crate::surface::Position;
 use crate::surface::Pressure;
+use crate::surface::PressureChange;
 use crate::surface::Rainfall;
 use crate::surface::Sight;
 use crate::surface::Site;
@@ -92,10 +92,10 @@ pub fn blank_surface() -> Surface
             station: Number::Missing,
         },
         level: Level {
-            is: Height::Missing,
+            is: AtLevel::Missing,
         },
         tendency: Tendency {
-            is: Change::Missing,
+            is: PressureChange::Missing,
         },
         rainfall: Rainfall { is: Fall::Missing },
         weather: Weather {

@@ -4,6 +4,7 @@ pub mod aerodrome;
 pub mod blank_aerodrome;
 pub mod blank_surface;
 pub mod letters;
+pub mod meaning;
 pub mod silent_aerodrome;
 pub mod silent_surface;
 pub mod surface;

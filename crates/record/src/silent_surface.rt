@@ -1,14 +1,14 @@
 // Whether nothing is said in a SYNOP or SHIP, group by group and in the whole.
 use crate::letters::are_blank_from;
+use crate::surface::AtLevel;
 use crate::surface::CallSign;
-use crate::surface::Change;
 use crate::surface::Clouds;
 use crate::surface::Fall;
-use crate::surface::Height;
 use crate::surface::Indicators;
 use crate::surface::Moist;
 use crate::surface::Observed;
 use crate::surface::Position;
+use crate::surface::PressureChange;
 use crate::surface::Sight;
 use crate::surface::Site;
 use crate::surface::Surface;
@@ -19,7 +19,7 @@ use crate::surface::Wind;
 ghost use mathlib.Core.Path.{_≡_};
 ghost use lib.ListN.{drop};
 ghost use Rattle.record.specs.Missing.{noLetters};
-ghost use Rattle.record.specs.SilentSurface.{noSign, noPosition, noTime, noSight, noIndicators, noWind, noMoist, noHeight, noChange, noFall, noWeather, noClouds, noClock};
+ghost use Rattle.record.specs.SilentSurface.{noSign, noPosition, noTime, noSight, noIndicators, noWind, noMoist, noLevel, noChange, noFall, noWeather, noClouds, noClock};
 ghost use Rattle.record.specs.SilentSurface.{noSite, noSurface, isBlankSynop};
 
 impl CallSign {
@@ -106,25 +106,25 @@ impl Moist {
     }
 }
 
-impl Height {
+impl AtLevel {
     pub fn is_missing(self) -> bool
-        ensures { λ r. ⌜ r ≡ noHeight self ⌝ }
+        ensures { λ r. ⌜ r ≡ noLevel self ⌝ }
     {
         match self {
-            Height::Missing => true,
-            Height::SeaLevel(_) => false,
-            Height::Surface { .. } => false,
+            AtLevel::Missing => true,
+            AtLevel::Pressure(_) => false,
+            AtLevel::Isobaric { .. } => false,
         }
     }
 }
 
-impl Change {
+impl PressureChange {
     pub fn is_missing(self) -> bool
         ensures { λ r. ⌜ r ≡ noChange self ⌝ }
     {
         match self {
-            Change::Missing => true,
-            Change::Is { .. } => false,
+            PressureChange::Missing => true,
+            PressureChange::Is { .. } => false,
         }
     }
 }

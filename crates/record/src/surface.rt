@@ -68,24 +68,24 @@ pub struct Pressure {
 }
 
 // 4PPPP or 4ahhh: pressure at sea level in tenths of hPa, or the figure of an isobaric surface and its height as three figures.
-pub enum Height {
+pub enum AtLevel {
     Missing,
-    SeaLevel(u32),
-    Surface { level: u32, height: u32 },
+    Pressure(u32),
+    Isobaric { level: u32, height: u32 },
 }
 
 pub struct Level {
-    pub is: Height,
+    pub is: AtLevel,
 }
 
 // 5appp: the figure of the tendency and the change in tenths of hPa.
-pub enum Change {
+pub enum PressureChange {
     Missing,
     Is { tendency: u32, change: i32 },
 }
 
 pub struct Tendency {
-    pub is: Change,
+    pub is: PressureChange,
 }
 
 // 6RRRt: the amount, and the figure of its period.

@@ -38,11 +38,11 @@ use Rattle.record.specs.declared.surface.Moist.{Moist}
 use Rattle.record.specs.declared.surface.Moist.the-variants as moist
 use Rattle.record.specs.declared.surface.Moisture.{Moisture}
 use Rattle.record.specs.declared.surface.Pressure.{Pressure}
-use Rattle.record.specs.declared.surface.Height.{Height}
-use Rattle.record.specs.declared.surface.Height.the-variants as height
+use Rattle.record.specs.declared.surface.AtLevel.{AtLevel}
+use Rattle.record.specs.declared.surface.AtLevel.the-variants as at-level
 use Rattle.record.specs.declared.surface.Level.{Level}
-use Rattle.record.specs.declared.surface.Change.{Change}
-use Rattle.record.specs.declared.surface.Change.the-variants as change
+use Rattle.record.specs.declared.surface.PressureChange.{PressureChange}
+use Rattle.record.specs.declared.surface.PressureChange.the-variants as change
 use Rattle.record.specs.declared.surface.Tendency.{Tendency}
 use Rattle.record.specs.declared.surface.Fall.{Fall}
 use Rattle.record.specs.declared.surface.Fall.the-variants as fall
@@ -59,11 +59,11 @@ use Rattle.text.specs.declared.kinds.Judged.the-variants as judged
 use Rattle.text.specs.Judge.{judge}
 use Rattle.text.proofs.Judging.{fine}
 use Rattle.synop_groups.specs.Reads.{Group, wrong, mayMiss, usedRain, speedIs, saidSpeed, pressureOf, isLevel, airIs, saidAir, moistureIs, saidMoisture, saidPressure, levelIs, saidLevel, tendencyIs, saidTendency, saidRainfall, saidWeather, saidClouds, clockIs, saidClock}
-use Rattle.synop_groups.specs.Shows.{moistureSpoken, fieldOf, isGale, speedGroup, showSpeed, signText, airGroup, showAir, moistGroup, showMoisture, pressureGroup, showPressure, levelGroup, showLevel, tendencyGroup, showTendency, rainfallGroup, showRainfall, weatherText, showWeather, cloudsText, showClouds, clockGroup, showClock}
+use Rattle.synop_groups.specs.Shows.{moistureSpoken, fieldOf, isInThree, speedGroup, showSpeed, signText, airGroup, showAir, moistGroup, showMoisture, pressureGroup, showPressure, levelGroup, showLevel, tendencyGroup, showTendency, rainfallGroup, showRainfall, weatherText, showWeather, cloudsText, showClouds, clockGroup, showClock}
 use Rattle.record.specs.Missing.{between, optional}
 use Rattle.record.specs.SilentSurface.{noWeather, noClouds, noFall}
 use Rattle.record.proofs.SurfaceBlanks.{weather-blank, clouds-blank}
-use Rattle.synop_groups.specs.Judge.{windFits, judgeWind, tenthsFit, judgeAir, moistFits, judgeMoisture, judgePressure, heightFits, judgeLevel, changeFits, changeAgrees, judgeTendency, fallFits, judgeRainfall, judgeWeather, judgeClouds, clockFits, judgeClock}
+use Rattle.synop_groups.specs.Judge.{windFits, judgeWind, tenthsFit, judgeAir, moistFits, judgeMoisture, judgePressure, levelFits, judgeLevel, changeFits, changeAgrees, judgeTendency, fallFits, judgeRainfall, judgeWeather, judgeClouds, clockFits, judgeClock}
 use Rattle.synop_groups.specs.Classes.{classFall, classRainfall, speedInTwo}
 use Rattle.synop_groups.proofs.RoundTripParts.{figures-join, at, Laid, parts}
 use Rattle.synop_groups.proofs.RoundTripFields.{in-range, chosen, optional-fits, oneFigure, one-fits, Slot, slot, partsOf, nth, part-is, asked-back}
@@ -99,11 +99,11 @@ speed-small (direction.Degrees d) s f = leb-true s 999 (both (leb d 359) (leb s 
 
 -- The speed is what Nddff left of it, or 00fff says it.
 pub speed-back : (w : Wind) → judgeWind w ≡ judged.Fine
-    → Back (bytes "00###") (isGale (w .speed)) (saidSpeed (isGale (w .speed))) meantSpeed (speedInTwo (w .speed)) (w .speed) (showSpeed w)
+    → Back (bytes "00###") (isInThree (w .speed)) (saidSpeed (isInThree (w .speed))) meantSpeed (speedInTwo (w .speed)) (w .speed) (showSpeed w)
 unfolding showSpeed saidSpeed speedIs fieldText numberText
 speed-back w e = go (w .direction) (w .speed) (wind-fine w e .1)
   where
-    go : (d : Direction) (s : Speed) → windFits d s ≡ true → Back (bytes "00###") (isGale s) (saidSpeed (isGale s)) meantSpeed (speedInTwo s) s (speedGroup s)
+    go : (d : Direction) (s : Speed) → windFits d s ≡ true → Back (bytes "00###") (isInThree s) (saidSpeed (isInThree s)) meantSpeed (speedInTwo s) s (speedGroup s)
     go d speed.Missing f = none refl refl
     go d (speed.Is s) f =
         ⊎-elim
@@ -245,7 +245,7 @@ pressure-back p e = go (p .station) e
 
 -- ---- 4PPPP, 4ahhh
 
-sea-read : (p : ℕ) → 9000 ≤ p → p ≤ 10999 → levelIs (p % 10000) ≡ said.Level (record { is = height.SeaLevel p })
+sea-read : (p : ℕ) → 9000 ≤ p → p ≤ 10999 → levelIs (p % 10000) ≡ said.Level (record { is = at-level.Pressure p })
 unfolding levelIs
 sea-read p low high = rw (pressure-read p (omega arith) high, near (leb p 9999) refl)
   where
@@ -259,7 +259,7 @@ sea-read p low high = rw (pressure-read p (omega arith) high, near (leb p 9999) 
 level-bounds : (a : ℕ) → isLevel a ≡ true → (1 ≤ a) × (a ≤ 8)
 level-bounds a e = chosen 1 8 a (1 ∷ 2 ∷ 5 ∷ 7 ∷ 8 ∷ []) refl e
 
-surface-read : (a h : ℕ) → isLevel a ≡ true → h ≤ 999 → levelIs (a * 1000 + h) ≡ said.Level (record { is = height.Surface a h })
+surface-read : (a h : ℕ) → isLevel a ≡ true → h ≤ 999 → levelIs (a * 1000 + h) ≡ said.Level (record { is = at-level.Isobaric a h })
 unfolding levelIs
 surface-read a h e s =
     let r = level-bounds a e in
@@ -270,18 +270,18 @@ pub level-back : (l : Level) → judgeLevel l ≡ judged.Fine → Back (bytes "4
 unfolding judgeLevel showLevel saidLevel
 level-back l e = go (l .is) e
   where
-    go : (h : Height) → judge (heightFits h) true ≡ judged.Fine
+    go : (h : AtLevel) → judge (levelFits h) true ≡ judged.Fine
         → Back (bytes "4####") false saidLevel said.Level (blankSurface .level) (record { is = h }) (levelGroup h)
-    go height.Missing e = none refl refl
-    go (height.SeaLevel p) e =
+    go at-level.Missing e = none refl refl
+    go (at-level.Pressure p) e =
         let r = in-range 9000 10999 p (fine _ true e .0) in
-        four-back said.Level (blankSurface .level) (record { is = height.SeaLevel p }) (said.Level (blankSurface .level)) levelIs 52
+        four-back said.Level (blankSurface .level) (record { is = at-level.Pressure p }) (said.Level (blankSurface .level)) levelIs 52
         (p % 10000) (figures 4 (p % 10000)) refl (omega arith) refl (sea-read p (r .0) (r .1))
-    go (height.Surface a h) e =
+    go (at-level.Isobaric a h) e =
         let t = both (isLevel a) (leb h 999) (fine _ true e .0) in
         let r = level-bounds a (t .0) in
         let s = leb-true h 999 (t .1) in
-        four-back said.Level (blankSurface .level) (record { is = height.Surface a h }) (said.Level (blankSurface .level)) levelIs 52
+        four-back said.Level (blankSurface .level) (record { is = at-level.Isobaric a h }) (said.Level (blankSurface .level)) levelIs 52
         (a * 1000 + h) (figures 1 a ++ figures 3 h) refl (omega arith) (figures-join 1 3 a h (omega arith)) (surface-read a h (t .0) s)
 
 -- ---- 5appp
@@ -322,7 +322,7 @@ pub tendency-back : (t : Tendency) → judgeTendency t ≡ judged.Fine
 unfolding judgeTendency showTendency saidTendency
 tendency-back t e = go (t .is) e
   where
-    go : (x : Change) → judge (changeFits x) (changeAgrees x) ≡ judged.Fine
+    go : (x : PressureChange) → judge (changeFits x) (changeAgrees x) ≡ judged.Fine
         → Back (bytes "5####") false saidTendency said.Tendency (blankSurface .tendency) (record { is = x }) (tendencyGroup x)
     go change.Missing e = none refl refl
     go (change.Is a c) e =

@@ -32,11 +32,11 @@ use Rattle.record.specs.declared.surface.Moist.{Moist}
 use Rattle.record.specs.declared.surface.Moist.the-variants as moist
 use Rattle.record.specs.declared.surface.Moisture.{Moisture}
 use Rattle.record.specs.declared.surface.Pressure.{Pressure}
-use Rattle.record.specs.declared.surface.Height.{Height}
-use Rattle.record.specs.declared.surface.Height.the-variants as height
+use Rattle.record.specs.declared.surface.AtLevel.{AtLevel}
+use Rattle.record.specs.declared.surface.AtLevel.the-variants as at-level
 use Rattle.record.specs.declared.surface.Level.{Level}
-use Rattle.record.specs.declared.surface.Change.{Change}
-use Rattle.record.specs.declared.surface.Change.the-variants as change
+use Rattle.record.specs.declared.surface.PressureChange.{PressureChange}
+use Rattle.record.specs.declared.surface.PressureChange.the-variants as change
 use Rattle.record.specs.declared.surface.Tendency.{Tendency}
 use Rattle.record.specs.declared.surface.Fall.{Fall}
 use Rattle.record.specs.declared.surface.Fall.the-variants as fall
@@ -156,15 +156,15 @@ judgeMoisture m = judge (moistFits (m .is)) true
 unfoldable pub judgePressure : Pressure → Judged
 judgePressure p = judge (optional (between 1000 10999) (p .station)) true
 
-abbrev pub heightFits : Height → Bool
-heightFits height.Missing = true
-heightFits (height.SeaLevel p) = between 9000 10999 p
-heightFits (height.Surface a h) = isLevel a && leb h 999
+abbrev pub levelFits : AtLevel → Bool
+levelFits at-level.Missing = true
+levelFits (at-level.Pressure p) = between 9000 10999 p
+levelFits (at-level.Isobaric a h) = isLevel a && leb h 999
 
 unfoldable pub judgeLevel : Level → Judged
-judgeLevel l = judge (heightFits (l .is)) true
+judgeLevel l = judge (levelFits (l .is)) true
 
-abbrev pub changeFits : Change → Bool
+abbrev pub changeFits : PressureChange → Bool
 changeFits change.Missing = true
 changeFits (change.Is a c) = leb a 8 && leb (natAbs c) 999
 
@@ -172,7 +172,7 @@ changeFits (change.Is a c) = leb a 8 && leb (natAbs c) 999
 abbrev pub changeSuits : ℕ → ℤ → Bool
 changeSuits a c = cond (ltb a 4) (not (negative c)) (cond (eqb a 4) (eqb (natAbs c) 0) (negative c || eqb (natAbs c) 0))
 
-abbrev pub changeAgrees : Change → Bool
+abbrev pub changeAgrees : PressureChange → Bool
 changeAgrees change.Missing = true
 changeAgrees (change.Is a c) = changeSuits a c
 

@@ -32,8 +32,8 @@ use Rattle.record.specs.declared.values.Speed.the-variants as speed
 use Rattle.record.specs.declared.surface.Sight.{Sight}
 use Rattle.record.specs.declared.surface.Sight.the-variants as sight
 use Rattle.record.specs.declared.surface.Moist.the-variants as moist
-use Rattle.record.specs.declared.surface.Height.the-variants as height
-use Rattle.record.specs.declared.surface.Change.the-variants as change
+use Rattle.record.specs.declared.surface.AtLevel.the-variants as at-level
+use Rattle.record.specs.declared.surface.PressureChange.the-variants as change
 use Rattle.record.specs.declared.surface.Fall.the-variants as fall
 use Rattle.record.specs.declared.surface.Observed.the-variants as observed
 use Rattle.record.specs.declared.surface.Position.{Position}
@@ -172,12 +172,12 @@ saidWind g =
     part (fieldAt g 0 1)
     (λ n. mayMiss (fieldAt g 1 2) (missing (fieldAt g 3 2) (noWind n)) (λ dd. figured (fieldAt g 3 2) (λ ff. windBy n dd ff)))
 
--- "A speed of 99 units or more is ff 99 and at once 00fff, fff 099-999; .. 00fff after any other ff is 7." gale: ff was 99
+-- "A speed of 99 units or more is ff 99 and at once 00fff, fff 099-999; .. 00fff after any other ff is 7." due: ff was 99
 unfoldable pub speedIs : Bool → ℕ → Said
-speedIs gale n = cond (leb 99 n) (cond gale (said.Speed n) disagrees) wrong
+speedIs due n = cond (leb 99 n) (cond due (said.Speed n) disagrees) wrong
 
 unfoldable pub saidSpeed : Bool → Group → Said
-saidSpeed gale g = figured (fieldAt g 2 3) (speedIs gale)
+saidSpeed due g = figured (fieldAt g 2 3) (speedIs due)
 
 -- ---- 1sTTT, 2sTTT: "tenths of a degree, s 0 or 1; s 1 with 000 is 5. 29UUU instead is humidity 000-100."
 
@@ -213,11 +213,11 @@ isLevel a = eqb a 1 || eqb a 2 || eqb a 5 || eqb a 7 || eqb a 8
 
 unfoldable pub levelIs : ℕ → Said
 levelIs n =
-    cond (leb n 999 || leb 9000 n) (said.Level (record { is = height.SeaLevel (pressureOf n) }))
-    (cond (isLevel (n / 1000)) (said.Level (record { is = height.Surface (n / 1000) (n % 1000) })) wrong)
+    cond (leb n 999 || leb 9000 n) (said.Level (record { is = at-level.Pressure (pressureOf n) }))
+    (cond (isLevel (n / 1000)) (said.Level (record { is = at-level.Isobaric (n / 1000) (n % 1000) })) wrong)
 
 unfoldable pub saidLevel : Group → Said
-saidLevel g = mayMiss (fieldAt g 1 4) (said.Level (record { is = height.Missing })) levelIs
+saidLevel g = mayMiss (fieldAt g 1 4) (said.Level (record { is = at-level.Missing })) levelIs
 
 -- ---- 5appp: "a 0-3 rise or no change, 4 requires 000 (else 5), 5-8 fall or no change; a signed change in tenths."
 

@@ -35,11 +35,11 @@ use Rattle.record.specs.declared.surface.Moist.{Moist}
 use Rattle.record.specs.declared.surface.Moist.the-variants as moist
 use Rattle.record.specs.declared.surface.Moisture.{Moisture}
 use Rattle.record.specs.declared.surface.Pressure.{Pressure}
-use Rattle.record.specs.declared.surface.Height.{Height}
-use Rattle.record.specs.declared.surface.Height.the-variants as height
+use Rattle.record.specs.declared.surface.AtLevel.{AtLevel}
+use Rattle.record.specs.declared.surface.AtLevel.the-variants as at-level
 use Rattle.record.specs.declared.surface.Level.{Level}
-use Rattle.record.specs.declared.surface.Change.{Change}
-use Rattle.record.specs.declared.surface.Change.the-variants as change
+use Rattle.record.specs.declared.surface.PressureChange.{PressureChange}
+use Rattle.record.specs.declared.surface.PressureChange.the-variants as change
 use Rattle.record.specs.declared.surface.Tendency.{Tendency}
 use Rattle.record.specs.declared.surface.Fall.{Fall}
 use Rattle.record.specs.declared.surface.Fall.the-variants as fall
@@ -118,9 +118,9 @@ unfoldable pub showWind : Wind → Group
 showWind w = fieldText 1 (fieldOf (w .cover)) ++ fieldText 2 (directionField (w .direction)) ++ fieldText 2 (speedField (w .speed))
 
 -- a speed that has to be written in 00fff
-abbrev pub isGale : Speed → Bool
-isGale speed.Missing = false
-isGale (speed.Is s) = leb 99 s
+abbrev pub isInThree : Speed → Bool
+isInThree speed.Missing = false
+isInThree (speed.Is s) = leb 99 s
 
 abbrev pub speedGroup : Speed → List Group
 speedGroup speed.Missing = []
@@ -161,15 +161,15 @@ pressureGroup (number.Is p) = (bytes "3" ++ pressureText p) ∷ []
 unfoldable pub showPressure : Pressure → List Group
 showPressure p = pressureGroup (p .station)
 
-abbrev pub levelGroup : Height → List Group
-levelGroup height.Missing = []
-levelGroup (height.SeaLevel p) = (bytes "4" ++ pressureText p) ∷ []
-levelGroup (height.Surface a h) = (bytes "4" ++ figures 1 a ++ figures 3 h) ∷ []
+abbrev pub levelGroup : AtLevel → List Group
+levelGroup at-level.Missing = []
+levelGroup (at-level.Pressure p) = (bytes "4" ++ pressureText p) ∷ []
+levelGroup (at-level.Isobaric a h) = (bytes "4" ++ figures 1 a ++ figures 3 h) ∷ []
 
 unfoldable pub showLevel : Level → List Group
 showLevel l = levelGroup (l .is)
 
-abbrev pub tendencyGroup : Change → List Group
+abbrev pub tendencyGroup : PressureChange → List Group
 tendencyGroup change.Missing = []
 tendencyGroup (change.Is a c) = (bytes "5" ++ figures 1 a ++ figures 3 (natAbs c)) ∷ []
 

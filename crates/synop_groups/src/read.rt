@@ -6,11 +6,10 @@ use figures::kinds::Field;
 use figures::kinds::Signed;
 use figures::signed;
 use record::surface::Air;
-use record::surface::Change;
+use record::surface::AtLevel;
 use record::surface::Clock;
 use record::surface::Clouds;
 use record::surface::Fall;
-use record::surface::Height;
 use record::surface::Indicators;
 use record::surface::Level;
 use record::surface::Moist;
@@ -18,6 +17,7 @@ use record::surface::Moisture;
 use record::surface::Observed;
 use record::surface::Position;
 use record::surface::Pressure;
+use record::surface::PressureChange;
 use record::surface::Rainfall;
 use record::surface::Sight;
 use record::surface::Tendency;
@@ -331,14 +331,14 @@ pub fn read_wind(g: &[u8]) -> Said
 }
 
 // 00fff, where ff was 99 or not.
-pub fn read_speed(gale: bool, g: &[u8]) -> Said
-    ensures { λ r. ⌜ r ≡ saidSpeed gale (now (g .entry)) ⌝ }
+pub fn read_speed(due: bool, g: &[u8]) -> Said
+    ensures { λ r. ⌜ r ≡ saidSpeed due (now (g .entry)) ⌝ }
 {
     let Field::Number(n) = field(g, 2, 3) else {
         return wrong_figure();
     };
     if 99 <= n {
-        if gale { Said::Speed(n) } else { disagreement() }
+        if due { Said::Speed(n) } else { disagreement() }
     } else {
         wrong_figure()
     }
@@ -433,13 +433,13 @@ fn level_of(n: u32) -> Said
 {
     if (n <= 999) | (9000 <= n) {
         return Said::Level(Level {
-            is: Height::SeaLevel(pressure_of(n)),
+            is: AtLevel::Pressure(pressure_of(n)),
         });
     }
     let a = n / 1000;
     if (a == 1) | (a == 2) | (a == 5) | (a == 7) | (a == 8) {
         Said::Level(Level {
-            is: Height::Surface {
+            is: AtLevel::Isobaric {
                 level: a,
                 height: n % 1000,
             },
@@ -457,7 +457,7 @@ pub fn read_level(g: &[u8]) -> Said
     match f {
         Field::Number(n) => level_of(n),
         Field::Missing => Said::Level(Level {
-            is: Height::Missing,
+            is: AtLevel::Missing,
         }),
         _ => wrong_figure(),
     }
@@ -471,7 +471,7 @@ fn tendency_of(a: u32, p: u32) -> Said
         return wrong_figure();
     }
     Said::Tendency(Tendency {
-        is: Change::Is {
+        is: PressureChange::Is {
             tendency: a,
             change: with_sign(4 < a, p),
         },
@@ -486,7 +486,7 @@ pub fn read_tendency(g: &[u8]) -> Said
     match f {
         Field::Number(n) => tendency_of(n / 1000, n % 1000),
         Field::Missing => Said::Tendency(Tendency {
-            is: Change::Missing,
+            is: PressureChange::Missing,
         }),
         _ => wrong_figure(),
     }

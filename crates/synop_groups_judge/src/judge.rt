@@ -2,12 +2,11 @@
 use crate::slots::name_part;
 use figures::signed;
 use record::surface::Air;
+use record::surface::AtLevel;
 use record::surface::CallSign;
-use record::surface::Change;
 use record::surface::Clock;
 use record::surface::Clouds;
 use record::surface::Fall;
-use record::surface::Height;
 use record::surface::Indicators;
 use record::surface::Level;
 use record::surface::Moist;
@@ -15,6 +14,7 @@ use record::surface::Moisture;
 use record::surface::Observed;
 use record::surface::Position;
 use record::surface::Pressure;
+use record::surface::PressureChange;
 use record::surface::Rainfall;
 use record::surface::Sight;
 use record::surface::Tendency;
@@ -32,7 +32,7 @@ use text::kinds::Judged;
 ghost use mathlib.Core.Path.{_≡_};
 ghost use Rattle.scales.specs.Rounded.{rainFits};
 ghost use Rattle.synop_groups.specs.Judge.{unitFits, latitudeFits, longitudeFits, sightFits, speedFits, windFits, isStill, windAgrees};
-ghost use Rattle.synop_groups.specs.Judge.{tenthsFit, moistFits, heightFits, changeFits, changeSuits, changeAgrees, fallFits, clockFits};
+ghost use Rattle.synop_groups.specs.Judge.{tenthsFit, moistFits, levelFits, changeFits, changeSuits, changeAgrees, fallFits, clockFits};
 ghost use Rattle.synop_groups.specs.Judge.{judgeTime, judgeStation, judgeSign, judgePosition, judgeIndicators, judgeWind};
 ghost use Rattle.synop_groups.specs.Judge.{judgeAir, judgeMoisture, judgePressure, judgeLevel, judgeTendency, judgeRainfall, judgeWeather, judgeClouds, judgeClock};
 
@@ -220,13 +220,13 @@ pub fn judge_pressure(p: Pressure) -> Judged
     judge(station.is_missing_or_between(1000, 10999), true)
 }
 
-fn height_fits(h: Height) -> bool
-    ensures { λ r. ⌜ r ≡ heightFits h ⌝ }
+fn level_fits(h: AtLevel) -> bool
+    ensures { λ r. ⌜ r ≡ levelFits h ⌝ }
 {
     match h {
-        Height::Missing => true,
-        Height::SeaLevel(p) => (9000 <= p) & (p <= 10999),
-        Height::Surface { level, height } => {
+        AtLevel::Missing => true,
+        AtLevel::Pressure(p) => (9000 <= p) & (p <= 10999),
+        AtLevel::Isobaric { level, height } => {
             ((level == 1) | (level == 2) | (level == 5) | (level == 7) | (level == 8))
                 & (height <= 999)
         }
@@ -237,15 +237,16 @@ pub fn judge_level(l: Level) -> Judged
     ensures { λ r. ⌜ r ≡ judgeLevel l ⌝ }
 {
     let is = l.is;
-    judge(height_fits(is), true)
+    judge(level_fits(is), true)
 }
 
-fn change_fits(c: Change) -> bool
+fn change_fits(c: PressureChange) -> bool
     ensures { λ r. ⌜ r ≡ changeFits c ⌝ }
 {
     match c {
-        Change::Missing => true,
-        Change::Is { tendency, change } => (tendency <= 8) & (signed::magnitude(change) <= 999),
+        PressureChange::Missing => true,
+        PressureChange::Is { tendency, change } => (tendency <= 8)
+            & (signed::magnitude(change) <= 999),
     }
 }
 
@@ -261,12 +262,12 @@ fn change_suits(tendency: u32, change: i32) -> bool
     if tendency == 4 { none } else { fall | none }
 }
 
-fn change_agrees(c: Change) -> bool
+fn change_agrees(c: PressureChange) -> bool
     ensures { λ r. ⌜ r ≡ changeAgrees c ⌝ }
 {
     match c {
-        Change::Missing => true,
-        Change::Is { tendency, change } => change_suits(tendency, change),
+        PressureChange::Missing => true,
+        PressureChange::Is { tendency, change } => change_suits(tendency, change),
     }
 }
 

@@ -7,12 +7,11 @@ use figures::put::put_number;
 use figures::put::put_text;
 use figures::signed;
 use record::surface::Air;
+use record::surface::AtLevel;
 use record::surface::CallSign;
-use record::surface::Change;
 use record::surface::Clock;
 use record::surface::Clouds;
 use record::surface::Fall;
-use record::surface::Height;
 use record::surface::Indicators;
 use record::surface::Level;
 use record::surface::Moist;
@@ -20,6 +19,7 @@ use record::surface::Moisture;
 use record::surface::Observed;
 use record::surface::Position;
 use record::surface::Pressure;
+use record::surface::PressureChange;
 use record::surface::Rainfall;
 use record::surface::Sight;
 use record::surface::Tendency;
@@ -334,9 +334,9 @@ pub fn put_level(out: &mut [u8], at: usize, l: Level) -> usize
 {
     let is = l.is;
     match is {
-        Height::Missing => at,
-        Height::SeaLevel(p) => put_coded(out, at, b"4", 4, p % 10000),
-        Height::Surface { level, height } => put_two(out, at, b'4', 1, level, 3, height),
+        AtLevel::Missing => at,
+        AtLevel::Pressure(p) => put_coded(out, at, b"4", 4, p % 10000),
+        AtLevel::Isobaric { level, height } => put_two(out, at, b'4', 1, level, 3, height),
     }
 }
 
@@ -346,8 +346,8 @@ pub fn put_tendency(out: &mut [u8], at: usize, t: Tendency) -> usize
 {
     let is = t.is;
     match is {
-        Change::Missing => at,
-        Change::Is { tendency, change } => {
+        PressureChange::Missing => at,
+        PressureChange::Is { tendency, change } => {
             put_two(out, at, b'5', 1, tendency, 3, signed::magnitude(change))
         }
     }

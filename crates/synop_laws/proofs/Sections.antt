@@ -28,7 +28,7 @@ use Rattle.record.specs.Blank.{blankSurface}
 use Rattle.synop_groups.specs.declared.kinds.Said.{Said}
 use Rattle.text.specs.declared.kinds.Judged.the-variants as judged
 use Rattle.synop_groups.specs.Classes.{classIndicators, classWind, classRainfall}
-use Rattle.synop_groups.specs.Shows.{isGale, speedGroup, showSpeed}
+use Rattle.synop_groups.specs.Shows.{isInThree, speedGroup, showSpeed}
 use Rattle.synop_groups.specs.Judge.{judgeWind, judgeAir, judgeMoisture, judgePressure, judgeLevel, judgeTendency, judgeRainfall, judgeWeather, judgeClouds, judgeClock}
 use Rattle.record.specs.SilentSurface.{noFall}
 use Rattle.synop_groups.specs.Classes.{speedInTwo, windInTwo}
@@ -43,7 +43,7 @@ use Rattle.synop.specs.Write.{judgeSection}
 -- WHAT THE ROW WRITES IS TOLD APART, whatever iR, ix and ff require.
 pub row-sound : (n : Needs) → sound stopWords (row n) ≡ true
 unfolding row stopWords low high clash clashEach allApart
-row-sound n = rw (or-true (n .gale && true), or-true (n .rain && true), or-true (n .weather && true))
+row-sound n = rw (or-true (n .speed && true), or-true (n .rain && true), or-true (n .weather && true))
 
 pub row-covered : (n : Needs) → Covered (row n)
 unfolding row
@@ -200,13 +200,13 @@ kept-row s w e =
 -- ---- section 1 as a whole
 
 -- what Nddff leaves requires the same groups
-gale-kept : (x : Speed) → isGale (speedInTwo x) ≡ isGale x
-gale-kept speed.Missing = refl
-gale-kept (speed.Is s) = ⊎-elim (λ h. rw (le-leb 99 s h)) (λ h. rw (lt-leb 99 s h, lt-leb 99 s h)) (reached 99 s)
+three-kept : (x : Speed) → isInThree (speedInTwo x) ≡ isInThree x
+three-kept speed.Missing = refl
+three-kept (speed.Is s) = ⊎-elim (λ h. rw (le-leb 99 s h)) (λ h. rw (lt-leb 99 s h, lt-leb 99 s h)) (reached 99 s)
 
 pub needs-kept : (s : Surface) → needsOf (begunSurface s) ≡ needsOf s
 unfolding needsOf
-needs-kept s = rw (gale-kept (s .wind .speed))
+needs-kept s = rw (three-kept (s .wind .speed))
 
 -- SECTION 1 OF A SURFACE THAT IS JUDGED FINE IS READ BACK, from any pieces that hold its groups.
 pub section-back : (s : Surface) (r : Synop) (end : ℕ) (gs : List Piece) → judgeWind (s .wind) ≡ judged.Fine → judgeSection (needsOf s) s ≡ judged.Fine

@@ -19,7 +19,7 @@ use Rattle.record.specs.Set.{setIndicators, setWind, setAir, setMoisture, setPr
 use Rattle.synop_groups.specs.declared.kinds.Said.{Said}
 use Rattle.synop_groups.specs.declared.kinds.Said.the-variants as said
 use Rattle.synop_groups.specs.Reads.{saidSpeed, saidAir, saidMoisture, saidPressure, saidLevel, saidTendency, saidRainfall, saidWeather, saidClouds, saidClock}
-use Rattle.synop_groups.specs.Shows.{isGale, moistureSpoken, showSpeed, showAir, showMoisture, showPressure, showLevel, showTendency, showRainfall, showWeather, showClouds, showClock}
+use Rattle.synop_groups.specs.Shows.{isInThree, moistureSpoken, showSpeed, showAir, showMoisture, showPressure, showLevel, showTendency, showRainfall, showWeather, showClouds, showClock}
 use Rattle.synop_groups.specs.Classes.{classRainfall}
 use Rattle.synop_row.specs.declared.kinds.Needs.{Needs}
 
@@ -40,7 +40,7 @@ needsOf s =
     record {
       rain = figureIs rainDue (s .indicators .rain);
       weather = figureIs weatherDue (s .indicators .weather);
-      gale = isGale (s .wind .speed);
+      speed = isInThree (s .wind .speed);
     }
 
 -- 00fff gives the wind its speed
@@ -84,7 +84,7 @@ placeFor shape spoken must says show put =
 
 unfoldable pub row : Needs → List (Place Surface)
 row n =
-    placeFor "00###" (bytes "00###" ∷ []) (n .gale) (saidSpeed (n .gale)) (λ s. showSpeed (s .wind)) (λ s acc. setSpeed (s .wind .speed) acc)
+    placeFor "00###" (bytes "00###" ∷ []) (n .speed) (saidSpeed (n .speed)) (λ s. showSpeed (s .wind)) (λ s acc. setSpeed (s .wind .speed) acc)
     ∷ placeFor "1####" (bytes "1####" ∷ []) false saidAir (λ s. showAir (s .air)) (λ s acc. setAir (s .air) acc)
     ∷ placeFor "2####" moistureSpoken false saidMoisture (λ s. showMoisture (s .moisture)) (λ s acc. setMoisture (s .moisture) acc)
     ∷ placeFor "3####" (bytes "3####" ∷ []) false saidPressure (λ s. showPressure (s .pressure)) (λ s acc. setPressure (s .pressure) acc)

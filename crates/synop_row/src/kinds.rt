@@ -4,5 +4,5 @@
 pub struct Needs {
     pub rain: bool,
     pub weather: bool,
-    pub gale: bool,
+    pub speed: bool,
 }

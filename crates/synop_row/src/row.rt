@@ -14,7 +14,7 @@ ghost use mathlib.Core.Bool.{_&&_};
 ghost use lib.ListN.{drop};
 ghost use Rattle.places.specs.Seek.{answers, fitFrom, findOf};
 ghost use Rattle.places.specs.Engine.{placeAt, standsOf, mustsOf};
-ghost use Rattle.synop_groups.specs.Shows.{isGale};
+ghost use Rattle.synop_groups.specs.Shows.{isInThree};
 ghost use Rattle.synop_row.specs.Row.{rainDue, weatherDue, figureIs, needsOf, row, stopWords, Mosts};
 
 // iR 0 or 1 requires the 6 group.
@@ -38,8 +38,8 @@ fn is_weather_due(weather: Number) -> bool
 }
 
 // ff 99 requires 00fff.
-fn is_gale(speed: Speed) -> bool
-    ensures { λ r. ⌜ r ≡ isGale speed ⌝ }
+fn is_in_three(speed: Speed) -> bool
+    ensures { λ r. ⌜ r ≡ isInThree speed ⌝ }
 {
     match speed {
         Speed::Missing => false,
@@ -58,7 +58,7 @@ pub fn needs_of(s: Surface) -> Needs
     Needs {
         rain: is_rain_due(rain),
         weather: is_weather_due(weather),
-        gale: is_gale(speed),
+        speed: is_in_three(speed),
     }
 }
 
@@ -102,7 +102,7 @@ pub fn musts_of(n: Needs) -> [bool; 10]
     ensures { λ r. ⌜ r ≡ mustsOf (row n) ⌝ }
 {
     [
-        n.gale,
+        n.speed,
         false,
         false,
         false,

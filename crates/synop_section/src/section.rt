@@ -31,7 +31,7 @@ fn said_at(place: usize, needs: Needs, g: &[u8]) -> Said
     ensures { λ r. ⌜ Says needs place (now (g .entry)) r ⌝ }
 {
     match place {
-        0 => read::read_speed(needs.gale, g),
+        0 => read::read_speed(needs.speed, g),
         1 => read::read_air(g),
         2 => read::read_moisture(g),
         3 => read::read_pressure(g),

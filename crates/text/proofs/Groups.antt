@@ -7,7 +7,7 @@ use Prim.Native.Nat.{ℕ, zero, suc, _+_, _-_, _≤_, _<_}
 use native.Mathlib.Nat.{add-zero, add-suc, suc-add, add-sub-cancel-left, sub-self}
 use native.Mathlib.Omega.{arith}
 use lib.ListN.{length, getD, take, drop, drop-of-length-le, length-drop}
-use lib.Seq.{drop-cons, drop-drop, drop-nil, getD-drop}
+use lib.Seq.{drop-cons, drop-drop, drop-nil, getD-drop, length-take-le}
 use lib.Dec.{leb}
 use borrow.Author.Tests.{le-leb, lt-leb, leb-true, leb-false}
 use Rattle.text.specs.declared.kinds.Cut.{Cut}
@@ -20,6 +20,9 @@ use Rattle.text.proofs.Leads.{lead-cons-yes, lead-cons-no, lead-yes, le
 pub part-is : (t : List ℕ) (s e : ℕ) → s ≤ e → e ≤ length t → partOf t s e ≡ take (e - s) (drop s t)
 unfolding partOf
 part-is t s e h k = simp (le-leb s e h, le-leb e (length t) k)
+
+pub part-length : (t : List ℕ) (s e : ℕ) → s ≤ e → e ≤ length t → length (partOf t s e) ≡ e - s
+part-length t s e h k = ap length (part-is t s e h k) ∙ length-take-le (e - s) (drop s t) (omega (arith, length-drop s t))
 
 -- no part where it would end before its start, or past the text
 pub part-none : (t : List ℕ) (s e : ℕ) → e < s → partOf t s e ≡ []

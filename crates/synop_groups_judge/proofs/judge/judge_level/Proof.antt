@@ -10,4 +10,4 @@ judge-level-spec =
     (tie.spec
     (λ c κs. tt)
     (λ c κs. tt)
-    (λ c. unfold judgeLevel in rw (c .judge .ensures, c .before .height-fits .ensures)))
+    (λ c. unfold judgeLevel in rw (c .judge .ensures, c .before .level-fits .ensures)))

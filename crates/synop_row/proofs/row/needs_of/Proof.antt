@@ -10,4 +10,4 @@ needs-of-spec =
     tie.close
     (tie.spec
     (λ c κs. search needs) (λ c κs. search needs) (λ c κs. search needs)
-    (λ c. unfold needsOf in rw (c .before .before .is-rain-due .ensures, c .before .is-weather-due .ensures, c .is-gale .ensures)))
+    (λ c. unfold needsOf in rw (c .before .before .is-rain-due .ensures, c .before .is-weather-due .ensures, c .is-in-three .ensures)))
