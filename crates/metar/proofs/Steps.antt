@@ -17,6 +17,8 @@ use Rattle.text.specs.Groups.{Piece, groupsFrom, partOf}
 use Rattle.text.proofs.Groups.{Follows}
 use Rattle.text.specs.Text.{tailOf}
 use Rattle.figures.specs.Quote.{bytes}
+use Rattle.figures.proofs.Impossible.{impossible}
+use Rattle.text.specs.declared.kinds.Judged.the-variants as fine
 use Rattle.shapes.specs.Pattern.{low, high, fits, hasPattern, hasAny, clash, clashEach, allApart}
 use Rattle.shapes.proofs.Patterns.{both, or-right, excluded, all-excluded}
 use Rattle.places.specs.declared.kinds.Found.{Found}
@@ -33,12 +35,11 @@ use Rattle.record.specs.Metar.{blankMetar, setSpecial}
 use Rattle.elements.specs.Parts.{agreeing}
 use Rattle.elements.specs.Visibility.{isCavok}
 use Rattle.metar.specs.declared.kinds.Told.{Told}
-use Rattle.metar.specs.declared.kinds.Next.the-variants as next
-use Rattle.metar.specs.declared.kinds.Standing.{Standing}
-use Rattle.metar.specs.declared.kinds.Stepped.{Stepped}
+use Rattle.metar.specs.declared.kinds.Turn.{Turn}
+use Rattle.metar.specs.declared.kinds.Turn.the-variants as turn
 use Rattle.metar.specs.declared.kinds.Reading.{Reading}
 use Rattle.metar_row.specs.Row.{onto, besideCavok, isName, row, stopWords}
-use Rattle.metar.specs.Step.{toldOf, standing, stepped, arrived, stepOf}
+use Rattle.metar.specs.Step.{toldOf, Turns}
 use Rattle.metar.specs.Read.{groupsRead, behindName, refused, answer}
 
 -- ---- what a group adds
@@ -107,91 +108,84 @@ untaken x g Full told = refl
 untaken x g Earlier told = refl
 untaken x g Unknown told = refl
 
-arrives : (s : Standing) (i k : ℕ) (x : Read Metar) → arrived s i k (toldOf (s .report) x) ≡ stepped s (taken (onward row i) k x)
-arrives s i k (Good x) = refl
-arrives s i k (Bad f) = refl
+-- a group's turn
+module _ (c k : ℕ) (g : Group) where
+  pub turn-beyond : 15 ≤ c → Turns c k g (turn.Refused refusal.Shape)
+  turn-beyond h = record { says = λ r. step-past row stopWords c k r g (rw row-length h); room = λ i j e. impossible (cc) }
 
-module _ (s : Standing) (g : Group) where
-  pub step-beyond : 15 ≤ s .place → stepped s (Stop refusal.Shape) ≡ stepOf s g
-  unfolding stepOf
-  step-beyond h = ap (stepped s) (sym (step-past row stopWords (s .place) (s .count) (s .report) g (rw row-length h)))
-
-  module _ (here : s .place < 15) where
-    inside : s .place < length row
+  module _ (here : c < 15) where
+    inside : c < length row
     inside = rw row-length here
 
-    pub step-halts : hasAny stopWords g ≡ true → record { next = next.Halt; standing = s } ≡ stepOf s g
-    unfolding stepOf
-    step-halts w = ap (stepped s) (sym (step-word row stopWords (s .place) (s .count) (s .report) g inside w))
+    pub turn-halts : hasAny stopWords g ≡ true → Turns c k g turn.Halt
+    turn-halts w = record { says = λ r. step-word row stopWords c k r g inside w; room = λ i j e. impossible (cc) }
 
-    module _ (w : hasAny stopWords g ≡ false) {f : Found} (asked : f ≡ findOf (standsOf row g) (s .place) (s .count)) where
-      goes : stepOf s g ≡ stepped s (judged row (s .report) g f)
-      unfolding stepOf
-      goes = ap (stepped s) (step-by row stopWords (s .place) (s .count) (s .report) g inside w asked)
+    module _ (w : hasAny stopWords g ≡ false) {f : Found} (asked : f ≡ findOf (standsOf row g) c k) where
+      pub turn-takes : (i j : ℕ) → f ≡ Take i j → Turns c k g (turn.At i j)
+      turn-takes i j is =
+          record {
+            says = λ r. step-by row stopWords c k r g inside w asked ∙ rw is;
+            room = λ m n e. let same : j ≡ n = cc in rw (← same) (room-left g c k i j (sym is ∙ asked));
+          }
 
-      pub step-takes : (i k : ℕ) {t : Told} → f ≡ Take i k → t ≡ toldOf (s .report) (placeAt row i .read k g (s .report)) → arrived s i (k + 1) t ≡ stepOf s g
-      step-takes i k is told = rw told (arrives s i (k + 1) (placeAt row i .read k g (s .report)) ∙ sym taken-so)
-        where
-          taken-so : stepOf s g ≡ stepped s (taken (onward row i) (k + 1) (placeAt row i .read k g (s .report)))
-          taken-so = goes ∙ rw is
+      pub turn-refused : {x : Refusal} → x ≡ refusalOf f → OneOf (1 ∷ 2 ∷ 3 ∷ 4 ∷ []) (tagOf found.the-type f) → Turns c k g (turn.Refused x)
+      turn-refused e told =
+          record { says = λ r. step-by row stopWords c k r g inside w asked ∙ sym (rw e (untaken r g f told)); room = λ i j z. impossible (cc) }
 
-      pub step-stops : OneOf (1 ∷ 2 ∷ 3 ∷ 4 ∷ []) (tagOf found.the-type f) → stepped s (Stop (refusalOf f)) ≡ stepOf s g
-      step-stops told = ap (stepped s) (untaken (s .report) g f told) ∙ sym goes
+-- what is told at a place, and how reading goes on from there
+told-on : (r : Metar) (m n : ℕ) (y : Read Metar) → toldOf r y .judged ≡ fine.Fine → taken m n y ≡ On m n (toldOf r y .report)
+told-on r m n (Good x) e = refl
+told-on r m n (Bad f) e = impossible (cc)
+
+told-off : (r : Metar) (m n : ℕ) (y : Read Metar) (f : Refusal) → toldOf r y .judged ≡ fine.Refused f → taken m n y ≡ Stop f
+told-off r m n (Good x) f e = impossible (cc)
+told-off r m n (Bad h) f e = let same : h ≡ f = cc in rw same
 
 -- ---- reading ends
 
-pub closed-by : (at : ℕ) (s : Standing) (b : Bool) {us : List Bool} {o : Bool} → us ≡ mustsOf row → o ≡ owed (s .count) (drop (s .place) us) → o ≡ b
-    → answer (finish b at (s .report)) ≡ answer (closed row at (s .place) (s .count) (s .report))
-closed-by at s b p q e = ap answer (sym (closes row at (s .place) (s .count) (s .report) b (rw (← p) (sym q ∙ e))))
+pub closed-by : (at c k : ℕ) (r : Metar) (b : Bool) {us : List Bool} {o : Bool} → us ≡ mustsOf row → o ≡ owed k (drop c us) → o ≡ b
+    → answer (finish b at r) ≡ answer (closed row at c k r)
+closed-by at c k r b p q e = ap answer (sym (closes row at c k r b (rw (← p) (sym q ∙ e))))
 
 -- ---- from group to group
 
 -- what the text is read as from a position on
-unfoldable pub goes-on : List ℕ → Standing → ℕ → Reading
-goes-on t s at = answer (going row stopWords t (s .place) (s .count) (s .report) at)
+unfoldable pub goes-on : List ℕ → ℕ → ℕ → Metar → ℕ → Reading
+goes-on t c k r at = answer (going row stopWords t c k r at)
 
-module _ (t : List ℕ) (s : Standing) (at : ℕ) where
-  pub reads-over : groupsFrom t at ≡ [] → goes-on t s at ≡ answer (over row (tailOf t) (length t) (s .place) (s .count) (s .report))
+module _ (t : List ℕ) (c k : ℕ) (r : Metar) (at : ℕ) where
+  pub reads-over : groupsFrom t at ≡ [] → goes-on t c k r at ≡ answer (over row (tailOf t) (length t) c k r)
   unfolding goes-on
-  reads-over e = ap answer (going-over row stopWords t (s .place) (s .count) (s .report) at e)
+  reads-over e = ap answer (going-over row stopWords t c k r at e)
 
-  module _ (from to : ℕ) {g : Group} {u : Stepped} (follows : Follows t at from to) (cut : g ≡ partOf t from to) (read : u ≡ stepOf s g) where
+  module _ (from to : ℕ) {g : Group} {u : Turn} (follows : Follows t at from to) (cut : g ≡ partOf t from to) (turns : Turns c k g u) where
     groups : groupsFrom t at ≡ record { start = from; bytes = g } ∷ groupsFrom t to
     groups = rw cut (follows .groups)
 
-    stands-so : u ≡ stepped s (step row stopWords (s .place) (s .count) (s .report) g)
-    unfolding stepOf
-    stands-so = read
-
-    pub reads-on : u .next ≡ next.On → goes-on t s at ≡ goes-on t (u .standing) to
+    pub reads-halt : u ≡ turn.Halt → goes-on t c k r at ≡ answer (closed row from c k r)
     unfolding goes-on
-    reads-on o = go (step row stopWords (s .place) (s .count) (s .report) g) refl stands-so
-      where
-        go : (x : Step Metar) → step row stopWords (s .place) (s .count) (s .report) g ≡ x → u ≡ stepped s x → goes-on t s at ≡ goes-on t (u .standing) to
-        go (On c k a) is e = rw e (ap answer (going-on row stopWords t (s .place) (s .count) (s .report) at from to g groups c k a is))
-        go Halt is e = let z : _≡_ {A = ℕ} 0 1 = cc in absurd (omega arith)
-        go (Stop f) is e = let z : _≡_ {A = ℕ} 0 1 = cc in absurd (omega arith)
+    reads-halt o = ap answer (going-halt row stopWords t c k r at from to g groups (turns .says r ∙ rw o))
 
-    pub reads-halt : u .next ≡ next.Halt → goes-on t s at ≡ answer (closed row from (s .place) (s .count) (s .report))
+    pub reads-fault : {f : Refusal} → u ≡ turn.Refused f → goes-on t c k r at ≡ refused f from
     unfolding goes-on
-    reads-halt o = go (step row stopWords (s .place) (s .count) (s .report) g) refl stands-so
-      where
-        go : (x : Step Metar) → step row stopWords (s .place) (s .count) (s .report) g ≡ x → u ≡ stepped s x
-            → goes-on t s at ≡ answer (closed row from (s .place) (s .count) (s .report))
-        go (On c k a) is e = let z : _≡_ {A = ℕ} 0 1 = cc in absurd (omega arith)
-        go Halt is e = ap answer (going-halt row stopWords t (s .place) (s .count) (s .report) at from to g groups is)
-        go (Stop f) is e = let z : _≡_ {A = ℕ} 0 1 = cc in absurd (omega arith)
+    reads-fault {f} o = ap answer (going-fault row stopWords t c k r at from to g groups f (turns .says r ∙ rw o))
 
-    pub reads-fault : {f : Refusal} → u .next ≡ next.Fault f → goes-on t s at ≡ refused f from
-    unfolding goes-on
-    reads-fault {f} o = go (step row stopWords (s .place) (s .count) (s .report) g) refl stands-so
-      where
-        go : (x : Step Metar) → step row stopWords (s .place) (s .count) (s .report) g ≡ x → u ≡ stepped s x → goes-on t s at ≡ refused f from
-        go (On c k a) is e = let z : _≡_ {A = ℕ} 0 1 = cc in absurd (omega arith)
-        go Halt is e = let z : _≡_ {A = ℕ} 0 1 = cc in absurd (omega arith)
-        go (Stop m) is e =
-            let z : m ≡ f = cc in
-            ap answer (going-fault row stopWords t (s .place) (s .count) (s .report) at from to g groups m is) ∙ rw z
+    module _ (i j : ℕ) (o : u ≡ turn.At i j) {x : Told} (told : x ≡ toldOf r (placeAt row i .read j g r)) where
+      goes : step row stopWords c k r g ≡ taken (onward row i) (j + 1) (placeAt row i .read j g r)
+      goes = turns .says r ∙ rw o
+
+      pub reads-on : {p : ℕ} → p ≡ onward row i → x .judged ≡ fine.Fine → goes-on t c k r at ≡ goes-on t p (j + 1) (x .report) to
+      unfolding goes-on
+      reads-on is good =
+          let y = placeAt row i .read j g r in
+          rw (is, told)
+          (ap answer (going-on row stopWords t c k r at from to g groups (onward row i) (j + 1) (toldOf r y .report) (goes ∙ told-on r (onward row i) (j + 1) y (rw told at good))))
+
+      pub reads-bad : {f : Refusal} → x .judged ≡ fine.Refused f → goes-on t c k r at ≡ refused f from
+      unfolding goes-on
+      reads-bad {f} bad =
+          let y = placeAt row i .read j g r in
+          ap answer (going-fault row stopWords t c k r at from to g groups f (goes ∙ told-off r (onward row i) (j + 1) y f (rw told at bad)))
 
 -- ---- the name, at the row's first place
 

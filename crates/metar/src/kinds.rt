@@ -10,23 +10,11 @@ pub struct Told {
     pub report: Metar,
 }
 
-// The place that reading stands at, how many groups stand there, and what was read so far.
-pub struct Standing {
-    pub place: usize,
-    pub count: usize,
-    pub report: Metar,
-}
-
-// What one group comes to: reading goes on, it stops at a stop word, or the group is refused.
-pub enum Next {
-    On,
+// A group's turn by the row, before it is read: it goes to a place, where so many groups stand, it stops the reading, or it is refused.
+pub enum Turn {
+    At { place: usize, count: usize },
     Halt,
-    Fault(Refusal),
-}
-
-pub struct Stepped {
-    pub next: Next,
-    pub standing: Standing,
+    Refused(Refusal),
 }
 
 // The record is blank where the text is refused.

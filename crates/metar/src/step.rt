@@ -1,28 +1,24 @@
-// One group: where it goes in the row of places, and what it adds to the record there.
-use crate::kinds::Next;
-use crate::kinds::Standing;
-use crate::kinds::Stepped;
+// One group: where it goes in the row of places, which the record has no part in, and what it adds to the record there.
 use crate::kinds::Told;
+use crate::kinds::Turn;
 use crate::take;
 use aerodrome_groups::read::station_of;
 use metar_row::find;
-use metar_row::go_past;
 use metar_row::is_stop_word;
 use places::kinds::Found;
 use record::aerodrome::Metar;
 use shapes::has_pattern;
-use text::kinds::Judged;
 use text::kinds::Refusal;
 ghost use mathlib.Core.Path.{_≡_};
 ghost use mathlib.Core.Bool.{true};
 ghost use Prim.Native.Nat.{_<_, _≤_};
-ghost use Rattle.places.specs.Engine.{Good, placeAt, Stop};
+ghost use Rattle.places.specs.Engine.{Good, placeAt};
 ghost use Rattle.record.specs.Metar.{setSpecial, setCorrected, setStation, setNil, setAutomatic};
 ghost use Rattle.figures.specs.Quote.{bytes};
 ghost use Rattle.shapes.specs.Pattern.{hasPattern};
 ghost use Rattle.aerodrome_groups.specs.Head.{stationOf};
 ghost use Rattle.metar_row.specs.Row.{row};
-ghost use Rattle.metar.specs.Step.{toldOf, ToldAt, arrived, stepped, stepOf};
+ghost use Rattle.metar.specs.Step.{toldOf, ToldAt, Turns};
 
 fn take_name(g: &[u8], r: Metar) -> Told
     ensures { λ t. ⌜ t ≡ toldOf r (Good (setSpecial (hasPattern (now (g .entry)) (bytes "SPECI")) r)) ⌝ }
@@ -100,7 +96,7 @@ fn read_body(place: usize, count: usize, g: &[u8], r: Metar) -> Told
 }
 
 // The group at its place.
-fn read_at(place: usize, count: usize, g: &[u8], r: Metar) -> Told
+pub fn read_at(place: usize, count: usize, g: &[u8], r: Metar) -> Told
     ensures { λ t. ⌜ t ≡ toldOf r (placeAt row place .read count (now (g .entry)) r) ⌝ }
 {
     if place < 6 {
@@ -110,56 +106,25 @@ fn read_at(place: usize, count: usize, g: &[u8], r: Metar) -> Told
     }
 }
 
-fn fault(refusal: Refusal, standing: Standing) -> Stepped
-    ensures { λ r. ⌜ r ≡ stepped standing (Stop refusal) ⌝ }
+// The group's turn, where `count` groups stand at `place`.
+pub fn decide(place: usize, count: usize, g: &[u8]) -> Turn
+    ensures { λ t. ⌜ Turns place count (now (g .entry)) t ⌝ }
 {
-    Stepped {
-        next: Next::Fault(refusal),
-        standing,
-    }
-}
-
-// A group was read at a place, the `count`th there: reading goes on from it, or the group is refused.
-fn arrive(place: usize, count: usize, told: Told, standing: Standing) -> Stepped
-    ensures { λ r. ⌜ r ≡ arrived standing place count told ⌝ }
-{
-    let judged = told.judged;
-    match judged {
-        Judged::Fine => {
-            let report = told.report;
-            Stepped {
-                next: Next::On,
-                standing: Standing {
-                    place: go_past(place),
-                    count,
-                    report,
-                },
-            }
-        }
-        Judged::Refused(refusal) => fault(refusal, standing),
-    }
-}
-
-// One group.
-pub fn step(standing: Standing, g: &[u8]) -> Stepped
-    ensures { λ r. ⌜ r ≡ stepOf standing (now (g .entry)) ⌝ }
-{
-    if 15 <= standing.place {
-        return fault(Refusal::Shape, standing);
+    if 15 <= place {
+        return Turn::Refused(Refusal::Shape);
     }
     if is_stop_word(g) {
-        return Stepped {
-            next: Next::Halt,
-            standing,
-        };
+        return Turn::Halt;
     }
-    let found = find(standing.place, standing.count, g);
+    let found = find(place, count, g);
     match found {
-        Found::Take { place, count } => {
-            let report = standing.report;
-            let told = read_at(place, count, g, report);
-            arrive(place, count + 1, told, standing)
-        }
-        _ => fault(places::refusal_of(found), standing),
+        Found::Take {
+            place: there,
+            count: standing,
+        } => Turn::At {
+            place: there,
+            count: standing,
+        },
+        _ => Turn::Refused(places::refusal_of(found)),
     }
 }

@@ -13,12 +13,12 @@ use Rattle.metar.proofs.read.finish.Tie as tie
 returns : tie.Need-returns
 returns c =
     let a = c .before .before .before .before .before .before .args in
-    c .refuse .ensures ∙ ap (λ (x : Tail). answer (over row x (length (a .text .now)) (a .s .place) (a .s .count) (a .s .report))) (sym (c .before .before .tail2 .given .1) ∙ c .before .before .before .before .tail .ensures)
+    c .refuse .ensures ∙ ap (λ (x : Tail). answer (over row x (length (a .text .now)) (a .place) (a .count) (a .report))) (sym (c .before .before .tail2 .given .1) ∙ c .before .before .before .before .tail .ensures)
 
 returns-2 : tie.Need-returns-2
 returns-2 c =
     let a = c .before .before .before .before .before .args in
-    c .close .ensures ∙ ap (λ (x : Tail). answer (over row x (length (a .text .now)) (a .s .place) (a .s .count) (a .s .report))) (sym (c .before .enum-told .given .1) ∙ c .before .before .before .tail .ensures)
+    c .close .ensures ∙ ap (λ (x : Tail). answer (over row x (length (a .text .now)) (a .place) (a .count) (a .report))) (sym (c .before .enum-told .given .1) ∙ c .before .before .before .tail .ensures)
 
 pub finish-spec : {M : Type 1} → statement M
 finish-spec =
