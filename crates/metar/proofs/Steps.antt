@@ -1,6 +1,6 @@
 -- The laws of reading a METAR: what a group adds to the record, one group held to the row, and how reading goes on from group to group.
 -- Assumes nothing.
-use Prim.Native.Nat.{ℕ, zero, suc, _+_, _≤_, _<_, zero-le}
+use Prim.Native.Nat.{ℕ, zero, suc, _+_, _≤_, _<_}
 use native.Mathlib.Omega.{arith}
 use mathlib.Core.Path.{_≡_, refl, sym, ap, _∙_}
 use mathlib.Core.Bool.{Bool, true, false, not, cond, _&&_}
@@ -69,19 +69,6 @@ read-place r g k j p e = rw p e
 -- past the row no group is taken
 pub read-nowhere : (r : Metar) (g : Group) (k i : ℕ) → 15 ≤ i → toldOf r (Bad refusal.Shape) ≡ toldOf r (placeAt row i .read k g r)
 read-nowhere r g k i h = ap (λ (p : Place Metar). toldOf r (p .read k g r)) (sym (List·getD-eq-default row nowhere (rw row-length h)))
-
--- which place is left, where a number is none of some
-beyond : (m i : ℕ) → m ≤ i → (i ≡ m → ⊥) → m + 1 ≤ i
-beyond m i h n = omega arith
-
-pub last-head : (i : ℕ) → i < 6 → (i ≡ 0 → ⊥) → (i ≡ 1 → ⊥) → (i ≡ 2 → ⊥) → (i ≡ 3 → ⊥) → (i ≡ 4 → ⊥) → i ≡ 5
-last-head i h a b c d e =
-    let five : 5 ≤ i = beyond 4 i (beyond 3 i (beyond 2 i (beyond 1 i (beyond 0 i zero-le a) b) c) d) e in
-    omega arith
-
-pub past-body : (i : ℕ) → 6 ≤ i → (i ≡ 6 → ⊥) → (i ≡ 7 → ⊥) → (i ≡ 8 → ⊥) → (i ≡ 9 → ⊥) → (i ≡ 10 → ⊥) → (i ≡ 11 → ⊥) → (i ≡ 12 → ⊥) → (i ≡ 13 → ⊥) → (i ≡ 14 → ⊥) → 15 ≤ i
-past-body i h a b c d e f g j k =
-    beyond 14 i (beyond 13 i (beyond 12 i (beyond 11 i (beyond 10 i (beyond 9 i (beyond 8 i (beyond 7 i (beyond 6 i h a) b) c) d) e) f) g) j) k
 
 -- ---- one group
 

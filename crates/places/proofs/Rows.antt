@@ -1,6 +1,6 @@
 -- A row of places as the search sees it, and what a place that takes a group has: room for it, and its shape.
 -- Assumes nothing.
-use Prim.Native.Nat.{ℕ, zero, suc, _+_, _≤_, _<_}
+use Prim.Native.Nat.{ℕ, zero, suc, _+_, _≤_, _<_, zero-le}
 use native.Mathlib.Omega.{arith}
 use native.Mathlib.Numerals.{add-one}
 use mathlib.Core.Path.{_≡_, refl, sym, ap, _∙_}
@@ -44,18 +44,22 @@ module _ {A : Type 0} where
   drop-map f (x ∷ xs) zero = refl
   drop-map f (x ∷ xs) (suc i) = drop-map f xs i
 
--- ---- a place that is none of the first n, as the last arm of a `match` has it
+-- ---- a place that is none of n places from place b on, as the last arm of a `match` has it
 
-abbrev pub Others : ℕ → ℕ → Type 0
-Others zero i = Unit {0}
-Others (suc n) i = Others n i × (i ≡ n → ⊥)
+abbrev pub Others : ℕ → ℕ → ℕ → Type 0
+Others b zero i = Unit {0}
+Others b (suc n) i = Others b n i × (i ≡ b + n → ⊥)
 
-pub beyond : (n i : ℕ) → Others n i → n ≤ i
-beyond zero i e = omega arith
-beyond (suc n) i e =
-    let low = beyond n i (e .0) in
+pub beyond : (b n i : ℕ) → b ≤ i → Others b n i → b + n ≤ i
+beyond b zero i h e = omega arith
+beyond b (suc n) i h e =
+    let low = beyond b n i h (e .0) in
     let other = e .1 in
     omega arith
+
+-- of the first n + 1 places the one that is left
+pub last-left : (n i : ℕ) → i < n + 1 → Others 0 n i → i ≡ n
+last-left n i h e = let low = beyond 0 n i zero-le e in omega arith
 
 module _ {R : Type 0} (row : List (Place R)) (g : Group) where
   -- the shape of a place by its number, and that past the row there is none

@@ -20,7 +20,7 @@ use Rattle.places.specs.declared.kinds.Found.{Found}
 use Rattle.places.specs.declared.kinds.Found.the-variants.{Take, Skips, Full, Earlier, Unknown}
 use Rattle.places.specs.Seek.{findOf, owed, refusalOf}
 use Rattle.places.specs.Engine.{Group, Read, Good, Bad, Place, nowhere, placeAt, standsOf, mustsOf, taken, judged, onward, Step, On, Halt, Stop, step, Outcome, finish, closed, over}
-use Rattle.places.proofs.Rows.{taken-open}
+use Rattle.places.proofs.Rows.{Others, beyond, taken-open}
 use Rattle.places.proofs.Going.{closes, step-word, step-by, going, going-over, going-on, going-halt, going-fault}
 use Rattle.places.proofs.kinds.Found as found
 use Rattle.record.specs.declared.surface.Surface.{Surface}
@@ -74,18 +74,10 @@ row-singles n = refl
 pub says-at : (n : Needs) (j : ℕ) (g : Group) {i : ℕ} {x y : Said} → i ≡ j → x ≡ y → Says n j g y → Says n i g x
 says-at n j g p q says = rw (p, q) says
 
-beyond : (m i : ℕ) → m ≤ i → (i ≡ m → ⊥) → m + 1 ≤ i
-beyond m i h n = omega arith
-
 -- past the row no group is taken
-pub says-nothing : (n : Needs) (i : ℕ) (g : Group)
-    → (i ≡ 0 → ⊥) → (i ≡ 1 → ⊥) → (i ≡ 2 → ⊥) → (i ≡ 3 → ⊥) → (i ≡ 4 → ⊥) → (i ≡ 5 → ⊥) → (i ≡ 6 → ⊥) → (i ≡ 7 → ⊥) → (i ≡ 8 → ⊥) → (i ≡ 9 → ⊥)
-    → Says n i g (said.Refused refusal.Shape)
+pub says-nothing : (n : Needs) (i : ℕ) (g : Group) → Others 0 10 i → Says n i g (said.Refused refusal.Shape)
 unfolding withSaid
-says-nothing n i g a b c d e f h j k l =
-    let five : 5 ≤ i = beyond 4 i (beyond 3 i (beyond 2 i (beyond 1 i (beyond 0 i zero-le a) b) c) d) e in
-    let ten : 10 ≤ i = beyond 9 i (beyond 8 i (beyond 7 i (beyond 6 i (beyond 5 i five f) h) j) k) l in
-    λ m s. ap (λ (p : Place Surface). p .read m g s) (List·getD-eq-default (row n) nowhere (rw (row-length n) ten))
+says-nothing n i g others = λ m s. ap (λ (p : Place Surface). p .read m g s) (List·getD-eq-default (row n) nowhere (rw (row-length n) (beyond 0 10 i zero-le others)))
 
 -- ---- one group
 

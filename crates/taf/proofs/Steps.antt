@@ -1,6 +1,6 @@
 -- The laws of one group of a TAF: what it adds to its part, and how it is held to the part's row.
 -- Assumes nothing.
-use Prim.Native.Nat.{ℕ, zero, suc, _+_, _≤_, _<_, zero-le}
+use Prim.Native.Nat.{ℕ, zero, suc, _+_, _≤_, _<_}
 use native.Mathlib.Omega.{arith}
 use mathlib.Core.Path.{_≡_, refl, sym, ap, _∙_}
 use mathlib.Core.Bool.{Bool, true, false, not, cond, _&&_, _||_, or-false}
@@ -69,18 +69,6 @@ read-place w r g k j p e = rw p e
 -- past the row no group is taken
 pub read-nowhere : (w : Part) (r : Leg) (g : Group) (k i : ℕ) → 11 ≤ i → toldOf r (Bad refusal.Shape) ≡ toldOf r (placeAt (row w) i .read k g r)
 read-nowhere w r g k i h = ap (λ (p : Place Leg). toldOf r (p .read k g r)) (sym (List·getD-eq-default (row w) nowhere (rw (row-length w) h)))
-
--- which place is left, where a number is none of some
-beyond : (m i : ℕ) → m ≤ i → (i ≡ m → ⊥) → m + 1 ≤ i
-beyond m i h n = omega arith
-
-pub last-head : (i : ℕ) → i < 7 → (i ≡ 0 → ⊥) → (i ≡ 1 → ⊥) → (i ≡ 2 → ⊥) → (i ≡ 3 → ⊥) → (i ≡ 4 → ⊥) → (i ≡ 5 → ⊥) → i ≡ 6
-last-head i h a b c d e f =
-    let six : 6 ≤ i = beyond 5 i (beyond 4 i (beyond 3 i (beyond 2 i (beyond 1 i (beyond 0 i zero-le a) b) c) d) e) f in
-    omega arith
-
-pub past-row : (i : ℕ) → 7 ≤ i → (i ≡ 7 → ⊥) → (i ≡ 8 → ⊥) → (i ≡ 9 → ⊥) → (i ≡ 10 → ⊥) → 11 ≤ i
-past-row i h a b c d = beyond 10 i (beyond 9 i (beyond 8 i (beyond 7 i h a) b) c) d
 
 -- NIL and CNL end the report: where either of two lists of tests holds
 abbrev either : List Bool → List Bool → List Bool

@@ -1,5 +1,6 @@
 -- `metar_row::has_at` meets its contract: place by place.
 -- Assumes nothing.
+use Prim.Native.Nat.{zero-le}
 use borrow.Author.Needs.{needs}
 use Rattle.places.proofs.Rows.{beyond, has-at, has-nowhere}
 use Rattle.metar_row.specs.Row.{row}
@@ -26,4 +27,4 @@ has-at-spec =
     (λ c. let a = c .before .before .before .args in has-at row (a .g .now) 12 (c .before .match .keys13) (unfold row in c .has-temperatures .ensures))
     (λ c. let a = c .before .before .before .before .args in has-at row (a .g .now) 13 (c .before .before .match .keys14) (unfold row in c .has-pattern6 .ensures))
     (λ c. let a = c .before .before .before .args in has-at row (a .g .now) 14 (c .before .match .keys15) (unfold row in c .has-recent .ensures))
-    (λ c. let a = c .before .before .args in has-nowhere row (a .g .now) (a .place) (unfold row in beyond 15 (a .place) (c .match .rest))))
+    (λ c. let a = c .before .before .args in has-nowhere row (a .g .now) (a .place) (unfold row in beyond 0 15 (a .place) zero-le (c .match .rest))))

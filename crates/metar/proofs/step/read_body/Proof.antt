@@ -3,7 +3,8 @@
 use borrow.Author.Needs.{needs}
 use mathlib.Core.Path.{_∙_}
 use Rattle.metar_row.specs.Row.{row}
-use Rattle.metar.proofs.Steps.{read-place, read-nowhere, past-body}
+use Rattle.places.proofs.Rows.{beyond}
+use Rattle.metar.proofs.Steps.{read-place, read-nowhere}
 use Rattle.metar.proofs.step.read_body.Statement.{statement}
 use Rattle.metar.proofs.step.read_body.Tie as tie
 
@@ -37,10 +38,7 @@ returns-9 c = let a = c .before .before .before .args in read-place (a .r) (a .g
 returns-10 : tie.Need-returns-10
 returns-10 c =
     let a = c .before .before .before .args in
-    let m = c .before .match .rest in
-    c .refuse .ensures
-    ∙ read-nowhere (a .r) (a .g .now) (a .count) (a .place)
-    (past-body (a .place) (c .before .before .before .pre) (m .0 .0 .0 .0 .0 .0 .0 .0 .1) (m .0 .0 .0 .0 .0 .0 .0 .1) (m .0 .0 .0 .0 .0 .0 .1) (m .0 .0 .0 .0 .0 .1) (m .0 .0 .0 .0 .1) (m .0 .0 .0 .1) (m .0 .0 .1) (m .0 .1) (m .1))
+    c .refuse .ensures ∙ read-nowhere (a .r) (a .g .now) (a .count) (a .place) (beyond 6 9 (a .place) (c .before .before .before .pre) (c .before .match .rest))
 
 pub read-body-spec : {M : Type 1} → statement M
 read-body-spec =

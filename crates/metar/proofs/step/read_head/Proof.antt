@@ -2,7 +2,8 @@
 -- Assumes nothing.
 use borrow.Author.Needs.{needs}
 use Rattle.metar_row.specs.Row.{row}
-use Rattle.metar.proofs.Steps.{read-place, last-head}
+use Rattle.places.proofs.Rows.{last-left}
+use Rattle.metar.proofs.Steps.{read-place}
 use Rattle.metar.proofs.step.read_head.Statement.{statement}
 use Rattle.metar.proofs.step.read_head.Tie as tie
 
@@ -24,8 +25,7 @@ returns-5 c k = let a = c .before .before .before .args in read-place (a .r) (a 
 returns-6 : tie.Need-returns-6
 returns-6 c k =
     let a = c .before .before .before .args in
-    let m = c .before .match .rest in
-    read-place (a .r) (a .g .now) k 5 (last-head (a .place) (c .before .before .before .pre) (m .0 .0 .0 .0 .1) (m .0 .0 .0 .1) (m .0 .0 .1) (m .0 .1) (m .1)) (unfold row in c .take-automatic .ensures)
+    read-place (a .r) (a .g .now) k 5 (last-left 5 (a .place) (c .before .before .before .pre) (c .before .match .rest)) (unfold row in c .take-automatic .ensures)
 
 pub read-head-spec : {M : Type 1} → statement M
 read-head-spec =

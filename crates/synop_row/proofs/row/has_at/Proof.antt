@@ -1,5 +1,6 @@
 -- `synop_row::row::has_at` meets its contract: place by place.
 -- Assumes nothing.
+use Prim.Native.Nat.{zero-le}
 use borrow.Author.Needs.{needs}
 use Rattle.places.proofs.Rows.{beyond, has-at, has-nowhere}
 use Rattle.synop_row.specs.Row.{row}
@@ -21,4 +22,4 @@ has-at-spec =
     (λ c. let a = c .before .before .before .before .args in has-at (row (a .needs)) (a .g .now) 7 (c .before .before .match .keys8) (unfold row in c .has-pattern8 .ensures))
     (λ c. let a = c .before .before .before .before .args in has-at (row (a .needs)) (a .g .now) 8 (c .before .before .match .keys9) (unfold row in c .has-pattern9 .ensures))
     (λ c. let a = c .before .before .before .before .args in has-at (row (a .needs)) (a .g .now) 9 (c .before .before .match .keys10) (unfold row in c .has-pattern10 .ensures))
-    (λ c. let a = c .before .before .args in has-nowhere (row (a .needs)) (a .g .now) (a .place) (unfold row in beyond 10 (a .place) (c .match .rest))))
+    (λ c. let a = c .before .before .args in has-nowhere (row (a .needs)) (a .g .now) (a .place) (unfold row in beyond 0 10 (a .place) zero-le (c .match .rest))))

@@ -23,6 +23,4 @@ said-at-spec =
     (λ c. says-at (c .before .before .before .before .args .needs) 7 (c .before .before .before .before .args .g .now) (c .before .before .match .keys8) (c .read-weather .ensures) (λ k s. unfold row in refl))
     (λ c. says-at (c .before .before .before .args .needs) 8 (c .before .before .before .args .g .now) (c .before .match .keys9) (c .read-clouds .ensures) (λ k s. unfold row in refl))
     (λ c. says-at (c .before .before .before .args .needs) 9 (c .before .before .before .args .g .now) (c .before .match .keys10) (c .read-clock .ensures) (λ k s. unfold row in refl))
-    (λ c.
-    let r = c .match .rest in
-    says-nothing (c .before .before .args .needs) (c .before .before .args .place) (c .before .before .args .g .now) (r .0 .0 .0 .0 .0 .0 .0 .0 .0 .1) (r .0 .0 .0 .0 .0 .0 .0 .0 .1) (r .0 .0 .0 .0 .0 .0 .0 .1) (r .0 .0 .0 .0 .0 .0 .1) (r .0 .0 .0 .0 .0 .1) (r .0 .0 .0 .0 .1) (r .0 .0 .0 .1) (r .0 .0 .1) (r .0 .1) (r .1)))
+    (λ c. says-nothing (c .before .before .args .needs) (c .before .before .args .place) (c .before .before .args .g .now) (c .match .rest)))

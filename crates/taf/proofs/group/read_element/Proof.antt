@@ -3,7 +3,8 @@
 use borrow.Author.Needs.{needs}
 use mathlib.Core.Path.{_∙_}
 use Rattle.taf_row.specs.Row.{row}
-use Rattle.taf.proofs.Steps.{read-place, read-nowhere, past-row}
+use Rattle.places.proofs.Rows.{beyond}
+use Rattle.taf.proofs.Steps.{read-place, read-nowhere}
 use Rattle.taf.proofs.group.read_element.Statement.{statement}
 use Rattle.taf.proofs.group.read_element.Tie as tie
 
@@ -22,9 +23,8 @@ returns-4 c = let a = c .before .before .before .before .args in read-place (a .
 returns-5 : tie.Need-returns-5
 returns-5 c =
     let a = c .before .before .before .before .args in
-    let m = c .before .match .rest in
     c .refuse .ensures
-    ∙ read-nowhere (a .part) (a .r) (a .g .now) (a .count) (a .place) (past-row (a .place) (c .before .before .before .before .pre) (m .0 .0 .0 .1) (m .0 .0 .1) (m .0 .1) (m .1))
+    ∙ read-nowhere (a .part) (a .r) (a .g .now) (a .count) (a .place) (beyond 7 4 (a .place) (c .before .before .before .before .pre) (c .before .match .rest))
 
 pub read-element-spec : {M : Type 1} → statement M
 read-element-spec =

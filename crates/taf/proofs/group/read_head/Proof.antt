@@ -2,7 +2,8 @@
 -- Assumes nothing.
 use borrow.Author.Needs.{needs}
 use Rattle.taf_row.specs.Row.{row}
-use Rattle.taf.proofs.Steps.{read-place, last-head}
+use Rattle.places.proofs.Rows.{last-left}
+use Rattle.taf.proofs.Steps.{read-place}
 use Rattle.taf.proofs.group.read_head.Statement.{statement}
 use Rattle.taf.proofs.group.read_head.Tie as tie
 
@@ -27,9 +28,7 @@ returns-6 c w k = let a = c .before .before .before .args in read-place w (a .r)
 returns-7 : tie.Need-returns-7
 returns-7 c w k =
     let a = c .before .before .before .args in
-    let m = c .before .match .rest in
-    read-place w (a .r) (a .g .now) k 6
-    (last-head (a .place) (c .before .before .before .pre) (m .0 .0 .0 .0 .0 .1) (m .0 .0 .0 .0 .1) (m .0 .0 .0 .1) (m .0 .0 .1) (m .0 .1) (m .1)) (unfold row in c .take-cancelled .ensures)
+    read-place w (a .r) (a .g .now) k 6 (last-left 6 (a .place) (c .before .before .before .pre) (c .before .match .rest)) (unfold row in c .take-cancelled .ensures)
 
 pub read-head-spec : {M : Type 1} → statement M
 read-head-spec =

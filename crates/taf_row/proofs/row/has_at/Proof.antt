@@ -1,5 +1,6 @@
 -- `taf_row::row::has_at` meets its contract: place by place.
 -- Assumes nothing.
+use Prim.Native.Nat.{zero-le}
 use borrow.Author.Needs.{needs}
 use Rattle.places.proofs.Rows.{beyond, has-at, has-nowhere}
 use Rattle.taf_row.specs.Row.{row}
@@ -22,4 +23,4 @@ has-at-spec =
     (λ c w. let a = c .before .before .before .args in has-at (row w) (a .g .now) 8 (c .before .match .keys9) (unfold row in c .has-visibility .ensures))
     (λ c w. let a = c .before .before .before .args in has-at (row w) (a .g .now) 9 (c .before .match .keys10) (unfold row in c .has-forecast .ensures))
     (λ c w. let a = c .before .before .before .args in has-at (row w) (a .g .now) 10 (c .before .match .keys11) (unfold row in c .has-sky .ensures))
-    (λ c w. let a = c .before .before .args in has-nowhere (row w) (a .g .now) (a .place) (unfold row in beyond 11 (a .place) (c .match .rest))))
+    (λ c w. let a = c .before .before .args in has-nowhere (row w) (a .g .now) (a .place) (unfold row in beyond 0 11 (a .place) zero-le (c .match .rest))))
