@@ -22,17 +22,18 @@ use scales::kinds::Range;
 use scales::kinds::Reading;
 use scales::metres::runway_reading;
 use scales::pressure::pressure_reading;
+use shapes::kinds::Scan;
 use shapes::kinds::Value;
-use shapes::past::past_four;
-use shapes::past::past_one;
-use shapes::past::past_three;
-use shapes::past::past_two;
-use shapes::scan;
+use shapes::scan::figures_or;
+use shapes::scan::none;
+use shapes::scan::nothing;
+use shapes::scan::scanned;
+use shapes::scan::word_or;
 use text::kinds::Refusal;
 ghost use mathlib.Core.Path.{_≡_};
 ghost use mathlib.Core.List.{_++_};
 ghost use lib.ListN.{take, replicate};
-ghost use Rattle.shapes.specs.Shape.{hasShape};
+ghost use Rattle.shapes.specs.Shape.{hasShape, scanOf};
 ghost use Rattle.aerodrome_groups.specs.Answers.{asInstant, asRange, asRunway, asDegrees, asTemperatures, asQnh};
 ghost use Rattle.aerodrome_groups.specs.Head.{stationOf, readTime};
 ghost use Rattle.aerodrome_groups.specs.Runway.{runwayShape, sideOf, courseOf, rangeOf, readRange, runwayBy, readRunway, withRunway};
@@ -72,16 +73,36 @@ pub fn read_time(g: &[u8]) -> InstantRead
 
 // ---- runway visual ranges
 
+// "R## L|C|R| / M|P| #### U|D|N|" by code made for it.
+fn scan_runway(g: &[u8]) -> Scan
+    ensures { λ r. ⌜ r ≡ scanOf runwayShape (now (g .entry)) ⌝ }
+{
+    let none = none(g);
+    let number = figures_or(g, 0, 0, b"R##", 1, 2, none);
+    let at = number.past;
+    let no_side = nothing(3, at);
+    let right = word_or(g, at, 2, b"R", no_side);
+    let centre = word_or(g, at, 1, b"C", right);
+    let side = word_or(g, at, 0, b"L", centre);
+    let stroke = word_or(g, side.past, 0, b"/", none);
+    let at = stroke.past;
+    let exact = nothing(2, at);
+    let above = word_or(g, at, 1, b"P", exact);
+    let mark = word_or(g, at, 0, b"M", above);
+    let range = figures_or(g, mark.past, 0, b"####", 0, 4, none);
+    let at = range.past;
+    let no_course = nothing(3, at);
+    let no_change = word_or(g, at, 2, b"N", no_course);
+    let down = word_or(g, at, 1, b"D", no_change);
+    let course = word_or(g, at, 0, b"U", down);
+    scanned(g, course.past, number, side, stroke, mark, range, course)
+}
+
 pub fn has_runway(g: &[u8]) -> bool
     ensures { λ r. ⌜ r ≡ hasShape runwayShape (now (g .entry)) ⌝ }
 {
-    let number = past_one(g, 0, b"R##");
-    let side = past_four(g, number, b"L", b"C", b"R", b"");
-    let stroke = past_one(g, side, b"/");
-    let mark = past_three(g, stroke, b"M", b"P", b"");
-    let range = past_one(g, mark, b"####");
-    let course = past_four(g, range, b"U", b"D", b"N", b"");
-    course == g.len()
+    let s = scan_runway(g);
+    s.fits
 }
 
 fn side_of(which: usize) -> Side
@@ -178,7 +199,7 @@ fn runway_by(n: Value, s: Value, mark: Value, f: Value, c: Value) -> RunwayRead
 pub fn read_runway(g: &[u8]) -> RunwayRead
     ensures { λ r. ⌜ r ≡ asRunway (readRunway (now (g .entry))) ⌝ }
 {
-    let s = scan::scan(g, b"R## L|C|R| / M|P| #### U|D|N|");
+    let s = scan_runway(g);
     let values = s.values;
     runway_by(values[0], values[1], values[3], values[4], values[5])
 }
@@ -201,15 +222,26 @@ pub fn add_runway(k: usize, rs: Runways, x: Runway) -> Runways
 
 // ---- temperatures
 
+// "M| ## / M| ##" by code made for it.
+fn scan_temperatures(g: &[u8]) -> Scan
+    ensures { λ r. ⌜ r ≡ scanOf temperaturesShape (now (g .entry)) ⌝ }
+{
+    let none = none(g);
+    let plus = nothing(1, 0);
+    let air_sign = word_or(g, 0, 0, b"M", plus);
+    let air = figures_or(g, air_sign.past, 0, b"##", 0, 2, none);
+    let stroke = word_or(g, air.past, 0, b"/", none);
+    let plus = nothing(1, stroke.past);
+    let dew_sign = word_or(g, stroke.past, 0, b"M", plus);
+    let dew = figures_or(g, dew_sign.past, 0, b"##", 0, 2, none);
+    scanned(g, dew.past, air_sign, air, stroke, dew_sign, dew, none)
+}
+
 pub fn has_temperatures(g: &[u8]) -> bool
     ensures { λ r. ⌜ r ≡ hasShape temperaturesShape (now (g .entry)) ⌝ }
 {
-    let air_sign = past_two(g, 0, b"M", b"");
-    let air = past_one(g, air_sign, b"##");
-    let stroke = past_one(g, air, b"/");
-    let dew_sign = past_two(g, stroke, b"M", b"");
-    let dew = past_one(g, dew_sign, b"##");
-    dew == g.len()
+    let s = scan_temperatures(g);
+    s.fits
 }
 
 // A temperature that may be missing, or the group's refusal.
@@ -264,7 +296,7 @@ fn temperatures_by(m: Value, a: Value, n: Value, b: Value) -> TemperaturesRead
 pub fn read_temperatures(g: &[u8]) -> TemperaturesRead
     ensures { λ r. ⌜ r ≡ asTemperatures (readTemperatures (now (g .entry))) ⌝ }
 {
-    let s = scan::scan(g, b"M| ## / M| ##");
+    let s = scan_temperatures(g);
     let values = s.values;
     temperatures_by(values[0], values[1], values[3], values[4])
 }

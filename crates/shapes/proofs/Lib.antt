@@ -3,7 +3,6 @@ pub mod Patterns
 pub mod Splits
 pub mod Begins
 pub mod Scans
-pub mod Pasts
 pub mod Prints
 pub mod Exact
 pub mod Filled

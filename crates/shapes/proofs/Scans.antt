@@ -1,32 +1,36 @@
--- The laws of a scan as the code goes: part by part, with the values in an array of eight.
+-- The laws of a scan, part by part, and the law that scanning by code made for a shape cites: steps through its parts give what the scan gives.
 -- Assumes nothing.
 use mathlib.Core.Path.{_≡_, refl, sym, ap, _∙_}
 use mathlib.Core.Bool.{Bool, true, false, cond}
-use mathlib.Core.List.{List, [], _∷_, _++_, map, append-assoc, append-nil}
+use mathlib.Core.List.{List, [], _∷_}
 use Prim.Native.Nat.{ℕ, suc, _+_, _-_, _≤_, _<_}
-use native.Mathlib.Numerals.{add-one}
+use native.Mathlib.Nat.{add-zero}
 use native.Mathlib.Omega.{arith}
-use lib.ListN.{length, take, drop, set, replicate, length-append, length-set, take-append-drop, drop-of-length-le}
-use lib.Seq.{drop-drop, drop-set-lt, take-suc-set, length-take-le}
-use borrow.Author.Tests.{le-leb, lt-leb}
+use lib.ListN.{length, drop, length-drop, drop-of-length-le}
+use lib.Seq.{drop-drop}
+use lib.Dec.{leb, ltb, eqb}
+use borrow.Author.Tests.{eq-eqb, ne-eqb, ltb-true, ltb-false}
+use Rattle.figures.specs.declared.kinds.Field.the-variants.{Other}
+use Rattle.figures.specs.Figures.{fieldAt}
 use Rattle.figures.proofs.Fields.{next}
-use Rattle.shapes.specs.declared.kinds.Pick.{Pick}
-use Rattle.shapes.specs.declared.kinds.Pick.the-variants.{Alternative, Nothing}
 use Rattle.shapes.specs.declared.kinds.Value.{Value}
+use Rattle.shapes.specs.declared.kinds.Step.{Step}
 use Rattle.shapes.specs.Pattern.{Pattern, fits}
-use Rattle.shapes.specs.Shape.{Part, Values, Says, Unlike, also, begins, upTo, split, partsOf, valueOf, pickOf, scanParts, answered, scanOf, blankValue, misfit}
+use Rattle.shapes.specs.Shape.{Part, Pick, Alternative, Nothing, Values, Says, Unlike, also, leading, begins, partsOf, fieldStart, fieldWidth, valueOf, pickOf, scanParts, answered, scanOf, misfit, padded, stepTo, scanEnd}
 use Rattle.shapes.proofs.Patterns.{both}
-use Rattle.shapes.proofs.Splits.{others, piece-first, piece-on, piece-none, split-first}
 
 -- ---- an alternative that was picked is there
 
-pub begins-length : (a : Pattern) (g : List ℕ) → begins a g ≡ true → length a ≤ length g
+begins-length : (a : Pattern) (g : List ℕ) → begins a g ≡ true → length a ≤ length g
 unfolding begins
 begins-length [] g h = omega arith
 begins-length (p ∷ ps) [] h = let z : _≡_ {A = ℕ} 0 1 = cc in absurd (omega arith)
 begins-length (p ∷ ps) (b ∷ g) h = omega (arith, begins-length ps g (both (fits p b) _ h .1))
 
-pub pick-width : (p : Part) (g : List ℕ) (k : ℕ) {v : Value} {w : ℕ} → pickOf k p g ≡ Alternative v w → w ≤ length g
+pub begins-within : (a g : List ℕ) (at : ℕ) → begins a (drop at g) ≡ true → length a ≤ length g - at
+begins-within a g at e = simp length-drop at (begins-length a (drop at g) e)
+
+pick-width : (p : Part) (g : List ℕ) (k : ℕ) {v : Value} {w : ℕ} → pickOf k p g ≡ Alternative v w → w ≤ length g
 unfolding pickOf
 pick-width [] g k e = let z : _≡_ {A = ℕ} 0 1 = cc in absurd (omega arith)
 pick-width (a ∷ p) g k {v} {w} e = go (begins a g) refl (pick-width p g (k + 1)) e
@@ -47,101 +51,135 @@ pub part-some : (p : Part) (ps : List Part) (g : List ℕ) {v : Value} {w : ℕ}
 unfolding scanParts
 part-some p ps g e = rw (← e, scanParts)
 
--- what was said before, and what is said from here on
-abbrev pub prepend : List Value → Values → Values
-prepend vs (Says ws) = Says (vs ++ ws)
-prepend vs Unlike = Unlike
+-- ---- one part as the code takes it: its alternatives in turn, and a position past the group's end where none is there
 
-pub prepend-none : (x : Values) → prepend [] x ≡ x
-prepend-none (Says ws) = refl
-prepend-none Unlike = refl
+unfoldable pub stepBy : ℕ → Part → List ℕ → ℕ → Step
+stepBy k [] g at = stepTo 0 Other (length g + 1)
+stepBy k (a ∷ others) g at = cond (begins a (drop at g)) (record { value = valueOf k a (drop at g); past = at + length a }) (stepBy (k + 1) others g at)
 
-prepend-also : (vs : List Value) (v : Value) (x : Values) → prepend vs (also v x) ≡ prepend (vs ++ (v ∷ [])) x
-prepend-also vs v (Says ws) = ap Says (sym (append-assoc vs (v ∷ []) ws))
-prepend-also vs v Unlike = refl
+-- s is the step by these alternatives
+pub record StepBy (k : ℕ) (p : Part) (g : List ℕ) (at : ℕ) (s : Step) : Type 0 where
+  pub is : s ≡ stepBy k p g at
 
--- at the part from `from` to `to`, and byte `at` of the group
-module _ (shape g : List ℕ) (from to at : ℕ) (vs : List Value) (e : to ≡ from + upTo 32 (drop from shape)) (low : from ≤ length shape)
-    {r : Values} (inv : prepend vs (scanParts (partsOf (drop from shape)) (drop at g)) ≡ r) where
-  here : prepend vs (scanParts (split 124 (take (to - from) (drop from shape)) ∷ map (split 124) (others (split 32 (drop from shape)))) (drop at g)) ≡ r
-  unfolding partsOf
-  here = rw (piece-first 32 shape from to e low) at inv
+-- as the code comes to it: an alternative if it is there, with its number field or none, and otherwise a step by the later ones
+module _ {k : ℕ} {a : Pattern} {others : Part} {g : List ℕ} {at : ℕ} {s o : Step} (later : StepBy (k + 1) others g at o) where
+  pub figures-step : (lead width : ℕ) → fieldStart a ≡ lead → fieldWidth a ≡ width
+      → s ≡ cond (begins a (drop at g)) (stepTo k (fieldAt (drop at g) lead width) (at + length a)) o → StepBy k (a ∷ others) g at s
+  unfolding stepBy valueOf
+  figures-step lead width l w e = record { is = e ∙ rw (w, l, later .is) }
 
-  pub scan-none : Nothing ≡ pickOf 0 (split 124 (take (to - from) (drop from shape))) (drop at g) → Unlike ≡ r
-  scan-none p = rw (part-none _ _ _ p) at here
+  pub word-step : fieldWidth a ≡ 0 → s ≡ cond (begins a (drop at g)) (stepTo k Other (at + length a)) o → StepBy k (a ∷ others) g at s
+  unfolding stepBy valueOf fieldAt
+  word-step w e = record { is = e ∙ rw (w, later .is) }
 
-  scan-part : {v : Value} {w : ℕ} → Alternative v w ≡ pickOf 0 (split 124 (take (to - from) (drop from shape))) (drop at g)
-      → prepend (vs ++ (v ∷ [])) (scanParts (map (split 124) (others (split 32 (drop from shape)))) (drop (at + w) g)) ≡ r
-  scan-part {v} {w} p =
-      sym (prepend-also vs v (scanParts (map (split 124) (others (split 32 (drop from shape)))) (drop (at + w) g)))
-      ∙ rw (part-some _ _ _ p, drop-drop w at g) at here
+pub nothing-step : {k : ℕ} {g : List ℕ} {at : ℕ} {s : Step} → s ≡ stepTo k Other at → StepBy k ([] ∷ []) g at s
+unfolding stepBy valueOf fieldAt begins leading
+nothing-step {at = at} e = record { is = rw (add-zero at) e }
 
-  pub scan-on : {v : Value} {w : ℕ} → Alternative v w ≡ pickOf 0 (split 124 (take (to - from) (drop from shape))) (drop at g) → to < length shape
-      → prepend (vs ++ (v ∷ [])) (scanParts (partsOf (drop (to + 1) shape)) (drop (at + w) g)) ≡ r
-  unfolding partsOf
-  scan-on p more = rw (piece-on 32 shape from to e low more) at (scan-part p)
+pub no-step : {k : ℕ} {g : List ℕ} {at : ℕ} {s : Step} → s ≡ stepTo 0 Other (length g + 1) → StepBy k [] g at s
+unfolding stepBy
+no-step e = record { is = e }
 
-  scan-last : {v : Value} {w : ℕ} → Alternative v w ≡ pickOf 0 (split 124 (take (to - from) (drop from shape))) (drop at g) → length shape ≤ to
-      → prepend (vs ++ (v ∷ [])) (scanParts [] (drop (at + w) g)) ≡ r
-  scan-last p end = rw (piece-none 32 shape from to e low end) at (scan-part p)
+-- a position past the group's end stays there
+step-over : (p : Part) (k : ℕ) (g : List ℕ) (at : ℕ) → length g < at → length g < stepBy k p g at .past
+unfolding stepBy
+step-over [] k g at h = omega arith
+step-over (a ∷ others) k g at h = go (begins a (drop at g)) (step-over others (k + 1) g at h)
+  where
+    go : (b : Bool) → length g < stepBy (k + 1) others g at .past
+        → length g < cond {A = Step} b (record { value = valueOf k a (drop at g); past = at + length a }) (stepBy (k + 1) others g at) .past
+    go true ih = omega arith
+    go false ih = ih
 
-  pub scan-fits : {v : Value} {w : ℕ} → Alternative v w ≡ pickOf 0 (split 124 (take (to - from) (drop from shape))) (drop at g) → length shape ≤ to
-      → at + w ≡ length g → Says (vs ++ (v ∷ [])) ≡ r
-  unfolding scanParts
-  scan-fits {v} {w} p end all =
-      rw (drop-of-length-le g {i = at + w} (omega arith), append-nil (vs ++ (v ∷ []))) at (scan-last p end)
+-- it is the alternative that a scan picks, and none
+step-some : (p : Part) (g : List ℕ) (at k : ℕ) {v : Value} {w : ℕ} → pickOf k p (drop at g) ≡ Alternative v w
+    → stepBy k p g at ≡ record { value = v; past = at + w }
+unfolding stepBy pickOf
+step-some [] g at k e = let z : _≡_ {A = ℕ} 0 1 = cc in absurd (omega arith)
+step-some (a ∷ others) g at k {v} {w} e = go (begins a (drop at g)) (step-some others g at (k + 1)) e
+  where
+    go : (b : Bool) → (pickOf (k + 1) others (drop at g) ≡ Alternative v w → stepBy (k + 1) others g at ≡ record { value = v; past = at + w })
+        → cond b (Alternative (valueOf k a (drop at g)) (length a)) (pickOf (k + 1) others (drop at g)) ≡ Alternative v w
+        → cond {A = Step} b (record { value = valueOf k a (drop at g); past = at + length a }) (stepBy (k + 1) others g at) ≡ record { value = v; past = at + w }
+    go true ih e = let s : length a ≡ w = cc in let t : valueOf k a (drop at g) ≡ v = cc in rw (s, t)
+    go false ih e = ih e
 
-  pub scan-more : {v : Value} {w : ℕ} → Alternative v w ≡ pickOf 0 (split 124 (take (to - from) (drop from shape))) (drop at g) → length shape ≤ to
-      → at + w < length g → Unlike ≡ r
-  unfolding scanParts
-  scan-more {v} {w} p end left = rw (next g (at + w) left) at (scan-last p end)
+step-none : (p : Part) (g : List ℕ) (at k : ℕ) → pickOf k p (drop at g) ≡ Nothing → stepBy k p g at .past ≡ length g + 1
+unfolding stepBy pickOf
+step-none [] g at k e = refl
+step-none (a ∷ others) g at k e = go (begins a (drop at g)) (step-none others g at (k + 1)) e
+  where
+    go : (b : Bool) → (pickOf (k + 1) others (drop at g) ≡ Nothing → stepBy (k + 1) others g at .past ≡ length g + 1)
+        → cond b (Alternative (valueOf k a (drop at g)) (length a)) (pickOf (k + 1) others (drop at g)) ≡ Nothing
+        → cond {A = Step} b (record { value = valueOf k a (drop at g); past = at + length a }) (stepBy (k + 1) others g at) .past ≡ length g + 1
+    go true ih e = let z : _≡_ {A = ℕ} 0 1 = cc in absurd (omega arith)
+    go false ih e = ih e
 
--- ---- the array of values
+-- ---- the steps through all parts, one from where the last one ended
 
--- n of the eight are said, and the others blank
-abbrev pub Holds : List Value → ℕ → Type 0
-Holds values n = (length values ≡ 8) × (drop n values ≡ replicate (8 - n) blankValue)
+infixr 20 _then_
+pub data Steps (g : List ℕ) : List Part → ℕ → List Step → Type 0 where
+  end : {at : ℕ} → Steps g [] at []
+  _then_ : {p : Part} {ps : List Part} {at : ℕ} {s : Step} {ss : List Step} → StepBy 0 p g at s → Steps g ps (s .past) ss → Steps g (p ∷ ps) at (s ∷ ss)
 
-module _ (values : List Value) (n : ℕ) (v : Value) (h : Holds values n) (room : n < 8) where
-  pub stored : Holds (set values n v) (n + 1)
-  stored = (
-    length-set values n v ∙ h .0,
-    drop-set-lt (n + 1) values n v (omega arith)
-        ∙ sym (drop-drop 1 n values)
-        ∙ ap (drop 1) (h .1)
-        ∙ (let k : 8 - n ≡ suc (8 - (n + 1)) = omega arith in rw k),
-  )
+abbrev pub endOf : ℕ → List Step → ℕ
+endOf at [] = at
+endOf at (s ∷ ss) = endOf (s .past) ss
 
-  pub stored-said : take (n + 1) (set values n v) ≡ take n values ++ (v ∷ [])
-  stored-said = rw add-one (take-suc-set values n v (omega (arith, h .0)))
+abbrev pub saidIn : List Step → List Value
+saidIn [] = []
+saidIn (s ∷ ss) = s .value ∷ saidIn ss
 
--- ---- the answer
+abbrev upToEnd : Bool → List Value → Values
+upToEnd true vs = Says vs
+upToEnd false vs = Unlike
 
-pub unlike : (shape g : List ℕ) → Unlike ≡ scanParts (partsOf shape) g → misfit ≡ scanOf shape g
+also-end : (b : Bool) (v : Value) (vs : List Value) → also v (upToEnd b vs) ≡ upToEnd b (v ∷ vs)
+also-end true v vs = refl
+also-end false v vs = refl
+
+steps-over : {g : List ℕ} {ps : List Part} {at : ℕ} {ss : List Step} → Steps g ps at ss → length g < at → length g < endOf at ss
+steps-over end h = h
+steps-over {g = g} {at = at} (_then_ {p = p} t ts) h = steps-over ts (rw (t .is) (step-over p 0 g at h))
+
+scan-steps : {g : List ℕ} {ps : List Part} {at : ℕ} {ss : List Step} → Steps g ps at ss → at ≤ length g
+    → scanParts ps (drop at g) ≡ upToEnd (eqb (endOf at ss) (length g)) (saidIn ss)
+unfolding scanParts
+scan-steps {g = g} {at = at} end h = go (ltb at (length g)) refl
+  where
+    go : (b : Bool) → ltb at (length g) ≡ b → scanParts [] (drop at g) ≡ upToEnd (eqb at (length g)) []
+    go true e =
+        let less = ltb-true at (length g) e in
+        rw (next g at less, ne-eqb at (length g) (omega arith))
+    go false e =
+        let most = ltb-false at (length g) e in
+        rw (drop-of-length-le g {i = at} most, eq-eqb at (length g) (omega arith))
+scan-steps {g = g} {at = at} (_then_ {p = p} {ps = ps} {s = s} {ss = ss} t ts) h = go (pickOf 0 p (drop at g)) refl (scan-steps ts)
+  where
+    go : (x : Pick) → pickOf 0 p (drop at g) ≡ x
+        → (s .past ≤ length g → scanParts ps (drop (s .past) g) ≡ upToEnd (eqb (endOf (s .past) ss) (length g)) (saidIn ss))
+        → scanParts (p ∷ ps) (drop at g) ≡ upToEnd (eqb (endOf (s .past) ss) (length g)) (s .value ∷ saidIn ss)
+    go (Alternative v w) e ih =
+        let wide = simp length-drop at (pick-width p (drop at g) 0 e) in
+        let said : s ≡ record { value = v; past = at + w } = t .is ∙ step-some p g at 0 e in
+        let there : s .past ≡ at + w = ap (λ (x : Step). x .past) said in
+        part-some p ps (drop at g) (sym e)
+        ∙ rw (drop-drop w at g, ← there, ih (omega (arith, there)), also-end (eqb (endOf (s .past) ss) (length g)) v (saidIn ss), said)
+    go Nothing e ih =
+        let past : s .past ≡ length g + 1 = ap (λ (x : Step). x .past) (t .is) ∙ step-none p g at 0 e in
+        let more = steps-over ts (omega (arith, past)) in
+        part-none p ps (drop at g) (sym e) ∙ rw (ne-eqb (endOf (s .past) ss) (length g) (omega (arith, more)))
+
+steps-length : {g : List ℕ} {ps : List Part} {at : ℕ} {ss : List Step} → Steps g ps at ss → length (saidIn ss) ≡ length ps
+steps-length end = refl
+steps-length (t then ts) = ap suc (steps-length ts)
+
+-- STEPS THROUGH THE PARTS OF A SHAPE, AT MOST EIGHT, GIVE WHAT THE SCAN GIVES.
+pub scan-by-steps : (shape g : List ℕ) {ss : List Step} → leb (length (partsOf shape)) 8 ≡ true → Steps g (partsOf shape) 0 ss
+    → scanEnd (endOf 0 ss) (length g) (padded (saidIn ss)) ≡ scanOf shape g
 unfolding scanOf answered
-unlike shape g e = ap answered e
-
-pub all-said : (shape g : List ℕ) (values : List Value) (n : ℕ) → Holds values n → n ≤ 8 → Says (take n values) ≡ scanParts (partsOf shape) g
-    → record { fits = true; values = values } ≡ scanOf shape g
-unfolding scanOf answered
-all-said shape g values n h room e =
-    let len = length-take-le n values (omega (arith, h .0)) in
-    rw (← e, len, le-leb n 8 room, ← h .1, take-append-drop n values)
-
--- a ninth part is one too many
-module _ (vs : List Value) (full : length vs ≡ 8) where
-  over-also : (v : Value) (x : Values) → misfit ≡ answered (prepend vs (also v x))
-  unfolding answered
-  over-also v (Says ws) = rw (length-append vs (v ∷ ws), lt-leb (length vs + suc (length ws)) 8 (omega arith))
-  over-also v Unlike = refl
-
-  over-pick : (x : Pick) (ps : List Part) (g : List ℕ)
-      → misfit ≡ answered (prepend vs (elim x [ Alternative v w ↦ also v (scanParts ps (drop w g)) | Nothing ↦ Unlike ]))
-  unfolding answered
-  over-pick (Alternative v w) ps g = over-also v (scanParts ps (drop w g))
-  over-pick Nothing ps g = refl
-
-  pub over : (shape g s h : List ℕ) → prepend vs (scanParts (partsOf s) h) ≡ scanParts (partsOf shape) g → misfit ≡ scanOf shape g
-  unfolding scanOf scanParts partsOf
-  over shape g s h e =
-      rw (← e, split-first 32 s) (over-pick (pickOf 0 (split 124 (take (upTo 32 s) s)) h) (map (split 124) (others (split 32 s))) h)
+scan-by-steps shape g {ss = ss} few ts = rw (scan-steps ts (omega arith)) (go (eqb (endOf 0 ss) (length g)))
+  where
+    go : (b : Bool) → cond b (record { fits = true; values = padded (saidIn ss) }) misfit ≡ answered (upToEnd b (saidIn ss))
+    go true = rw (steps-length ts, few)
+    go false = refl

@@ -10,12 +10,10 @@ use native.Mathlib.Omega.{arith}
 use lib.ListN.{length, drop, getD, replicate}
 use lib.Seq.{drop-at}
 use borrow.Author.Tests.{le-leb, leb-true, ltb-true}
-use Rattle.shapes.specs.declared.kinds.Pick.{Pick}
-use Rattle.shapes.specs.declared.kinds.Pick.the-variants.{Alternative, Nothing}
 use Rattle.shapes.specs.declared.kinds.Value.{Value}
 use Rattle.shapes.specs.declared.kinds.Scan.{Scan}
 use Rattle.shapes.specs.Pattern.{Pattern, hasPattern, hasAny}
-use Rattle.shapes.specs.Shape.{Part, Values, Says, Unlike, also, begins, partsOf, valueOf, pickOf, scanParts, blankValue, padded, answered, scanOf, hasShape, filled, printParts, printOf, withEach, spellings, unledEach, clearPart, clear, printableEach, printableAll, sound, Sayable, shapesApart}
+use Rattle.shapes.specs.Shape.{Part, Pick, Alternative, Nothing, Values, Says, Unlike, also, begins, partsOf, valueOf, pickOf, scanParts, blankValue, padded, answered, scanOf, hasShape, filled, printParts, printOf, withEach, spellings, unledEach, clearPart, clear, printableEach, printableAll, sound, Sayable, shapesApart}
 use Rattle.shapes.proofs.Patterns.{both, all-excluded, starless}
 use Rattle.shapes.proofs.Exact.{
   exact,

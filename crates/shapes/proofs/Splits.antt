@@ -6,7 +6,7 @@ use mathlib.Core.List.{List, [], _∷_}
 use Prim.Native.Nat.{ℕ, zero, suc, _+_, _-_, _≤_, _<_}
 use native.Mathlib.Omega.{arith}
 use lib.ListN.{length, take, drop, getD, drop-of-length-le, length-drop}
-use lib.Seq.{drop-drop, take-length, length-take-le}
+use lib.Seq.{drop-drop, take-length}
 use lib.Dec.{eqb}
 use Rattle.figures.proofs.Fields.{next}
 use Rattle.shapes.specs.Shape.{leading, upTo, onto, split}
@@ -93,9 +93,6 @@ module _ (c : ℕ) (s : List ℕ) (from to : ℕ) (e : to ≡ from + upTo c (dro
 
   pub piece-none : length s ≤ to → others (split c (drop from s)) ≡ []
   piece-none h = others-none c (drop from s) (simp length-drop (omega arith))
-
-  pub piece-length : to ≤ length s → length (take (to - from) (drop from s)) ≡ to - from
-  piece-length h = length-take-le (to - from) (drop from s) (simp length-drop (omega arith))
 
 later : (w : List ℕ) (ws : List (List ℕ)) (n : ℕ) → 0 < n → getD (w ∷ ws) n [] ≡ getD ws (n - 1) []
 later w ws zero h = absurd (omega arith)

@@ -11,10 +11,9 @@ use Rattle.figures.specs.declared.kinds.Field.{Field}
 use Rattle.figures.specs.declared.kinds.Field.the-variants.{Other}
 use Rattle.figures.specs.Figures.{fieldAt, fieldText, Fits, every}
 use Rattle.shapes.specs.Pattern.{Pattern, fits, more, apart, allApart}
-use Rattle.shapes.specs.declared.kinds.Pick.{Pick}
-use Rattle.shapes.specs.declared.kinds.Pick.the-variants.{Alternative, Nothing}
 use Rattle.shapes.specs.declared.kinds.Value.{Value}
 use Rattle.shapes.specs.declared.kinds.Scan.{Scan}
+use Rattle.shapes.specs.declared.kinds.Step.{Step}
 
 -- how many bytes at the front of a text pass the test; how many stand before the first c
 unfoldable pub leading : (ℕ → Bool) → List ℕ → ℕ
@@ -62,6 +61,11 @@ fieldWidth a = runLength (drop (fieldStart a) a)
 unfoldable pub valueOf : ℕ → Pattern → List ℕ → Value
 valueOf k a g = record { which = k; field = fieldAt g (fieldStart a) (fieldWidth a) }
 
+-- The alternative of a part that a group begins with: what the group says there, and how many bytes it takes.
+pub data Pick : Type 0 where
+  Alternative : Value → ℕ → Pick
+  Nothing : Pick
+
 -- the first alternative that the group begins with, where k were passed
 unfoldable pub pickOf : ℕ → Part → List ℕ → Pick
 pickOf k [] g = Nothing
@@ -85,22 +89,20 @@ scanParts (p ∷ ps) g =
       | Nothing ↦ Unlike
     ]
 
--- Where a group goes on after the alternative of a part that it has at a position; past its end where it has none. A group has a shape just where its
--- parts, one after the other, lead to its end.
-unfoldable pub pastPart : Part → List ℕ → ℕ → ℕ
-pastPart [] g at = suc (length g)
-pastPart (a ∷ others) g at = cond (begins a (drop at g)) (at + length a) (pastPart others g at)
-
-unfoldable pub pastParts : List Part → List ℕ → ℕ → ℕ
-pastParts [] g at = at
-pastParts (p ∷ ps) g at = pastParts ps g (pastPart p g at)
-
 -- the code's answer: the values in an array of eight, the rest of it blank; a shape of more than eight parts is no shape
 abbrev pub blankValue : Value
 blankValue = record { which = 0; field = Other }
 
 abbrev pub misfit : Scan
 misfit = record { fits = false; values = replicate 8 blankValue }
+
+-- one part as the code takes it: the alternative's number, its number field, and where the group goes on
+abbrev pub stepTo : ℕ → Field → ℕ → Step
+stepTo k f past = record { value = record { which = k; field = f }; past = past }
+
+-- and all of them: values that lead to the position `past` of a group of n bytes
+abbrev pub scanEnd : ℕ → ℕ → List Value → Scan
+scanEnd past n values = cond (eqb past n) (record { fits = true; values = values }) misfit
 
 abbrev pub padded : List Value → List Value
 padded vs = vs ++ replicate (8 - length vs) blankValue

@@ -8,14 +8,14 @@ pub struct Value {
     pub field: Field,
 }
 
-// The alternative of a part that a group begins with: what the group says there, and how many bytes it takes.
-pub enum Pick {
-    Alternative { value: Value, width: usize },
-    Nothing,
-}
-
 // Whether a group has a shape, and what it says at each of its parts, of which there are at most eight.
 pub struct Scan {
     pub fits: bool,
     pub values: [Value; 8],
+}
+
+// What a group says at one part of its shape, and the position where it goes on after it.
+pub struct Step {
+    pub value: Value,
+    pub past: usize,
 }

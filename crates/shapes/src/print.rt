@@ -1,13 +1,41 @@
 // The printer: a group put together by its shape.
 use crate::kinds::Value;
-use crate::scan::run_length;
-use crate::scan::up_to;
 use figures::kinds::Field;
 ghost use mathlib.Core.Path.{_≡_};
 ghost use mathlib.Core.List.{[]};
-ghost use lib.ListN.{getD};
+ghost use Prim.Native.Nat.{_≤_};
+ghost use lib.ListN.{length, getD};
 ghost use Rattle.figures.specs.Put.{Put};
-ghost use Rattle.shapes.specs.Shape.{split, filled, printOf};
+ghost use Rattle.shapes.specs.Shape.{upTo, runLength, split, filled, printOf};
+
+// How many bytes of s stand before its first c.
+fn up_to(s: &[u8], c: u8) -> usize
+    ensures { λ r. ⌜ (r ≡ upTo c (now (s .entry))) × (r ≤ length (now (s .entry))) ⌝ }
+{
+    let mut i = 0;
+    while i < s.len() {
+        if s[i] == c {
+            return i;
+        }
+        i += 1;
+    }
+    i
+}
+
+// How many '#' the pattern begins with.
+fn run_length(pattern: &[u8]) -> usize
+    ensures { λ r. ⌜ (r ≡ runLength (now (pattern .entry))) × (r ≤ length (now (pattern .entry))) ⌝ }
+{
+    let mut i = 0;
+    while i < pattern.len() {
+        if pattern[i] == b'#' {
+            i += 1;
+        } else {
+            return i;
+        }
+    }
+    i
+}
 
 // Alternative number `which` of the part; nothing where it has none.
 fn alternative(part: &[u8], which: usize) -> &[u8]

@@ -1,41 +1,18 @@
-// The scanner: a group taken apart by its shape.
-use crate::kinds::Pick;
+// Scanning a group by code made for its shape: the alternatives of a part stand at the calls as constants, each with what to take where the group has
+// not got it, so that the compiler turns them into comparisons. A position past the group's end says that a part has none of its alternatives, and
+// stays past it.
 use crate::kinds::Scan;
+use crate::kinds::Step;
 use crate::kinds::Value;
 use figures::kinds::Field;
 ghost use mathlib.Core.Path.{_≡_};
-ghost use Prim.Native.Nat.{_≤_};
-ghost use lib.ListN.{length};
-ghost use Rattle.shapes.specs.Shape.{upTo, runLength, split, begins, valueOf, pickOf, scanOf, misfit};
-
-// How many bytes of s stand before its first c.
-pub fn up_to(s: &[u8], c: u8) -> usize
-    ensures { λ r. ⌜ (r ≡ upTo c (now (s .entry))) × (r ≤ length (now (s .entry))) ⌝ }
-{
-    let mut i = 0;
-    while i < s.len() {
-        if s[i] == c {
-            return i;
-        }
-        i += 1;
-    }
-    i
-}
-
-// How many '#' the pattern begins with.
-pub fn run_length(pattern: &[u8]) -> usize
-    ensures { λ r. ⌜ (r ≡ runLength (now (pattern .entry))) × (r ≤ length (now (pattern .entry))) ⌝ }
-{
-    let mut i = 0;
-    while i < pattern.len() {
-        if pattern[i] == b'#' {
-            i += 1;
-        } else {
-            return i;
-        }
-    }
-    i
-}
+ghost use mathlib.Core.Bool.{cond};
+ghost use mathlib.Core.List.{_∷_, []};
+ghost use Prim.Native.Nat.{_+_};
+ghost use lib.ListN.{length, drop};
+ghost use Rattle.figures.specs.Figures.{fieldAt};
+ghost use Rattle.figures.specs.declared.kinds.Field.the-variants.{Other};
+ghost use Rattle.shapes.specs.Shape.{begins, blankValue, stepTo, scanEnd, padded};
 
 // The group begins with bytes that fit the pattern.
 pub fn begins_with(g: &[u8], pattern: &[u8]) -> bool
@@ -55,80 +32,96 @@ pub fn begins_with(g: &[u8], pattern: &[u8]) -> bool
     true
 }
 
-// What a group that begins with an alternative says there.
-fn value_of(which: usize, alternative: &[u8], g: &[u8]) -> Value
-    ensures { λ r. ⌜ r ≡ valueOf which (now (alternative .entry)) (now (g .entry)) ⌝ }
+// What stands from a position on.
+fn rest_from(g: &[u8], at: usize) -> &[u8]
+    ensures { λ r. ⌜ now r ≡ drop at (now (g .entry)) ⌝ }
 {
-    let start = up_to(alternative, b'#');
-    let width = run_length(&alternative[start..]);
-    let f = figures::field(g, start, width);
-    Value { which, field: f }
+    if at < g.len() {
+        return &g[at..];
+    }
+    let end = g.len();
+    &g[end..]
 }
 
-// The first alternative of the part that the group begins with.
-fn pick(part: &[u8], g: &[u8]) -> Pick
-    ensures { λ r. ⌜ r ≡ pickOf 0 (split 124 (now (part .entry))) (now (g .entry)) ⌝ }
+// None of a part's alternatives is there.
+pub fn none(g: &[u8]) -> Step
+    ensures { λ r. ⌜ r ≡ stepTo 0 Other (length (now (g .entry)) + 1) ⌝ }
 {
-    let mut from = 0;
-    let mut which = 0;
-    loop {
-        let to = from + up_to(&part[from..], b'|');
-        let alternative = &part[from..to];
-        if begins_with(g, alternative) {
-            let v = value_of(which, alternative, g);
-            return Pick::Alternative {
-                value: v,
-                width: to - from,
-            };
-        }
-        if to == part.len() {
-            return Pick::Nothing;
-        }
-        from = to + 1;
-        which += 1;
+    nothing(0, g.len() + 1)
+}
+
+// A part's last alternative, number `which`, is nothing, which is always there.
+pub fn nothing(which: usize, at: usize) -> Step
+    ensures { λ r. ⌜ r ≡ stepTo which Other at ⌝ }
+{
+    let field = Field::Other;
+    let value = Value { which, field };
+    Step { value, past: at }
+}
+
+// Alternative number `which`, a word, if the group has it there.
+pub fn word_or(g: &[u8], at: usize, which: usize, a: &[u8], otherwise: Step) -> Step
+    ensures { λ r. ⌜ r ≡ cond (begins (now (a .entry)) (drop at (now (g .entry)))) (stepTo which Other (at + length (now (a .entry)))) otherwise ⌝ }
+{
+    if begins_with(rest_from(g, at), a) {
+        nothing(which, at + a.len())
+    } else {
+        otherwise
     }
 }
 
-// What is said of a group that has not the shape.
-fn misfit() -> Scan
-    ensures { λ r. ⌜ r ≡ misfit ⌝ }
+// The same of an alternative whose number field begins at its byte `lead` and has `width` figures.
+pub fn figures_or(
+    g: &[u8],
+    at: usize,
+    which: usize,
+    a: &[u8],
+    lead: usize,
+    width: usize,
+    otherwise: Step,
+) -> Step
+    ensures { λ r. ⌜ r ≡ cond (begins (now (a .entry)) (drop at (now (g .entry)))) (stepTo which (fieldAt (drop at (now (g .entry))) lead width) (at + length (now (a .entry)))) otherwise ⌝ }
 {
-    let none = Field::Other;
-    let blank = Value {
-        which: 0,
-        field: none,
-    };
-    let values = [blank; 8];
-    Scan {
-        fits: false,
-        values,
+    let rest = rest_from(g, at);
+    if begins_with(rest, a) {
+        let field = figures::field(rest, lead, width);
+        let value = Value { which, field };
+        Step {
+            value,
+            past: at + a.len(),
+        }
+    } else {
+        otherwise
     }
 }
 
-// What the group says at each part of the shape, if it has the shape.
-pub fn scan(g: &[u8], shape: &[u8]) -> Scan
-    ensures { λ r. ⌜ r ≡ scanOf (now (shape .entry)) (now (g .entry)) ⌝ }
+// What is said at a part that is not there.
+fn blank() -> Value
+    ensures { λ r. ⌜ r ≡ blankValue ⌝ }
 {
-    let blank = misfit();
-    let mut values = blank.values;
-    let mut from = 0;
-    let mut at = 0;
-    let mut n = 0;
-    while n < 8 {
-        let to = from + up_to(&shape[from..], b' ');
-        let Pick::Alternative { value, width } = pick(&shape[from..to], &g[at..]) else {
-            return misfit();
-        };
-        values[n] = value;
-        n += 1;
-        at += width;
-        if to == shape.len() {
-            if at == g.len() {
-                return Scan { fits: true, values };
-            }
-            return misfit();
+    let field = Field::Other;
+    Value { which: 0, field }
+}
+
+// The scan of a group whose parts, up to six, say what these steps do and lead to the position `past`: it has the shape just where that is its end.
+pub fn scanned(g: &[u8], past: usize, a: Step, b: Step, c: Step, d: Step, e: Step, f: Step) -> Scan
+    ensures { λ r. ⌜ r ≡ scanEnd past (length (now (g .entry))) (padded (a .value ∷ b .value ∷ c .value ∷ d .value ∷ e .value ∷ f .value ∷ [])) ⌝ }
+{
+    let none = blank();
+    if past == g.len() {
+        let first = a.value;
+        let second = b.value;
+        let third = c.value;
+        let fourth = d.value;
+        let fifth = e.value;
+        let sixth = f.value;
+        let values = [first, second, third, fourth, fifth, sixth, none, none];
+        Scan { fits: true, values }
+    } else {
+        let values = [none; 8];
+        Scan {
+            fits: false,
+            values,
         }
-        from = to + 1;
     }
-    misfit()
 }

@@ -15,10 +15,11 @@ use scales::metres::cloud_reading;
 use shapes::has_pattern;
 use shapes::kinds::Scan;
 use shapes::kinds::Value;
-use shapes::past::past_four;
-use shapes::past::past_one;
-use shapes::past::past_three;
-use shapes::scan::scan;
+use shapes::scan::figures_or;
+use shapes::scan::none;
+use shapes::scan::nothing;
+use shapes::scan::scanned;
+use shapes::scan::word_or;
 use text::kinds::Judged;
 use text::kinds::Refusal;
 ghost use mathlib.Core.Path.{_≡_};
@@ -37,21 +38,38 @@ enum HeightRead {
     Bad(Refusal),
 }
 
-// FEW, SCT, BKN or OVC, hhh, and CB or TCU or nothing.
+// FEW, SCT, BKN or OVC, hhh, and CB or TCU or nothing: by code made for the shape.
 fn scan_layer(g: &[u8]) -> Scan
     ensures { λ r. ⌜ r ≡ scanOf layerShape (now (g .entry)) ⌝ }
 {
-    scan(g, b"FEW|SCT|BKN|OVC ### CB|TCU|")
+    let none = none(g);
+    let overcast = word_or(g, 0, 3, b"OVC", none);
+    let broken = word_or(g, 0, 2, b"BKN", overcast);
+    let scattered = word_or(g, 0, 1, b"SCT", broken);
+    let amount = word_or(g, 0, 0, b"FEW", scattered);
+    let height = figures_or(g, amount.past, 0, b"###", 0, 3, none);
+    let at = height.past;
+    let neither = nothing(2, at);
+    let towering = word_or(g, at, 1, b"TCU", neither);
+    let convective = word_or(g, at, 0, b"CB", towering);
+    scanned(
+        g,
+        convective.past,
+        amount,
+        height,
+        convective,
+        none,
+        none,
+        none,
+    )
 }
 
 // The same as a test.
 fn is_layer(g: &[u8]) -> bool
     ensures { λ r. ⌜ r ≡ hasShape layerShape (now (g .entry)) ⌝ }
 {
-    let amount = past_four(g, 0, b"FEW", b"SCT", b"BKN", b"OVC");
-    let height = past_one(g, amount, b"###");
-    let convective = past_three(g, height, b"CB", b"TCU", b"");
-    convective == g.len()
+    let s = scan_layer(g);
+    s.fits
 }
 
 fn stands_alone(g: &[u8]) -> bool

@@ -20,14 +20,17 @@ use record::values::Direction;
 use record::values::Speed;
 use scales::kinds::Reading;
 use shapes::has_pattern;
+use shapes::kinds::Scan;
 use shapes::kinds::Value;
-use shapes::past::past_three;
-use shapes::past::past_two;
-use shapes::scan::scan;
+use shapes::scan::figures_or;
+use shapes::scan::none;
+use shapes::scan::nothing;
+use shapes::scan::scanned;
+use shapes::scan::word_or;
 use text::kinds::Refusal;
 ghost use mathlib.Core.Path.{_≡_};
 ghost use Rattle.shapes.specs.Pattern.{hasPattern, hasAny};
-ghost use Rattle.shapes.specs.Shape.{hasShape};
+ghost use Rattle.shapes.specs.Shape.{hasShape, scanOf};
 ghost use Rattle.scales.specs.Metres.{visibility, metresReading};
 ghost use Rattle.places.specs.Engine.{Good};
 ghost use Rattle.elements.specs.Parts.{agreeing, isMissing};
@@ -41,14 +44,32 @@ ghost use Rattle.wind.specs.Parts.{asDirection, asFigures, asSpeed, wind
 // Direction, speed, gust and unit.
 pub const WIND_SHAPE: [u8; 35] = *b"###|VRB ###|## G###|G##| KT|MPS|KMH";
 
+// By code made for the shape.
+fn scan_wind(g: &[u8]) -> Scan
+    ensures { λ r. ⌜ r ≡ scanOf windShape (now (g .entry)) ⌝ }
+{
+    let none = none(g);
+    let variable = word_or(g, 0, 1, b"VRB", none);
+    let direction = figures_or(g, 0, 0, b"###", 0, 3, variable);
+    let at = direction.past;
+    let two_figures = figures_or(g, at, 1, b"##", 0, 2, none);
+    let speed = figures_or(g, at, 0, b"###", 0, 3, two_figures);
+    let at = speed.past;
+    let steady = nothing(2, at);
+    let two_figures = figures_or(g, at, 1, b"G##", 1, 2, steady);
+    let gust = figures_or(g, at, 0, b"G###", 1, 3, two_figures);
+    let at = gust.past;
+    let kilometres = word_or(g, at, 2, b"KMH", none);
+    let metres = word_or(g, at, 1, b"MPS", kilometres);
+    let unit = word_or(g, at, 0, b"KT", metres);
+    scanned(g, unit.past, direction, speed, gust, unit, none, none)
+}
+
 pub fn has_wind(g: &[u8]) -> bool
     ensures { λ r. ⌜ r ≡ hasShape windShape (now (g .entry)) ⌝ }
 {
-    let direction = past_two(g, 0, b"###", b"VRB");
-    let speed = past_two(g, direction, b"###", b"##");
-    let gust = past_three(g, speed, b"G###", b"G##", b"");
-    let unit = past_three(g, gust, b"KT", b"MPS", b"KMH");
-    unit == g.len()
+    let s = scan_wind(g);
+    s.fits
 }
 
 fn unit_of(which: usize) -> Unit
@@ -196,7 +217,7 @@ fn wind_by(forecast: bool, d: Value, s: Value, g: Value, u: Value) -> WindRead
 pub fn read_wind(forecast: bool, g: &[u8]) -> WindRead
     ensures { λ r. ⌜ r ≡ asWind (readWind forecast (now (g .entry))) ⌝ }
 {
-    let s = scan(g, &WIND_SHAPE);
+    let s = scan_wind(g);
     let values = s.values;
     let direction = values[0];
     let speed = values[1];

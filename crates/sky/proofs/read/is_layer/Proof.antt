@@ -1,22 +1,12 @@
--- `sky::read::is_layer` meets its contract: the parts of the shape lead to the group's end.
+-- `sky::read::is_layer` meets its contract, by the scan of the group.
 -- Assumes nothing.
 use borrow.Author.Needs.{needs}
-use mathlib.Core.Path.{refl}
-use Rattle.shapes.specs.Shape.{split, partsOf, pastParts}
-use Rattle.shapes.proofs.Pasts.{has-past}
-use Rattle.elements.specs.Sky.{layerShape}
+use mathlib.Core.Path.{ap}
+use Rattle.shapes.specs.declared.kinds.Scan.{Scan}
+use Rattle.shapes.specs.Shape.{hasShape}
 use Rattle.sky.proofs.read.is_layer.Statement.{statement}
 use Rattle.sky.proofs.read.is_layer.Tie as tie
 
 pub is-layer-spec : {M : Type 1} → statement M
-is-layer-spec =
-    tie.close
-    (tie.spec
-    (λ c. search needs) (λ c. search needs) (λ c. search needs) (λ c. search needs) (λ c κs. search needs) (λ c. search needs) (λ c κs. search needs) (λ c. search needs) (λ c. search needs) (λ c. search needs) (λ c κs. search needs)
-    (λ c.
-    rw (
-      c .past-three .ensures,
-      c .before .before .before .before .past-one .ensures,
-      c .before .before .before .before .before .before .past-four .ensures,
-    )
-    (unfold pastParts partsOf split in has-past layerShape (c .before .before .before .before .before .before .before .before .before .before .before .before .args .g .now) refl)))
+unfolding hasShape
+is-layer-spec = tie.close (tie.spec (λ c κs. search needs) (λ c. ap (λ (s : Scan). s .fits) (c .scan-layer .ensures)))

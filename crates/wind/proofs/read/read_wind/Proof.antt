@@ -18,7 +18,6 @@ unfolding readWind
 read-wind-spec =
     tie.close
     (tie.spec
-    (λ c. search needs)
     (λ c κs. tt)
     (λ c. search needs)
     (λ c. search needs)
@@ -26,10 +25,10 @@ read-wind-spec =
     (λ c. search needs)
     (λ c κs. tt)
     (λ c.
-    let g = c .before .before .before .before .before .before .before .before .before .args .g .now in
+    let g = c .before .before .before .before .before .before .before .before .args .g .now in
     rw (
       c .wind-by .ensures,
-      c .before .before .before .before .before .before .scan .ensures,
+      c .before .before .before .before .before .before .scan-wind .ensures,
       value-is windShape g 0 none (omega arith),
       value-is windShape g 1 none (omega arith),
       value-is windShape g 2 none (omega arith),

@@ -1,4 +1,4 @@
--- `shapes::scan::run_length` meets its contract: the bytes passed are all '#'.
+-- `shapes::print::run_length` meets its contract: the bytes passed are all '#'.
 -- Assumes nothing.
 use mathlib.Core.Path.{_≡_}
 use Prim.Native.Nat.{_≤_, _+_, _-_}
@@ -8,8 +8,8 @@ use borrow.Author.Needs.{needs}
 use borrow.Author.Tests.{eq-eqb, ne-eqb}
 use Rattle.shapes.specs.Shape.{runLength}
 use Rattle.shapes.proofs.Splits.{lead-on, lead-stop, lead-end}
-use Rattle.shapes.proofs.scan.run_length.Statement.{statement}
-use Rattle.shapes.proofs.scan.run_length.Tie as tie
+use Rattle.shapes.proofs.print.run_length.Statement.{statement}
+use Rattle.shapes.proofs.print.run_length.Tie as tie
 
 abbrev Inv : tie.InvT-loop
 Inv p i₀ i = (i ≤ length p) × (runLength p ≡ i + runLength (drop i p))

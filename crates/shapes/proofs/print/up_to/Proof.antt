@@ -1,4 +1,4 @@
--- `shapes::scan::up_to` meets its contract: the bytes passed are all before the first c.
+-- `shapes::print::up_to` meets its contract: the bytes passed are all before the first c.
 -- Assumes nothing.
 use mathlib.Core.Path.{_≡_, ap}
 use mathlib.Core.Bool.{not}
@@ -9,8 +9,8 @@ use borrow.Author.Needs.{needs}
 use borrow.Author.Tests.{eq-eqb, ne-eqb}
 use Rattle.shapes.specs.Shape.{upTo}
 use Rattle.shapes.proofs.Splits.{lead-on, lead-stop, lead-end}
-use Rattle.shapes.proofs.scan.up_to.Statement.{statement}
-use Rattle.shapes.proofs.scan.up_to.Tie as tie
+use Rattle.shapes.proofs.print.up_to.Statement.{statement}
+use Rattle.shapes.proofs.print.up_to.Tie as tie
 
 abbrev Inv : tie.InvT-loop
 Inv s c i₀ i = (i ≤ length s) × (upTo c s ≡ i + upTo c (drop i s))
