@@ -1,23 +1,23 @@
 -- A row keeps what is written of a record: place by place its groups have their shape, are as many as may stand there, take a known room, and are read
 -- back as what is put. So the canonical text of the whole row is sound, short, and read back whole.
 -- Assumes nothing.
-use Prim.Native.Nat.{ℕ, zero, suc, _+_, _*_, _≤_, _<_}
+use Prim.Native.Nat.{ℕ, _+_, _*_, _≤_, _<_}
 use native.Mathlib.Omega.{arith}
 use native.Mathlib.Nat.{mul-le-mul-left}
-use mathlib.Core.Path.{_≡_, refl, sym, ap, _∙_}
-use mathlib.Core.Bool.{Bool, true, false, _&&_, false≢true}
+use mathlib.Core.Path.{_≡_, refl, sym, _∙_}
+use mathlib.Core.Bool.{true, false, false≢true}
 use mathlib.Core.List.{List, [], _∷_, _++_}
 use lib.ListN.{length}
-use lib.Dec.{leb}
 use Rattle.text.specs.declared.kinds.Tail.the-variants.{Clear}
 use Rattle.text.specs.declared.kinds.Bytes.the-variants as judgement
 use Rattle.text.specs.Groups.{groupsFrom, join}
 use Rattle.text.specs.Text.{bytesOf, tailOf}
 use Rattle.text.proofs.Joins.{round-trip-bytes, join-tail, join-sound}
+use Rattle.figures.proofs.Impossible.{impossible}
 use Rattle.shapes.specs.Pattern.{Pattern, hasAny}
 use Rattle.places.specs.Engine.{Group, Good, Place, Done, run, written, putAll}
-use Rattle.places.proofs.ReadBack.{All, All-map, sound, Covered, Shaped, Spoken, fill, Served, ServedRow, stops, read-back}
-use Rattle.places.proofs.Sizes.{Sized, measured, sized-each, Sizes, sizes-none, sizes-all, sizes-append, sizes-more, join-room, room}
+use Rattle.places.proofs.ReadBack.{All, sound, Covered, Shaped, Spoken, fill, Served, ServedRow, stops, read-back}
+use Rattle.places.proofs.Sizes.{Sized, Sizes, sizes-none, sizes-all, sizes-append, sizes-more, join-room, room}
 
 module _ {R : Type 0} where
   -- the groups of r at a place have at most n bytes each, and read into acc they make what is put
@@ -39,7 +39,7 @@ module _ {R : Type 0} where
     where
       go : (gs : List Group) → gs ++ written ps r ≡ [] → (gs ≡ []) × (written ps r ≡ [])
       go [] e = (refl, e)
-      go (g ∷ gs) e = let z : _≡_ {A = ℕ} 0 1 = cc in absurd (omega arith)
+      go (g ∷ gs) e = impossible (cc)
 
   none-spoken : (ps : List (Place R)) (r : R) → written ps r ≡ [] → Spoken ps r
   none-spoken [] r e = tt

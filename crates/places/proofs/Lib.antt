@@ -3,6 +3,7 @@ pub mod Seek
 pub mod Rows
 pub mod Fits
 pub mod Going
+pub mod Loop
 pub mod ReadBack
 pub mod Examples
 pub mod Sizes

@@ -9,8 +9,9 @@ use mathlib.Core.List.{List, [], _∷_, _++_, map, append-assoc}
 use lib.ListN.{length, getD, take, drop, take-append-drop, length-map, List·getD-map, List·getD-eq-default}
 use lib.Dec.{ltb, eqb, eqb·zero-suc, eqb·suc-zero, eqb·suc-suc}
 use borrow.Author.Tests.{ltb-true, not-true}
+use Rattle.figures.proofs.Impossible.{impossible}
 use Rattle.places.specs.Seek.{Stand, seek, anywhere, orEarlier, findOf}
-use Rattle.places.specs.Engine.{Group, Place, nowhere, placeAt, standing, standsOf, mustsOf, written}
+use Rattle.places.specs.Engine.{Group, Place, nowhere, placeAt, onward, standing, standsOf, written}
 use Rattle.places.specs.declared.kinds.Found.{Found}
 use Rattle.places.specs.declared.kinds.Found.the-variants.{Take, Skips, Full, Earlier, Unknown}
 
@@ -27,14 +28,14 @@ module _ {A : Type 0} where
   at-next l i e = rw (add-one i) (drop-suc l i e)
 
   pub at-is : (d : A) {x : A} {xs : List A} (l : List A) (i : ℕ) → drop i l ≡ x ∷ xs → getD l i d ≡ x
-  at-is d [] zero e = let z : _≡_ {A = ℕ} 0 1 = cc in absurd (omega arith)
-  at-is d [] (suc i) e = let z : _≡_ {A = ℕ} 0 1 = cc in absurd (omega arith)
+  at-is d [] zero e = impossible (cc)
+  at-is d [] (suc i) e = impossible (cc)
   at-is d (y ∷ ys) zero e = cc
   at-is d (y ∷ ys) (suc i) e = at-is d ys i e
 
   pub at-in : {x : A} {xs : List A} (l : List A) (i : ℕ) → drop i l ≡ x ∷ xs → i < length l
-  at-in [] zero e = let z : _≡_ {A = ℕ} 0 1 = cc in absurd (omega arith)
-  at-in [] (suc i) e = let z : _≡_ {A = ℕ} 0 1 = cc in absurd (omega arith)
+  at-in [] zero e = impossible (cc)
+  at-in [] (suc i) e = impossible (cc)
   at-in (y ∷ ys) zero e = omega arith
   at-in (y ∷ ys) (suc i) e = let h = at-in ys i e in omega arith
 
@@ -82,7 +83,7 @@ record Fit (ps : List Stand) (j n : ℕ) : Type 0 where
 
 seek-fits : (ps qs : List Stand) (i k : ℕ) (late : Bool) (j n : ℕ) → drop i ps ≡ qs → seek i k late qs ≡ Take j n → Fit ps j n
 unfolding seek
-seek-fits ps [] i k late j n d e = let z : _≡_ {A = ℕ} 0 1 = cc in absurd (omega arith)
+seek-fits ps [] i k late j n d e = impossible (cc)
 seek-fits ps (q ∷ qs) i k late j n d e =
     go (q .has && ltb k (q .most)) refl late refl (q .has && ltb 1 (q .most)) refl
     (λ r s. seek-fits ps qs (i + 1) 0 (late || (q .must && eqb k 0)) j n (at-next ps i d) (rw (r, s) at e))
@@ -91,8 +92,7 @@ seek-fits ps (q ∷ qs) i k late j n d e =
         → ((q .has && ltb k (q .most)) ≡ false → (q .has && ltb 1 (q .most)) ≡ false → Fit ps j n) → Fit ps j n
     go true r true l f s ih =
         let a : Skips ≡ Take j n = rw (r, l) at e in
-        let z : _≡_ {A = ℕ} 0 1 = cc in
-        absurd (omega arith)
+        impossible (cc)
     go true r false l f s ih =
         let a : Take i k ≡ Take j n = rw (r, l) at e in
         let ij : i ≡ j = cc in
@@ -106,8 +106,7 @@ seek-fits ps (q ∷ qs) i k late j n d e =
         })
     go false r b l true s ih =
         let a : Full ≡ Take j n = rw (r, s) at e in
-        let z : _≡_ {A = ℕ} 0 1 = cc in
-        absurd (omega arith)
+        impossible (cc)
     go false r b l false s ih = ih r s
 
 found : (here : Bool) (f : Found) (j n : ℕ) → orEarlier here f ≡ Take j n → f ≡ Take j n
@@ -115,7 +114,7 @@ found here (Take i k) j n e = e
 found here Skips j n e = e
 found here Full j n e = e
 found here Earlier j n e = e
-found true Unknown j n e = let z : _≡_ {A = ℕ} 0 1 = cc in absurd (omega arith)
+found true Unknown j n e = impossible (cc)
 found false Unknown j n e = e
 
 find-fits : (ps : List Stand) (c k j n : ℕ) → findOf ps c k ≡ Take j n → Fit ps j n
@@ -141,7 +140,7 @@ module _ {R : Type 0} where
 
 -- ---- tests that hold at one place alone
 
-abbrev noneIn : List Bool → Bool
+abbrev pub noneIn : List Bool → Bool
 noneIn [] = true
 noneIn (b ∷ bs) = not b && noneIn bs
 
@@ -166,6 +165,11 @@ module _ {R : Type 0} where
   -- the place that ends the report, where there is one
   pub ends-at : (row : List (Place R)) (k i : ℕ) → onlyAt k (map (λ (p : Place R). p .ends) row) ≡ true → eqb i k ≡ placeAt row i .ends
   ends-at row k i e = only-at k (map (λ (p : Place R). p .ends) row) i e ∙ List·getD-map (λ (p : Place R). p .ends) row i nowhere
+
+  -- where there is none, reading goes on from the place itself
+  pub endless : (row : List (Place R)) (i : ℕ) → noneIn (map (λ (p : Place R). p .ends) row) ≡ true → i ≡ onward row i
+  endless row i e =
+      rw (← List·getD-map (λ (p : Place R). p .ends) row i nowhere, none-at (map (λ (p : Place R). p .ends) row) i e)
 
 -- ---- what a row writes, in two parts
 

@@ -1,3 +1,6 @@
+// Where a group goes in a row of places, and what its turn is.
+use text::kinds::Refusal;
+
 // Where a group goes in a row of places.
 pub enum Found {
     // To this place, where so many groups stand already.
@@ -10,4 +13,11 @@ pub enum Found {
     Earlier,
     // No place has its shape.
     Unknown,
+}
+
+// A group's turn by the row, before it is read: it goes to a place, where so many groups stand, it stops the reading, or it is refused.
+pub enum Turn {
+    At { place: usize, count: usize },
+    Halt,
+    Refused(Refusal),
 }

@@ -3,6 +3,7 @@
 pub mod kinds;
 
 use kinds::Found;
+use kinds::Turn;
 use text::kinds::Refusal;
 ghost use mathlib.Core.Path.{_≡_};
 ghost use Prim.Native.Nat.{_-_};
@@ -10,6 +11,7 @@ ghost use mathlib.Core.Bool.{cond};
 ghost use lib.Dec.{eqb};
 ghost use lib.ListN.{getD, take, drop};
 ghost use Rattle.places.specs.Seek.{answers, foundAt, owed, refusalOf};
+ghost use Rattle.places.specs.Turn.{turnBy};
 
 // May a place answer for a group where `count` groups stand and `most` may? One more may stand there, or it repeats and is full; `all`: in any case.
 pub fn may_answer(all: bool, count: usize, most: usize) -> bool
@@ -88,5 +90,18 @@ pub fn found_at(most: &[u8], must: &[bool], place: usize, count: usize, fit: usi
         }
     } else {
         Found::Full
+    }
+}
+
+// The turn of a group that is no stop word, by where it goes.
+pub fn turn_by(found: Found) -> Turn
+    ensures { λ r. ⌜ r ≡ turnBy found ⌝ }
+{
+    match found {
+        Found::Take { place, count } => Turn::At { place, count },
+        Found::Skips => Turn::Refused(Refusal::Absence),
+        Found::Full => Turn::Refused(Refusal::Limit),
+        Found::Earlier => Turn::Refused(Refusal::Order),
+        Found::Unknown => Turn::Refused(Refusal::Shape),
     }
 }
