@@ -1,10 +1,8 @@
 // Section 1 after Nddff: 00fff and the groups 1 to 9, each read at its place of the row, up to a stop word or the end.
 use crate::answer;
-use crate::kinds::Next;
 use crate::kinds::Reading;
-use crate::kinds::Section;
-use crate::kinds::Stepped;
-use places::kinds::Found;
+use places::kinds::Turn;
+use places::turn_by;
 use record::surface::Surface;
 use record::surface::Synop;
 use record::surface::Wind;
@@ -17,14 +15,15 @@ use text::kinds::Cut;
 use text::kinds::Refusal;
 use text::kinds::Tail;
 ghost use mathlib.Core.Path.{_≡_};
-ghost use Prim.Native.Nat.{_<_};
 ghost use lib.ListN.{length};
 ghost use Rattle.text.specs.Text.{tailOf};
 ghost use Rattle.text.specs.Groups.{groupsFrom};
-ghost use Rattle.places.specs.Engine.{Step, taken, closed, over};
-ghost use Rattle.synop_row.specs.Row.{withSaid, row};
+ghost use Rattle.shapes.specs.Pattern.{hasAny};
+ghost use Rattle.places.specs.Engine.{closed, over};
+ghost use Rattle.places.specs.Turn.{turnAt};
+ghost use Rattle.synop_row.specs.Row.{row, stopWords};
 ghost use Rattle.synop_section.specs.Answer.{ontoReport, section, answer};
-ghost use Rattle.synop_section.specs.Section.{Says, saidOnto, stepped, stepOf};
+ghost use Rattle.synop_section.specs.Section.{Says, saidOnto};
 
 // What the group says at its place.
 fn said_at(place: usize, needs: Needs, g: &[u8]) -> Said
@@ -45,17 +44,8 @@ fn said_at(place: usize, needs: Needs, g: &[u8]) -> Said
     }
 }
 
-fn refuse(refusal: Refusal, section: Section) -> Stepped
-    ensures { λ r. ⌜ r ≡ stepped section (Step.Stop refusal) ⌝ }
-{
-    Stepped {
-        next: Next::Fault(refusal),
-        section,
-    }
-}
-
 // The surface with what a group says. What names the place and time is no part of it, and a refusal adds nothing.
-pub fn with_said(said: Said, surface: Surface) -> Surface
+fn with_said(said: Said, surface: Surface) -> Surface
     ensures { λ r. ⌜ r ≡ saidOnto said surface ⌝ }
 {
     let mut s = surface;
@@ -87,103 +77,91 @@ pub fn with_said(said: Said, surface: Surface) -> Surface
     s
 }
 
-// What a group says goes into the surface, and reading goes on from its place; or the group is refused.
-fn tell(said: Said, place: usize, count: usize, section: Section) -> Stepped
-    ensures { λ r. ⌜ r ≡ stepped section (taken place count (withSaid said (section .surface))) ⌝ }
+// The group's turn, where `count` groups stand at `place`.
+fn decide(needs: Needs, place: usize, count: usize, g: &[u8]) -> Turn
+    ensures { λ t. ⌜ t ≡ turnAt (row needs) (hasAny stopWords) place count (now (g .entry)) ⌝ }
 {
-    match said {
-        Said::Refused(refusal) => refuse(refusal, section),
-        _ => {
-            let s = section.surface;
-            let surface = with_said(said, s);
-            Stepped {
-                next: Next::On,
-                section: Section {
-                    place,
-                    count,
-                    surface,
-                },
-            }
-        }
+    if 10 <= place {
+        return Turn::Refused(Refusal::Shape);
     }
-}
-
-// One group.
-fn step(needs: Needs, section: Section, g: &[u8]) -> Stepped
-    requires { ⌜ section .place < 10 ⌝ }
-    ensures { λ r. ⌜ r ≡ stepOf needs section (now (g .entry)) ⌝ }
-{
     if row::is_stop_word(g) {
-        return Stepped {
-            next: Next::Halt,
-            section,
-        };
+        return Turn::Halt;
     }
-    let found = row::find(needs, section.place, section.count, g);
-    match found {
-        Found::Take { place, count } => {
-            let said = said_at(place, needs, g);
-            tell(said, place, count + 1, section)
-        }
-        _ => refuse(places::refusal_of(found), section),
-    }
+    turn_by(row::find(needs, place, count, g))
 }
 
 // Reading ends at a position of the text: a required group is absent, or the unread rest begins there.
-fn close(at: usize, needs: Needs, section: Section, report: Synop) -> Reading
-    ensures { λ r. ⌜ r ≡ answer (ontoReport report (closed (row needs) at (section .place) (section .count) (section .surface))) ⌝ }
+fn close(
+    at: usize,
+    needs: Needs,
+    place: usize,
+    count: usize,
+    surface: Surface,
+    report: Synop,
+) -> Reading
+    ensures { λ r. ⌜ r ≡ answer (ontoReport report (closed (row needs) at place count surface)) ⌝ }
 {
     let must = row::musts_of(needs);
-    if places::is_owed(&must, section.place, section.count) {
+    if places::is_owed(&must, place, count) {
         answer::refuse(Refusal::Absence, at)
     } else {
-        let s = section.surface;
         let mut r = report;
-        r.surface = s;
+        r.surface = surface;
         answer::accept(at, r)
     }
 }
 
 // The groups are over: what follows the "=" is refused first, an absence last.
-fn finish(text: &[u8], needs: Needs, section: Section, report: Synop) -> Reading
-    ensures { λ r. ⌜ r ≡ answer (ontoReport report (over (row needs) (tailOf (now (text .entry))) (length (now (text .entry))) (section .place) (section .count) (section .surface))) ⌝ }
+fn finish(
+    text: &[u8],
+    needs: Needs,
+    place: usize,
+    count: usize,
+    surface: Surface,
+    report: Synop,
+) -> Reading
+    ensures { λ r. ⌜ r ≡ answer (ontoReport report (over (row needs) (tailOf (now (text .entry))) (length (now (text .entry))) place count surface)) ⌝ }
 {
     let tail = text::tail(text);
     match tail {
-        Tail::Junk(place) => answer::refuse(Refusal::Shape, place),
-        Tail::Clear => close(text.len(), needs, section, report),
+        Tail::Junk(junk) => answer::refuse(Refusal::Shape, junk),
+        Tail::Clear => close(text.len(), needs, place, count, surface, report),
     }
 }
 
-// Section 1 from a position of the text on.
+// Section 1 from a position of the text on. The surface is the loop's own: what each group says goes into it, and nothing of it is asked to find the
+// group's place.
 pub fn read_section(text: &[u8], from: usize, report: Synop) -> Reading
     ensures { λ r. ⌜ r ≡ answer (section report (tailOf (now (text .entry))) (length (now (text .entry))) (groupsFrom (now (text .entry)) from)) ⌝ }
 {
-    let surface = report.surface;
+    let mut surface = report.surface;
     let needs = row::needs_of(surface);
-    let mut s = Section {
-        place: 0,
-        count: 0,
-        surface,
-    };
+    let mut place = 0;
+    let mut count = 0;
     let mut at = from;
     while at < text.len() {
-        let next = text::next_group(text, at);
-        match next {
-            Cut::End { at: _ } => return finish(text, needs, s, report),
-            Cut::Group { start, end } => {
-                let t = step(needs, s, text::part(text, start, end));
-                let then = t.next;
-                match then {
-                    Next::On => {
-                        s = t.section;
-                        at = end;
-                    }
-                    Next::Halt => return close(start, needs, s, report),
-                    Next::Fault(refusal) => return answer::refuse(refusal, start),
+        let Cut::Group { start, end } = text::next_group(text, at) else {
+            return finish(text, needs, place, count, surface, report);
+        };
+        let g = text::part(text, start, end);
+        let turn = decide(needs, place, count, g);
+        match turn {
+            Turn::Halt => return close(start, needs, place, count, surface, report),
+            Turn::Refused(refusal) => return answer::refuse(refusal, start),
+            Turn::At {
+                place: there,
+                count: standing,
+            } => {
+                let said = said_at(there, needs, g);
+                if let Said::Refused(refusal) = said {
+                    return answer::refuse(refusal, start);
                 }
+                surface = with_said(said, surface);
+                place = there;
+                count = standing + 1;
+                at = end;
             }
         }
     }
-    finish(text, needs, s, report)
+    finish(text, needs, place, count, surface, report)
 }

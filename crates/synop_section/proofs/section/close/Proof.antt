@@ -1,9 +1,11 @@
--- `section::close` meets its contract.
+-- `section::close` meets its contract: a required group is owed, or not.
 -- Assumes nothing.
 use borrow.Author.Needs.{needs}
 use mathlib.Core.Path.{_∙_}
 use mathlib.Core.Bool.{true, false}
-use Rattle.synop_section.proofs.SectionSteps.{closed-by}
+use Rattle.places.proofs.Loop.{closed-by}
+use Rattle.synop_row.specs.Row.{row}
+use Rattle.synop_section.proofs.SectionSteps.{answerOn}
 use Rattle.synop_section.proofs.section.close.Statement.{statement}
 use Rattle.synop_section.proofs.section.close.Tie as tie
 
@@ -14,7 +16,7 @@ close-spec =
     (λ c κs. search needs) (λ c. search needs) (λ c κs. search needs) (λ c κs. search needs) (λ c κs. search needs)
     (λ c.
     let a = c .before .before .before .before .before .args in
-    c .refuse .ensures ∙ closed-by (a .needs) (a .report) (a .at) (a .section) true (c .before .before .before .before .musts-of .ensures) (c .before .before .is-owed .ensures) (c .before .if1 .taken))
+    c .refuse .ensures ∙ closed-by (answerOn (a .report)) (row (a .needs)) (a .at) (a .place) (a .count) (a .surface) true (c .before .before .before .before .musts-of .ensures) (c .before .before .is-owed .ensures) (c .before .if1 .taken))
     (λ c.
-    let a = c .before .before .before .before .before .before .args in
-    c .accept .ensures ∙ closed-by (a .needs) (a .report) (a .at) (a .section) false (c .before .before .before .before .before .musts-of .ensures) (c .before .before .before .is-owed .ensures) (c .before .before .if1 .left)))
+    let a = c .before .before .before .before .before .args in
+    c .accept .ensures ∙ closed-by (answerOn (a .report)) (row (a .needs)) (a .at) (a .place) (a .count) (a .surface) false (c .before .before .before .before .musts-of .ensures) (c .before .before .is-owed .ensures) (c .before .if1 .left)))

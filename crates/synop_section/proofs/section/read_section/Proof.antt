@@ -1,71 +1,64 @@
--- `section::read_section` meets its contract. The invariant: what is left of the text says, from the place that reading stands at, what the
--- whole section says.
+-- `section::read_section` meets its contract: the reading from a position on stays what the section is read as.
 -- Assumes nothing.
 use borrow.Author.Needs.{needs}
-use Prim.Native.Nat.{_<_, _-_}
+use Prim.Native.Nat.{_-_}
 use native.Mathlib.Omega.{arith}
 use mathlib.Core.Path.{_≡_, sym, _∙_}
 use lib.ListN.{length}
 use Rattle.text.specs.Text.{tailOf}
 use Rattle.text.specs.Groups.{groupsFrom}
 use Rattle.text.proofs.Groups.{Follows, when-group, when-end, from-end}
+use Rattle.shapes.specs.Pattern.{hasAny}
 use Rattle.places.proofs.Going.{going}
+use Rattle.places.proofs.Loop.{turn-room, goes-on, reads-over, reads-on, reads-bad, reads-halt, reads-fault}
+use Rattle.synop_row.specs.Row.{row, stopWords}
 use Rattle.synop_section.specs.Answer.{section, answer}
-use Rattle.synop_section.proofs.SectionSteps.{goes-on, reads-over, reads-on, reads-halt, reads-fault}
+use Rattle.synop_section.proofs.SectionSteps.{answerOn, row-few, row-endless, said-good, said-bad}
 use Rattle.synop_section.proofs.section.read_section.Statement.{statement}
 use Rattle.synop_section.proofs.section.read_section.Tie as tie
 
-abbrev Inv-loop : tie.InvT-loop
-Inv-loop text from report needs s₀ at₀ s at =
-    (answer (section report (tailOf text) (length text) (groupsFrom text from)) ≡ goes-on needs report text s at) × (s .place < 10)
+abbrev Inv : tie.InvT-loop
+Inv text from report surface₀ needs place₀ count₀ at₀ surface place count at =
+    answer (section report (tailOf text) (length text) (groupsFrom text from)) ≡ goes-on (answerOn report) (row needs) stopWords text place count surface at
 
-abbrev μ-loop : tie.MeasureT-loop
-μ-loop text from report needs s₀ at₀ s at = length text - at
+abbrev μ : tie.MeasureT-loop
+μ text from report surface₀ needs place₀ count₀ at₀ surface place count at = length text - at
 
--- past the match on the next group
-follows : (c : tie.After-known-told Inv-loop μ-loop) → Follows (c .before .before .before .before .before .before .before .before .before .args .text .now) (c .before .before .before .before .before .loop .at) (c .before .next .given .0 .0) (c .before .next .given .0 .1 .0)
-follows c = when-group (c .before .before .before .before .before .before .before .before .before .args .text .now) (c .before .before .before .before .before .loop .at) _ _ (sym (c .before .next .given .1) ∙ c .before .before .before .next-group .ensures)
+-- past the next group's cut
+follows : (c : tie.After-known-told Inv μ) → Follows (c .before .before .before .before .before .before .before .before .before .args .text .now) (c .before .before .before .before .before .loop .at) (c .before .start .given .0 .0) (c .before .start .given .0 .1 .0)
+follows c = when-group _ _ _ _ (sym (c .before .start .given .1) ∙ c .before .before .before .next-group .ensures)
 
 pub read-section-spec : {M : Type 1} → statement M
 read-section-spec =
     tie.close
-    (tie.spec Inv-loop μ-loop
+    (tie.spec Inv μ
     (λ c κs. search needs)
-    (λ c. (unfold section goes-on going in rw (c .needs-of .ensures), omega arith))
+    (λ c. unfold section goes-on going in rw (c .needs-of .ensures))
+    (λ c κs. search needs)
+    (λ c. search needs)
+    (λ c. search needs)
+    (λ c κs. search needs)
+    (λ c. c .finish .ensures ∙ sym (c .before .before .before .before .before .loop .inv ∙ reads-over (answerOn (c .before .before .before .before .before .before .before .before .before .args .report)) (row _) stopWords _ _ _ _ _ (when-end _ _ _ (sym (c .before .enum-told .given .1) ∙ c .before .before .before .next-group .ensures))))
+    (λ c κs. search needs)
+    (λ c κs. search needs)
+    (λ c. search needs)
+    (λ c κs. search needs)
+    (λ c. c .close .ensures ∙ sym (c .before .before .before .before .before .before .before .before .before .before .loop .inv ∙ reads-halt (answerOn (c .before .before .before .before .before .before .before .before .before .before .before .before .before .before .args .report)) (row _) stopWords _ _ _ _ _ (follows (c .before .before .before .before .before)) (c .before .before .before .before .part .ensures) (c .before .before .before .decide .ensures) (c .before .enum-told2 .given .1)))
+    (λ c. search needs)
+    (λ c κs. search needs)
+    (λ c. c .refuse .ensures ∙ sym (c .before .before .before .before .before .before .before .before .before .before .before .loop .inv ∙ reads-fault (answerOn (c .before .before .before .before .before .before .before .before .before .before .before .before .before .before .before .args .report)) (row _) stopWords _ _ _ _ _ (follows (c .before .before .before .before .before .before)) (c .before .before .before .before .before .part .ensures) (c .before .before .before .before .decide .ensures) (c .before .before .turn .given .1)))
+    (λ c. search needs)
     (λ c κs. search needs)
     (λ c. search needs)
     (λ c κs. search needs)
     (λ c.
-    let l = c .before .before .before .before .before .loop in
-    let a = c .before .before .before .before .before .before .before .before .before .args in
-    c .finish .ensures
-    ∙ sym (l .inv .0 ∙ reads-over _ (a .report) (a .text .now) (l .s) (l .at) (when-end _ _ _ (sym (c .before .enum-told .given .1) ∙ c .before .before .before .next-group .ensures))))
-    (λ c. search needs)
+    c .refuse2 .ensures
+    ∙ sym (c .before .before .before .before .before .before .before .before .before .before .before .before .before .before .before .loop .inv ∙ reads-bad (answerOn (c .before .before .before .before .before .before .before .before .before .before .before .before .before .before .before .before .before .before .before .args .report)) (row _) stopWords _ _ _ _ _ (follows (c .before .before .before .before .before .before .before .before .before .before)) (c .before .before .before .before .before .before .before .before .before .part .ensures) (c .before .before .before .before .before .before .before .before .decide .ensures) (c .before .before .before .before .before .before .turn2 .given .1) (said-bad _ _ _ _ _ (c .before .before .before .before .said-at .ensures) (c .before .before .said .given .1))))
     (λ c κs. search needs)
-    (λ c κs. c .before .before .before .before .before .before .loop .inv .1)
-    (λ c. search needs)
-    (λ c. omega (arith, follows (c .before .before .before .before .before)))
+    (λ c. omega (arith, turn-room (row _) (hasAny stopWords) _ _ _ 1 (row-few _) (c .before .before .before .before .before .before .decide .ensures) (c .before .before .before .before .turn2 .given .1)))
+    (λ c. omega (arith, follows (c .before .before .before .before .before .before .before .before)))
     (λ c.
-    let l = c .before .before .before .before .before .before .before .before .before .before .loop in
-    let a = c .before .before .before .before .before .before .before .before .before .before .before .before .before .before .args in
-    let o = reads-on _ (a .report) (a .text .now) (l .s) (l .at) _ _ (follows (c .before .before .before .before .before)) (c .before .before .before .before .part .ensures) (c .before .before .before .step .ensures) (l .inv .1) (c .before .enum-told2 .given .1) in
-    (l .inv .0 ∙ o .0, o .1))
-    (λ c. search needs)
+    c .before .before .before .before .before .before .before .before .before .before .before .before .before .loop .inv
+    ∙ reads-on (answerOn (c .before .before .before .before .before .before .before .before .before .before .before .before .before .before .before .before .before .args .report)) (row _) stopWords _ _ _ _ _ (follows (c .before .before .before .before .before .before .before .before)) (c .before .before .before .before .before .before .before .part .ensures) (c .before .before .before .before .before .before .decide .ensures) (c .before .before .before .before .turn2 .given .1) (said-good _ _ _ _ _ _ (c .before .before .said-at .ensures) (c .before .match3 .keys2) (c .with-said .ensures)) (row-endless _ _))
     (λ c κs. search needs)
-    (λ c.
-    let l = c .before .before .before .before .before .before .before .before .before .before .loop in
-    let a = c .before .before .before .before .before .before .before .before .before .before .before .before .before .before .args in
-    c .close .ensures
-    ∙ sym (l .inv .0 ∙ reads-halt _ (a .report) (a .text .now) (l .s) (l .at) _ _ (follows (c .before .before .before .before .before)) (c .before .before .before .before .part .ensures) (c .before .before .before .step .ensures) (c .before .enum-told3 .given .1)))
-    (λ c. search needs)
-    (λ c κs. search needs)
-    (λ c.
-    let l = c .before .before .before .before .before .before .before .before .before .before .before .loop in
-    let a = c .before .before .before .before .before .before .before .before .before .before .before .before .before .before .before .args in
-    c .refuse .ensures
-    ∙ sym (l .inv .0 ∙ reads-fault _ (a .report) (a .text .now) (l .s) (l .at) _ _ (follows (c .before .before .before .before .before .before)) (c .before .before .before .before .before .part .ensures) (c .before .before .before .before .step .ensures) (c .before .before .then .given .1)))
-    (λ c κs. search needs)
-    (λ c.
-    let l = c .before .before .loop in
-    let a = c .before .before .before .before .before .before .args in
-    c .finish2 .ensures ∙ sym (l .inv .0 ∙ reads-over _ (a .report) (a .text .now) (l .s) (l .at) (from-end _ _ (c .before .loop-test .left)))))
+    (λ c. c .finish2 .ensures ∙ sym (c .before .before .loop .inv ∙ reads-over (answerOn (c .before .before .before .before .before .before .args .report)) (row _) stopWords _ _ _ _ _ (from-end _ _ (c .before .loop-test .left)))))
