@@ -1,11 +1,11 @@
 // Reading a METAR or SPECI: one group after the other, from behind its name on.
 use crate::answer;
 use crate::kinds::Reading;
-use crate::kinds::Turn;
 use crate::step::decide;
 use crate::step::read_at;
 use metar_row::go_past;
 use metar_row::musts;
+use places::kinds::Turn;
 use record::aerodrome::Metar;
 use record::blank_aerodrome::blank_metar;
 use text::kinds::Cut;

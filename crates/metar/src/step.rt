@@ -1,11 +1,11 @@
 // One group: where it goes in the row of places, which the record has no part in, and what it adds to the record there.
 use crate::kinds::Told;
-use crate::kinds::Turn;
 use crate::take;
 use aerodrome_groups::read::station_of;
 use metar_row::find;
 use metar_row::is_stop_word;
-use places::kinds::Found;
+use places::kinds::Turn;
+use places::turn_by;
 use record::aerodrome::Metar;
 use shapes::has_pattern;
 use text::kinds::Refusal;
@@ -13,12 +13,13 @@ ghost use mathlib.Core.Path.{_≡_};
 ghost use mathlib.Core.Bool.{true};
 ghost use Prim.Native.Nat.{_<_, _≤_};
 ghost use Rattle.places.specs.Engine.{Good, placeAt};
+ghost use Rattle.places.specs.Turn.{turnAt};
 ghost use Rattle.record.specs.Metar.{setSpecial, setCorrected, setStation, setNil, setAutomatic};
 ghost use Rattle.figures.specs.Quote.{bytes};
-ghost use Rattle.shapes.specs.Pattern.{hasPattern};
+ghost use Rattle.shapes.specs.Pattern.{hasPattern, hasAny};
 ghost use Rattle.aerodrome_groups.specs.Head.{stationOf};
-ghost use Rattle.metar_row.specs.Row.{row};
-ghost use Rattle.metar.specs.Step.{toldOf, ToldAt, Turns};
+ghost use Rattle.metar_row.specs.Row.{row, stopWords};
+ghost use Rattle.metar.specs.Step.{toldOf, ToldAt};
 
 fn take_name(g: &[u8], r: Metar) -> Told
     ensures { λ t. ⌜ t ≡ toldOf r (Good (setSpecial (hasPattern (now (g .entry)) (bytes "SPECI")) r)) ⌝ }
@@ -108,7 +109,7 @@ pub fn read_at(place: usize, count: usize, g: &[u8], r: Metar) -> Told
 
 // The group's turn, where `count` groups stand at `place`.
 pub fn decide(place: usize, count: usize, g: &[u8]) -> Turn
-    ensures { λ t. ⌜ Turns place count (now (g .entry)) t ⌝ }
+    ensures { λ t. ⌜ t ≡ turnAt row (hasAny stopWords) place count (now (g .entry)) ⌝ }
 {
     if 15 <= place {
         return Turn::Refused(Refusal::Shape);
@@ -116,15 +117,5 @@ pub fn decide(place: usize, count: usize, g: &[u8]) -> Turn
     if is_stop_word(g) {
         return Turn::Halt;
     }
-    let found = find(place, count, g);
-    match found {
-        Found::Take {
-            place: there,
-            count: standing,
-        } => Turn::At {
-            place: there,
-            count: standing,
-        },
-        _ => Turn::Refused(places::refusal_of(found)),
-    }
+    turn_by(find(place, count, g))
 }
