@@ -1,25 +1,36 @@
 -- The laws of the groups known by position: call signs, and how reading goes on from post to post of the text.
 -- Assumes nothing.
-use Prim.Native.Nat.{ℕ, _+_}
+use Prim.Native.Nat.{ℕ, zero, suc, _+_, _-_, _≤_, _<_}
+use native.Mathlib.Omega.{arith}
+use native.Mathlib.Numerals.{add-one}
 use mathlib.Core.Path.{_≡_, refl, sym, ap, _∙_}
 use mathlib.Core.Bool.{Bool, true, false, cond, _&&_}
-use mathlib.Core.List.{List, [], _∷_, _++_}
-use lib.ListN.{length, take, getD, replicate}
+use mathlib.Core.List.{List, [], _∷_, _++_, map}
+use lib.ListN.{length, take, drop, getD, replicate, drop-of-length-le}
+use lib.Seq.{drop-cons, getD-drop}
+use types.Run.{OneOf}
+use denote.Enum.Declared.{tagOf}
+use Rattle.text.specs.declared.kinds.Refusal.{Refusal}
 use Rattle.text.specs.declared.kinds.Refusal.the-variants as refusal
-use Rattle.text.specs.declared.kinds.Tail.{Tail}
-use Rattle.text.specs.declared.kinds.Tail.the-variants.{Clear, Junk}
-use Rattle.text.specs.declared.kinds.Cut.{Cut}
-use Rattle.text.specs.declared.kinds.Cut.the-variants.{Group as Stands, End}
-use Rattle.text.specs.Groups.{groupsFrom, nextOf, partOf}
+use Rattle.text.specs.Groups.{groupsFrom, partOf}
 use Rattle.text.specs.Text.{tailOf}
-use Rattle.text.proofs.Groups.{when-group, when-end}
-use Rattle.places.specs.Engine.{Group, Read, Good, Bad, Outcome, Fault}
+use Rattle.text.proofs.Groups.{Follows}
+use Rattle.places.specs.Engine.{Group, Good, Bad, Fault}
+use Rattle.record.specs.declared.surface.Site.{Site}
+use Rattle.record.specs.declared.surface.Surface.{Surface}
 use Rattle.record.specs.declared.surface.Synop.{Synop}
-use Rattle.synop.specs.declared.kinds.Stage.{Stage}
-use Rattle.synop.specs.declared.kinds.Stage.the-variants as stage
-use Rattle.synop.specs.declared.kinds.Head.{Head}
-use Rattle.synop.specs.Read.{Post, isNil, afterNil, cutShort, onward, walk}
-use Rattle.synop.specs.Head.{refusedAt, ofRead, entered, endedShort, atCut, onGoing, advance, advances, outcome}
+use Rattle.synop_groups.specs.declared.kinds.Said.{Said}
+use Rattle.synop_groups.specs.declared.kinds.Said.the-variants as said
+use Rattle.synop_groups.proofs.kinds.Said as saids
+use Rattle.synop_row.specs.Row.{withSaid}
+use Rattle.synop_section.specs.declared.kinds.Reading.{Reading}
+use Rattle.synop_section.specs.Section.{saidOnto}
+use Rattle.synop_section.specs.Answer.{section, answer}
+use Rattle.synop_section.proofs.SectionSteps.{right, added}
+use Rattle.synop.specs.declared.kinds.Post.{Post as Name}
+use Rattle.synop.specs.declared.kinds.Post.the-variants as name
+use Rattle.synop.specs.Read.{siteOnto, withHead, isNil, cutShort, afterNil, onward, walk}
+use Rattle.synop.specs.Head.{named, postOf, saidBy, synopOf}
 
 -- ---- call signs
 
@@ -37,81 +48,85 @@ nine-bytes (a ∷ b ∷ c ∷ d ∷ e ∷ f ∷ h ∷ []) = refl
 nine-bytes (a ∷ b ∷ c ∷ d ∷ e ∷ f ∷ h ∷ i ∷ []) = refl
 nine-bytes (a ∷ b ∷ c ∷ d ∷ e ∷ f ∷ h ∷ i ∷ j ∷ g) = refl
 
--- ---- a group at a post, by what was tested of it
-module _ (p : Post) (s e : ℕ) (g : Group) (r : Synop) where
-  pub entered-nil : (p .nil && isNil g) ≡ true → record { stage = stage.Nil; at = e; report = r } ≡ entered p s e g r
-  unfolding entered
-  entered-nil n = rw n
+-- ---- what a group says at its post
 
-  pub entered-has : (p .nil && isNil g) ≡ false → p .has g ≡ true → ofRead s e r (p .read g r) ≡ entered p s e g r
-  unfolding entered
-  entered-has n h = rw (n, h)
+says-post : (p : Name) (g : Group) (r : Synop) → postOf p .read g r ≡ withHead (saidBy p (r .site .position) g) r
+says-post name.Time g r = refl
+says-post name.Station g r = refl
+says-post name.Latitude g r = refl
+says-post name.Longitude g r = refl
+says-post (name.Indicators land) g r = refl
+says-post name.Wind g r = refl
 
-  pub entered-other : (p .nil && isNil g) ≡ false → p .has g ≡ false → refusedAt refusal.Shape s e r ≡ entered p s e g r
-  unfolding entered
-  entered-other n h = rw (n, h)
+module _ (p : Name) (g : Group) (r : Synop) (x : Said) (is : x ≡ saidBy p (r .site .position) g) where
+  says : postOf p .read g r ≡ withHead x r
+  says = says-post p g r ∙ rw is
 
--- ---- the next group of a text at a post, by what was found
-module _ (t : List ℕ) (p : Post) (h : Head) where
-  pub advance-end : (at : ℕ) → h .stage ≡ stage.Going → End at ≡ nextOf t (h .at) → endedShort (tailOf t) (length t) (h .report) ≡ advance t p h
-  unfolding advance
-  advance-end at g e = rw (g, ← e)
+  post-bad : {f : Refusal} → x ≡ said.Refused f → postOf p .read g r ≡ Bad f
+  unfolding withHead withSaid
+  post-bad e = says ∙ rw e
 
-  pub advance-group : (s e : ℕ) {g : Group} → h .stage ≡ stage.Going → Stands s e ≡ nextOf t (h .at) → g ≡ partOf t s e
-      → entered p s e g (h .report) ≡ advance t p h
-  unfolding advance
-  advance-group s e o q i = rw (o, ← q, i)
+  post-good : {s : Site} {u : Surface} → OneOf right (tagOf saids.the-type x) → s ≡ siteOnto x (r .site) → u ≡ saidOnto x (r .surface)
+      → postOf p .read g r ≡ Good (synopOf (r .ship) s u)
+  unfolding withHead
+  post-good told a b = says ∙ rw (added x told (r .surface), a, b)
 
-  pub advance-over : (x : Stage) → h .stage ≡ x → ((k : Head) → onGoing x h k ≡ h) → h ≡ advance t p h
-  unfolding advance
-  advance-over x e over = sym (ap (λ (y : Stage). onGoing y h (atCut t p (h .report) (nextOf t (h .at)))) e ∙ over (atCut t p (h .report) (nextOf t (h .at))))
+-- ---- the posts in order
+
+pub few-posts : (ship : Bool) → length (named ship) ≤ 5
+few-posts false = omega arith
+few-posts true = omega arith
+
+-- the last post, from its number on
+from-last : (i : ℕ) → name.Wind ≡ getD (name.Wind ∷ []) i name.Wind
+from-last zero = refl
+from-last (suc i) = refl
+
+pub last-post : (ship : Bool) (n i : ℕ) → drop n (named ship) ≡ name.Wind ∷ [] → n ≤ i → name.Wind ≡ getD (named ship) i name.Wind
+last-post ship n i e h =
+    let s : n + (i - n) ≡ i = omega arith in
+    from-last (i - n) ∙ ap (λ (l : List Name). getD l (i - n) name.Wind) (sym e) ∙ getD-drop n (named ship) (i - n) name.Wind
+    ∙ ap (λ (k : ℕ). getD (named ship) k name.Wind) s
 
 -- ---- from post to post
 
--- what the walk says of a group at a post is what is read from there on
-module _ (t : List ℕ) (p : Post) (ps : List Post) (s e : ℕ) (g : Group) (r : Synop) where
-  abbrev from : Head → Outcome Synop
-  from h = outcome t ps h
+-- what the text is read as from a position on, the posts from number n on still to come
+unfoldable pub walks : Bool → ℕ → Synop → List ℕ → ℕ → Reading
+walks ship n r t at = answer (walk (map postOf (drop n (named ship))) r (tailOf t) (length t) (groupsFrom t at))
 
-  read-on : (x : Read Synop) → onward x s (λ r′. walk ps r′ (tailOf t) (length t) (groupsFrom t e)) ≡ from (ofRead s e r x)
-  unfolding outcome
-  read-on (Good x) = refl
-  read-on (Bad f) = refl
+module _ (ship : Bool) (n : ℕ) (r : Synop) (t : List ℕ) (at : ℕ) where
+  pub walks-past : length (named ship) ≤ n → walks ship n r t at ≡ answer (section r (tailOf t) (length t) (groupsFrom t at))
+  unfolding walks walk
+  walks-past h = rw (drop-of-length-le (named ship) {i = n} h)
 
-  at-group : walk (p ∷ ps) r (tailOf t) (length t) (record { start = s; bytes = g } ∷ groupsFrom t e) ≡ from (entered p s e g r)
-  unfolding walk outcome entered
-  at-group = go (p .nil && isNil g) refl (p .has g) refl
-    where
-      go : (n : Bool) → (p .nil && isNil g) ≡ n → (h : Bool) → p .has g ≡ h
-          → cond (p .nil && isNil g) (afterNil (tailOf t) (length t) r (groupsFrom t e))
-          (cond (p .has g) (onward (p .read g r) s (λ r′. walk ps r′ (tailOf t) (length t) (groupsFrom t e))) (Fault refusal.Shape s))
-          ≡ from (entered p s e g r)
-      go true en h eh = rw en
-      go false en true eh = rw (en, eh) (read-on (p .read g r))
-      go false en false eh = rw (en, eh)
+  module _ (here : n < length (named ship)) where
+    next : drop n (named ship) ≡ getD (named ship) n name.Wind ∷ drop (n + 1) (named ship)
+    next = rw (add-one n) (drop-cons (named ship) n name.Wind here)
 
-at-end : (t : List ℕ) (ps : List Post) (r : Synop) (x : Tail) → cutShort x (length t) ≡ outcome t ps (endedShort x (length t) r)
-unfolding outcome
-at-end t ps r (Junk at) = refl
-at-end t ps r Clear = refl
+    pub walks-over : groupsFrom t at ≡ [] → walks ship n r t at ≡ answer (cutShort (tailOf t) (length t))
+    unfolding walks walk
+    walks-over none = rw (next, none)
 
-module _ (t : List ℕ) (p : Post) (ps : List Post) where
-  at-cut : (r : Synop) (at : ℕ) (x : Cut) → x ≡ nextOf t at → walk (p ∷ ps) r (tailOf t) (length t) (groupsFrom t at) ≡ outcome t ps (atCut t p r x)
-  unfolding walk
-  at-cut r at (Stands s e) q = rw (when-group t at s e q .groups) (at-group t p ps s e (partOf t s e) r)
-  at-cut r at (End e) q = rw (when-end t at e q) (at-end t ps r (tailOf t))
+    -- a group from a position to another, at its post
+    module _ {from to : ℕ} {g : Group} {p : Name} (follows : Follows t at from to) (cut : g ≡ partOf t from to) (is : p ≡ getD (named ship) n name.Wind) where
+      goes : walks ship n r t at
+          ≡ answer (cond (postOf p .nil && isNil g) (afterNil (tailOf t) (length t) r (groupsFrom t to))
+          (cond (postOf p .has g) (onward (postOf p .read g r) from (λ r′. walk (map postOf (drop (n + 1) (named ship))) r′ (tailOf t) (length t) (groupsFrom t to))) (Fault refusal.Shape from)))
+      unfolding walks walk
+      goes = rw (next, follows .groups, is, cut)
 
-  -- ONE GROUP TAKEN AT A POST LEAVES WHAT THE TEXT IS READ AS.
-  pub outcome-next : (h : Head) → outcome t (p ∷ ps) h ≡ outcome t ps (advance t p h)
-  unfolding outcome advance
-  outcome-next h = go (h .stage) refl
-    where
-      go : (x : Stage) → h .stage ≡ x → outcome t (p ∷ ps) h ≡ outcome t ps (advance t p h)
-      go stage.Going q = rw q (at-cut (h .report) (h .at) (nextOf t (h .at)) refl)
-      go stage.Nil q = rw q
-      go (stage.Refused f place) q = rw q
+      pub walks-nil : (postOf p .nil && isNil g) ≡ true → walks ship n r t at ≡ answer (afterNil (tailOf t) (length t) r (groupsFrom t to))
+      walks-nil a = goes ∙ rw a
 
-pub outcome-all : (t : List ℕ) (ps : List Post) (h : Head) → outcome t ps h ≡ outcome t [] (advances t ps h)
-unfolding advances
-outcome-all t [] h = refl
-outcome-all t (p ∷ ps) h = outcome-next t p ps h ∙ outcome-all t ps (advance t p h)
+      module _ (a : (postOf p .nil && isNil g) ≡ false) where
+        pub walks-other : postOf p .has g ≡ false → walks ship n r t at ≡ answer (Fault refusal.Shape from)
+        walks-other b = goes ∙ rw (a, b)
+
+        module _ (b : postOf p .has g ≡ true) {x : Said} (told : x ≡ saidBy p (r .site .position) g) where
+          pub walks-bad : {f : Refusal} → x ≡ said.Refused f → walks ship n r t at ≡ answer (Fault f from)
+          walks-bad e = goes ∙ rw (a, b, post-bad p g r x told e)
+
+          pub walks-on : {s : Site} {u : Surface} → OneOf right (tagOf saids.the-type x) → s ≡ siteOnto x (r .site) → u ≡ saidOnto x (r .surface)
+              → walks ship n r t at ≡ walks ship (n + 1) (synopOf (r .ship) s u) t to
+          unfolding walks
+          walks-on one d e = goes ∙ rw (a, b, post-good p g r x told one d e)

@@ -1,9 +1,9 @@
--- The laws of a reading as a whole: the groups known by position, and what follows NIL.
+-- The laws of a reading as a whole: what follows NIL, and a ship's call sign.
 -- Assumes nothing.
 use Prim.Native.Nat.{ℕ}
-use mathlib.Core.Path.{_≡_, refl, sym, ap}
-use mathlib.Core.Bool.{Bool}
-use mathlib.Core.List.{List, [], _∷_}
+use mathlib.Core.Path.{_≡_, refl, ap}
+use mathlib.Core.Bool.{Bool, true, false}
+use mathlib.Core.List.{List, [], _∷_, map}
 use lib.ListN.{length}
 use Rattle.text.specs.declared.kinds.Refusal.the-variants as refusal
 use Rattle.text.specs.declared.kinds.Tail.{Tail}
@@ -11,13 +11,13 @@ use Rattle.text.specs.declared.kinds.Tail.the-variants.{Clear, Junk}
 use Rattle.text.specs.Groups.{Piece, groupsFrom, partOf}
 use Rattle.text.specs.Text.{tailOf}
 use Rattle.text.proofs.Groups.{Follows}
-use Rattle.places.specs.Engine.{Fault}
+use Rattle.places.specs.Engine.{Group, Fault}
+use Rattle.record.specs.declared.surface.CallSign.{CallSign}
 use Rattle.record.specs.declared.surface.Synop.{Synop}
-use Rattle.synop.specs.declared.kinds.Head.{Head}
+use Rattle.record.specs.Set.{setSign, setSite}
 use Rattle.synop_section.specs.Answer.{begun, refused, answer}
-use Rattle.synop.specs.Read.{posts, afterNil, groupsRead}
-use Rattle.synop.specs.Head.{headOf, advances, outcome}
-use Rattle.synop.proofs.HeadSteps.{outcome-all}
+use Rattle.synop.specs.Read.{isCallSign, signOf, posts, cutShort, afterNil, walk, groupsRead}
+use Rattle.synop.specs.Head.{named, postOf}
 
 -- ---- after NIL
 
@@ -32,9 +32,32 @@ module _ (t : List ℕ) (at : ℕ) (r : Synop) where
   pub nil-over : (x : Tail) → groupsFrom t at ≡ [] → x ≡ tailOf t → answer (afterNil x (length t) r []) ≡ answer (afterNil (tailOf t) (length t) r (groupsFrom t at))
   nil-over x none is = rw (none, is)
 
--- ---- the groups known by position, taken from a position of the text on, and what follows them
+-- ---- the groups are over before a required one
 
-pub walked : (t : List ℕ) (at : ℕ) (ship : Bool) {k h : Head} → k ≡ headOf at (begun ship) → h ≡ advances t (posts ship) k
-    → answer (outcome t [] h) ≡ answer (groupsRead ship (tailOf t) (length t) (groupsFrom t at))
-unfolding groupsRead outcome
-walked t at ship p q = rw (q, p) (ap answer (sym (outcome-all t (posts ship) (headOf at (begun ship)))))
+pub short-by : (end : ℕ) {x y z : Tail} → y ≡ x → y ≡ z → answer (cutShort x end) ≡ answer (cutShort z end)
+short-by end p q = rw (← p, q)
+
+-- ---- a ship's call sign
+
+module _ (t : List ℕ) (at : ℕ) where
+  pub sign-over : groupsFrom t at ≡ [] → answer (cutShort (tailOf t) (length t)) ≡ answer (groupsRead true (tailOf t) (length t) (groupsFrom t at))
+  unfolding groupsRead posts walk
+  sign-over none = rw none
+
+  module _ (from to : ℕ) {g : Group} (follows : Follows t at from to) (cut : g ≡ partOf t from to) where
+    pub sign-other : isCallSign g ≡ false → refused refusal.Shape from ≡ answer (groupsRead true (tailOf t) (length t) (groupsFrom t at))
+    unfolding groupsRead posts walk
+    sign-other e = rw (follows .groups, ← cut, e)
+
+    pub sign-stands : {b : Synop} {s : CallSign} → isCallSign g ≡ true → b ≡ begun true → s ≡ signOf g
+        → answer (walk (map postOf (named (b .ship))) (setSite (setSign s (b .site)) b) (tailOf t) (length t) (groupsFrom t to))
+        ≡ answer (groupsRead true (tailOf t) (length t) (groupsFrom t at))
+    unfolding groupsRead posts walk
+    sign-stands e is sign = rw (follows .groups, ← cut, e, is, sign)
+
+-- ---- a land report
+
+pub land-walks : (t : List ℕ) (at : ℕ) {ship : Bool} {b : Synop} → ship ≡ false → b ≡ begun false
+    → answer (walk (map postOf (named (b .ship))) b (tailOf t) (length t) (groupsFrom t at)) ≡ answer (groupsRead ship (tailOf t) (length t) (groupsFrom t at))
+unfolding groupsRead posts
+land-walks t at e is = rw (e, is)

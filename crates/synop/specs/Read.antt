@@ -16,6 +16,7 @@ use Rattle.shapes.specs.Pattern.{hasPattern}
 use Rattle.places.specs.Engine.{Group, Read, Good, Bad, Outcome, Done, Fault}
 use Rattle.record.specs.declared.values.Number.the-variants as number
 use Rattle.record.specs.declared.surface.CallSign.{CallSign}
+use Rattle.record.specs.declared.surface.Site.{Site}
 use Rattle.record.specs.declared.surface.Surface.{Surface}
 use Rattle.record.specs.declared.surface.Synop.{Synop}
 use Rattle.record.specs.Set.{setStation, setSign, setPosition, setTime, setNil, setSite, setSurface, setIndicators, setWind}
@@ -41,24 +42,28 @@ abbrev pub ontoSurface : Synop → Read Surface → Read Synop
 ontoSurface r (Good s) = Good (setSurface s r)
 ontoSurface r (Bad f) = Bad f
 
--- the report with what a group says
+-- the site with what a group says of it
+abbrev pub siteOnto : Said → Site → Site
+siteOnto (said.Refused f) s = s
+siteOnto (said.Time t) s = setTime t s
+siteOnto (said.Station n) s = setStation (number.Is n) s
+siteOnto (said.Position p) s = setPosition p s
+siteOnto (said.Indicators i) s = s
+siteOnto (said.Wind w) s = s
+siteOnto (said.Speed n) s = s
+siteOnto (said.Air a) s = s
+siteOnto (said.Moisture m) s = s
+siteOnto (said.Pressure p) s = s
+siteOnto (said.Level l) s = s
+siteOnto (said.Tendency t) s = s
+siteOnto (said.Rainfall x) s = s
+siteOnto (said.Weather w) s = s
+siteOnto (said.Clouds c) s = s
+siteOnto (said.Clock c) s = s
+
+-- the report with what a group says, or the group's refusal; what it says of the surface is added as in section 1
 unfoldable pub withHead : Said → Synop → Read Synop
-withHead (said.Refused f) r = Bad f
-withHead (said.Time t) r = Good (setSite (setTime t (r .site)) r)
-withHead (said.Station n) r = Good (setSite (setStation (number.Is n) (r .site)) r)
-withHead (said.Position p) r = Good (setSite (setPosition p (r .site)) r)
-withHead (said.Indicators i) r = ontoSurface r (withSaid (said.Indicators i) (r .surface))
-withHead (said.Wind w) r = ontoSurface r (withSaid (said.Wind w) (r .surface))
-withHead (said.Speed n) r = Good r
-withHead (said.Air a) r = Good r
-withHead (said.Moisture m) r = Good r
-withHead (said.Pressure p) r = Good r
-withHead (said.Level l) r = Good r
-withHead (said.Tendency t) r = Good r
-withHead (said.Rainfall x) r = Good r
-withHead (said.Weather w) r = Good r
-withHead (said.Clouds c) r = Good r
-withHead (said.Clock c) r = Good r
+withHead x r = ontoSurface (setSite (siteOnto x (r .site)) r) (withSaid x (r .surface))
 
 abbrev pub five : Group → Bool
 five g = hasPattern g (bytes "#####")

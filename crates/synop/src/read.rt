@@ -1,8 +1,9 @@
 // Reading a SYNOP or SHIP, from behind AAXX or BBXX on: the groups known by position, then section 1 or what follows NIL.
 use crate::head;
-use crate::kinds::Head;
-use crate::kinds::Stage;
+use record::surface::Site;
+use record::surface::Surface;
 use record::surface::Synop;
+use synop_groups::kinds::Said;
 use synop_section::answer;
 use synop_section::kinds::Reading;
 use synop_section::section;
@@ -10,13 +11,14 @@ use text::kinds::Cut;
 use text::kinds::Refusal;
 use text::kinds::Tail;
 ghost use mathlib.Core.Path.{_≡_};
-ghost use mathlib.Core.List.{[]};
+ghost use mathlib.Core.Bool.{true};
+ghost use mathlib.Core.List.{map};
 ghost use lib.ListN.{length};
 ghost use Rattle.text.specs.Text.{tailOf};
 ghost use Rattle.text.specs.Groups.{groupsFrom};
-ghost use Rattle.synop_section.specs.Answer.{begun, answer};
-ghost use Rattle.synop.specs.Read.{afterNil, groupsRead};
-ghost use Rattle.synop.specs.Head.{headOf, outcome};
+ghost use Rattle.synop_section.specs.Answer.{answer};
+ghost use Rattle.synop.specs.Read.{cutShort, afterNil, walk, groupsRead};
+ghost use Rattle.synop.specs.Head.{named, postOf, synopOf};
 
 // After NIL only what may follow an "=" is left.
 fn read_nil(text: &[u8], at: usize, report: Synop) -> Reading
@@ -41,28 +43,80 @@ fn read_nil(text: &[u8], at: usize, report: Synop) -> Reading
     }
 }
 
-// What follows the groups known by position.
-fn read_on(text: &[u8], h: Head) -> Reading
-    ensures { λ r. ⌜ r ≡ answer (outcome (now (text .entry)) [] h) ⌝ }
+// The groups are over before a required one: what follows the "=" is refused first.
+fn end_short(text: &[u8]) -> Reading
+    ensures { λ r. ⌜ r ≡ answer (cutShort (tailOf (now (text .entry))) (length (now (text .entry)))) ⌝ }
 {
-    let report = h.report;
-    let stage = h.stage;
-    match stage {
-        Stage::Going => section::read_section(text, h.at, report),
-        Stage::Nil => read_nil(text, h.at, report),
-        Stage::Refused { refusal, place } => answer::refuse(refusal, place),
+    let tail = text::tail(text);
+    match tail {
+        Tail::Junk(place) => answer::refuse(Refusal::Shape, place),
+        Tail::Clear => answer::refuse(Refusal::Absence, text.len()),
     }
 }
 
-// Reading stands at a position of the text, with nothing read of the report.
-fn begin(ship: bool, at: usize) -> Head
-    ensures { λ r. ⌜ r ≡ headOf at (begun ship) ⌝ }
+fn synop_of(ship: bool, site: Site, surface: Surface) -> Synop
+    ensures { λ r. ⌜ r ≡ synopOf ship site surface ⌝ }
 {
-    let report = answer::begin(ship);
-    Head {
-        stage: Stage::Going,
-        at,
-        report,
+    Synop {
+        ship,
+        site,
+        surface,
+    }
+}
+
+// The groups known by position, a ship's call sign apart, then section 1. What each group says goes into the loop's own site and surface.
+fn read_posts(text: &[u8], at: usize, report: Synop) -> Reading
+    ensures { λ r. ⌜ r ≡ answer (walk (map postOf (named (report .ship))) report (tailOf (now (text .entry))) (length (now (text .entry))) (groupsFrom (now (text .entry)) at)) ⌝ }
+{
+    let ship = report.ship;
+    let mut site = report.site;
+    let mut surface = report.surface;
+    let count = head::count_of(ship);
+    let mut number = 0;
+    let mut from = at;
+    while number < count {
+        let Cut::Group { start, end } = text::next_group(text, from) else {
+            return end_short(text);
+        };
+        let g = text::part(text, start, end);
+        let post = head::post_at(ship, number);
+        if head::is_nil(post, g) {
+            return read_nil(text, end, synop_of(ship, site, surface));
+        }
+        if head::has_shape(post, g) {
+            let position = site.position;
+            let said = head::said_by(post, position, g);
+            if let Said::Refused(refusal) = said {
+                return answer::refuse(refusal, start);
+            }
+            site = head::with_site(said, site);
+            surface = section::with_said(said, surface);
+            number += 1;
+            from = end;
+        } else {
+            return answer::refuse(Refusal::Shape, start);
+        }
+    }
+    section::read_section(text, from, synop_of(ship, site, surface))
+}
+
+// A ship's call sign comes before them.
+fn read_ship(text: &[u8], at: usize) -> Reading
+    ensures { λ r. ⌜ r ≡ answer (groupsRead true (tailOf (now (text .entry))) (length (now (text .entry))) (groupsFrom (now (text .entry)) at)) ⌝ }
+{
+    let Cut::Group { start, end } = text::next_group(text, at) else {
+        return end_short(text);
+    };
+    let g = text::part(text, start, end);
+    if head::is_call_sign(g) {
+        let mut report = answer::begin(true);
+        let mut site = report.site;
+        let sign = head::sign_of(g);
+        site.sign = sign;
+        report.site = site;
+        read_posts(text, end, report)
+    } else {
+        answer::refuse(Refusal::Shape, start)
     }
 }
 
@@ -70,10 +124,10 @@ fn begin(ship: bool, at: usize) -> Head
 pub fn read_from(text: &[u8], at: usize, ship: bool) -> Reading
     ensures { λ r. ⌜ r ≡ answer (groupsRead ship (tailOf (now (text .entry))) (length (now (text .entry))) (groupsFrom (now (text .entry)) at)) ⌝ }
 {
-    let h = begin(ship, at);
     if ship {
-        read_on(text, head::read_ship(text, h))
+        read_ship(text, at)
     } else {
-        read_on(text, head::read_land(text, h))
+        let report = answer::begin(false);
+        read_posts(text, at, report)
     }
 }

@@ -95,7 +95,7 @@ sign-stood r acc nine e =
 
 pub site-stood : (ship : Bool) (r : Synop) → r .ship ≡ ship → length (r .site .sign .letters) ≡ 9 → judgeSite r ≡ judged.Fine
     → StoodAll (sitePosts ship) r (begun ship)
-unfolding judgeSite withHead low high clash
+unfolding judgeSite withHead withSaid low high clash
 site-stood false r is nine e =
     let t = and-then (judgeTime (r .site .time)) (judgeStation (r .site .station)) (rw is at e) in
     let station = station-back (r .site .station) (t .1) in

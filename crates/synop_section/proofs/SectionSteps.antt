@@ -55,10 +55,10 @@ pub said-bad : (n : Needs) (i k : ℕ) (g : Group) (s : Surface) {x : Said} {f :
 unfolding withSaid
 said-bad n i k g s says e = says k s ∙ rw e
 
-abbrev right : List ℕ
+abbrev pub right : List ℕ
 right = 1 ∷ 2 ∷ 3 ∷ 4 ∷ 5 ∷ 6 ∷ 7 ∷ 8 ∷ 9 ∷ 10 ∷ 11 ∷ 12 ∷ 13 ∷ 14 ∷ 15 ∷ []
 
-added : (x : Said) → OneOf right (tagOf saids.the-type x) → (s : Surface) → withSaid x s ≡ Good (saidOnto x s)
+pub added : (x : Said) → OneOf right (tagOf saids.the-type x) → (s : Surface) → withSaid x s ≡ Good (saidOnto x s)
 unfolding withSaid
 added (said.Refused f) told s = absurd (miss right 0 tt told)
 added (said.Time t) told s = refl

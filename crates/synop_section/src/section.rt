@@ -45,7 +45,7 @@ fn said_at(place: usize, needs: Needs, g: &[u8]) -> Said
 }
 
 // The surface with what a group says. What names the place and time is no part of it, and a refusal adds nothing.
-fn with_said(said: Said, surface: Surface) -> Surface
+pub fn with_said(said: Said, surface: Surface) -> Surface
     ensures { λ r. ⌜ r ≡ saidOnto said surface ⌝ }
 {
     let mut s = surface;

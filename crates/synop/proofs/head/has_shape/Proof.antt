@@ -14,11 +14,10 @@ use Rattle.synop.proofs.kinds.Post as post
 use Rattle.synop.proofs.head.has_shape.Statement.{statement}
 use Rattle.synop.proofs.head.has_shape.Tie as tie
 
-others : (p : Post) → OneOf (0 ∷ 1 ∷ 4 ∷ 5 ∷ 6 ∷ []) (tagOf post.the-type p) → (g : Group) → five g ≡ postOf p .has g
+others : (p : Post) → OneOf (0 ∷ 1 ∷ 3 ∷ 4 ∷ 5 ∷ []) (tagOf post.the-type p) → (g : Group) → five g ≡ postOf p .has g
 others name.Time told g = refl
 others name.Station told g = refl
-others name.Sign told g = absurd (miss (0 ∷ 1 ∷ 4 ∷ 5 ∷ 6 ∷ []) 2 tt told)
-others name.Latitude told g = absurd (miss (0 ∷ 1 ∷ 4 ∷ 5 ∷ 6 ∷ []) 3 tt told)
+others name.Latitude told g = absurd (miss (0 ∷ 1 ∷ 3 ∷ 4 ∷ 5 ∷ []) 2 tt told)
 others name.Longitude told g = refl
 others (name.Indicators land) told g = refl
 others name.Wind told g = refl
@@ -27,8 +26,6 @@ pub has-shape-spec : {M : Type 1} → statement M
 has-shape-spec =
     tie.close
     (tie.spec
-    (λ c. search needs) (λ c κs. search needs) (λ c. search needs) (λ c. search needs) (λ c κs. search needs) (λ c. search needs)
-    (λ c κs. search needs)
-    (λ c. rw (c .before .enum-told .given .1) (c .is-call-sign .ensures))
-    (λ c. rw (c .before .before .enum-told2 .given .1) (c .has-pattern .ensures))
-    (λ c. c .has-pattern2 .ensures ∙ others (c .before .before .before .before .args .post) (c .before .before .match .keys3) (c .before .before .before .before .args .g .now)))
+    (λ c. search needs) (λ c. search needs) (λ c κs. search needs) (λ c. search needs) (λ c κs. search needs)
+    (λ c. rw (c .before .before .enum-told .given .1) (c .has-pattern .ensures))
+    (λ c. c .has-pattern2 .ensures ∙ others (c .before .before .before .before .args .post) (c .before .before .match .keys2) (c .before .before .before .before .args .g .now)))

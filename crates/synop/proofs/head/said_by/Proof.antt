@@ -8,12 +8,11 @@ pub said-by-spec : {M : Type 1} → statement M
 said-by-spec =
     tie.close
     (tie.spec
-    (λ c. search needs) (λ c κs. search needs) (λ c. search needs) (λ c κs. search needs) (λ c. search needs) (λ c. search needs) (λ c κs. search needs)
+    (λ c. search needs) (λ c κs. search needs) (λ c. search needs) (λ c κs. search needs) (λ c. search needs) (λ c κs. search needs)
     (λ c. search needs) (λ c κs. search needs) (λ c. search needs) (λ c κs. search needs) (λ c. search needs) (λ c κs. search needs)
     (λ c. rw (c .before .enum-told .given .1) (c .read-time .ensures))
     (λ c. rw (c .before .enum-told2 .given .1) (c .read-station .ensures))
-    (λ c. rw (c .enum-told3 .given .1))
-    (λ c. rw (c .before .enum-told4 .given .1) (c .read-latitude .ensures))
-    (λ c. rw (c .before .enum-told5 .given .1) (c .read-longitude .ensures))
-    (λ c. rw (c .before .enum-told6 .given .1) (c .read-indicators .ensures))
-    (λ c. rw (c .before .enum-told7 .given .1) (c .read-wind .ensures)))
+    (λ c. rw (c .before .enum-told3 .given .1) (c .read-latitude .ensures))
+    (λ c. rw (c .before .enum-told4 .given .1) (c .read-longitude .ensures))
+    (λ c. rw (c .before .enum-told5 .given .1) (c .read-indicators .ensures))
+    (λ c. rw (c .before .enum-told6 .given .1) (c .read-wind .ensures)))
