@@ -109,7 +109,7 @@ pub extern "C" fn delgushar_taf(
     let Name::Forecast { at } = named else {
         return say_other(named, number);
     };
-    let reading = taf_read::read_from(text, at);
+    let reading = taf::read::read_from(text, at);
     if writes {
         return say_written(taf_write::write::write(reading.report, out), number);
     }

@@ -62,7 +62,7 @@ fn name_first(text: &[u8]) -> Name
 }
 
 // The kind that a text's first group names, and where the groups behind it begin; or refusal 1, 2 or 3. Who wants the reports of one kind only goes on
-// with that kind's own reader: `synop::read::read_from`, `metar::read::read_from`, `taf_read::read_from`.
+// with that kind's own reader: `synop::read::read_from`, `metar::read::read_from`, `taf::read::read_from`.
 pub fn name(text: &[u8]) -> Name
     ensures { λ r. ⌜ r ≡ nameOf (now (text .entry)) ⌝ }
 {
@@ -97,7 +97,7 @@ pub fn read(text: &[u8]) -> Reading
             answer::of_observed(verdict, reading.report)
         }
         Name::Forecast { at } => {
-            let reading = taf_read::read_from(text, at);
+            let reading = taf::read::read_from(text, at);
             let verdict = reading.verdict;
             answer::of_forecast(verdict, reading.report)
         }
@@ -120,7 +120,7 @@ pub fn verdict_of(text: &[u8]) -> Verdict
             reading.verdict
         }
         Name::Forecast { at } => {
-            let reading = taf_read::read_from(text, at);
+            let reading = taf::read::read_from(text, at);
             reading.verdict
         }
         Name::Refused { refusal, place } => Verdict::Refused { refusal, place },

@@ -17,6 +17,7 @@ use Rattle.text.specs.Text as text
 use Rattle.shapes.specs.Pattern as pattern
 use Rattle.shapes.specs.Shape as shape
 use Rattle.places.specs.Engine as engine
+use Rattle.places.specs.Parts as parts
 use Rattle.places.specs.Seek as seek
 use Rattle.scales.specs.Degrees as degrees
 use Rattle.scales.specs.Metres as metres
@@ -104,6 +105,7 @@ unfolding figures.figures figures.scan figures.fieldAt figures.numberText figure
     pattern.low pattern.high pattern.fits pattern.hasPattern pattern.hasAny
     shape.leading shape.split shape.partsOf shape.begins shape.valueOf shape.pickOf shape.scanParts shape.answered shape.scanOf shape.hasShape shape.filled shape.printParts shape.printOf shape.spellings
     engine.step engine.run
+    parts.runTo parts.further parts.reportOf
     seek.seek seek.anywhere seek.findOf seek.owed
     degrees.signedReading degrees.wholeDegrees degrees.degreesOf degrees.degreesReading
     metres.land metres.sea metres.base metres.metresFigure metres.metresReading metres.visibility metres.runway metres.cloud metres.sameRange metres.rangeFigure metres.rangeReading
@@ -129,7 +131,7 @@ unfolding figures.figures figures.scan figures.fieldAt figures.numberText figure
     metar-read.groupsRead
     metar-write.judgeHead metar-write.judgeBody metar-write.judgeOf metar-write.canonicalOf
     taf-row.readPeriod taf-row.showPeriod taf-row.readForecast taf-row.row taf-row.changeWords
-    taf-read.openedBy taf-read.withPart taf-read.bodyOf taf-read.groupsRead
+    taf-read.openedBy taf-read.groupsRead
     taf-write.judgePart taf-write.judgeChange taf-write.judgeChanges taf-write.foreignBlank taf-write.judgeOf taf-write.showChange taf-write.groupsOf taf-write.canonicalOf
     report-read.nameOf report-read.readOf
     report-write.judgeOf report-write.canonicalOf

@@ -10,7 +10,10 @@ use lib.Dec.{leb, eqb}
 use borrow.Author.Tests.{leb-true}
 use types.Run.{OneOf, miss}
 use denote.Enum.Declared.{tagOf}
+use Rattle.text.specs.declared.kinds.Refusal.{Refusal}
 use Rattle.text.specs.declared.kinds.Refusal.the-variants as refusal
+use Rattle.text.specs.declared.kinds.Judged.the-variants as fine
+use Rattle.figures.proofs.Impossible.{impossible}
 use Rattle.shapes.specs.Pattern.{hasAny}
 use Rattle.shapes.proofs.Patterns.{both}
 use Rattle.places.specs.declared.kinds.Found.{Found}
@@ -31,11 +34,9 @@ use Rattle.taf_row.proofs.Rows.{row-length}
 use Rattle.taf.specs.declared.kinds.PeriodRead.{PeriodRead}
 use Rattle.taf.specs.declared.kinds.PeriodRead.the-variants as period
 use Rattle.taf.specs.declared.kinds.Told.{Told}
-use Rattle.taf.specs.declared.kinds.Next.the-variants as next
-use Rattle.taf.specs.declared.kinds.Going.{Going}
+use Rattle.taf.specs.declared.kinds.Turn.the-variants as turn
 use Rattle.taf_row.specs.Row.{onto, besideOthers, row, changeWords}
-use Rattle.taf_row.specs.Tests.{joins}
-use Rattle.taf.specs.Step.{asPeriod, toldOf, joined, metBy, arrived, stepOf, metOf}
+use Rattle.taf.specs.Step.{asPeriod, toldOf, Turns}
 
 -- ---- what a group adds
 
@@ -111,7 +112,7 @@ all-few part.Main = refl
 all-few part.Changing = refl
 all-few part.From = refl
 
-pub room-left : (w : Part) (g : Group) (c k i j : ℕ) → Take i j ≡ findOf (standsOf (row w) g) c k → j < 4
+room-left : (w : Part) (g : Group) (c k i j : ℕ) → Take i j ≡ findOf (standsOf (row w) g) c k → j < 4
 room-left w g c k i j e = let o = taken-open (row w) g c k i j (sym e) in omega (arith, o .room, row-few (row w) (all-few w) i)
 
 untaken : (w : Part) (x : Leg) (g : Group) (f : Found) → OneOf (1 ∷ 2 ∷ 3 ∷ 4 ∷ []) (tagOf found.the-type f) → Stop (refusalOf f) ≡ judged (row w) x g f
@@ -121,42 +122,35 @@ untaken w x g Full told = refl
 untaken w x g Earlier told = refl
 untaken w x g Unknown told = refl
 
-arrives : (s : Going) (i k : ℕ) (x : Read Leg) → arrived s i k (toldOf (s .leg) x) ≡ metBy s (taken (onward (row (s .part)) i) k x)
-arrives s i k (Good x) = refl
-arrives s i k (Bad f) = refl
+-- a group's turn
+module _ (w : Part) (c k : ℕ) (g : Group) where
+  pub turn-beyond : 11 ≤ c → Turns w c k g (turn.Refused refusal.Shape)
+  turn-beyond h = record { says = λ r. step-past (row w) changeWords c k r g (rw (row-length w) h); room = λ i j e. impossible (cc) }
 
-module _ (s : Going) (g : Group) where
-  pub step-beyond : 11 ≤ s .place → metBy s (Stop refusal.Shape) ≡ stepOf s g
-  unfolding stepOf
-  step-beyond h = ap (metBy s) (sym (step-past (row (s .part)) changeWords (s .place) (s .count) (s .leg) g (rw (row-length (s .part)) h)))
+  module _ (here : c < 11) where
+    inside : c < length (row w)
+    inside = rw (row-length w) here
 
-  module _ (here : s .place < 11) where
-    inside : s .place < length (row (s .part))
-    inside = rw (row-length (s .part)) here
+    pub turn-halts : hasAny changeWords g ≡ true → Turns w c k g turn.Halt
+    turn-halts h = record { says = λ r. step-word (row w) changeWords c k r g inside h; room = λ i j e. impossible (cc) }
 
-    pub step-halts : hasAny changeWords g ≡ true → record { next = next.Change; going = s } ≡ stepOf s g
-    unfolding stepOf
-    step-halts w = ap (metBy s) (sym (step-word (row (s .part)) changeWords (s .place) (s .count) (s .leg) g inside w))
+    module _ (h : hasAny changeWords g ≡ false) {f : Found} (asked : f ≡ findOf (standsOf (row w) g) c k) where
+      pub turn-takes : (i j : ℕ) → f ≡ Take i j → Turns w c k g (turn.At i j)
+      turn-takes i j is =
+          record {
+            says = λ r. step-by (row w) changeWords c k r g inside h asked ∙ rw is;
+            room = λ m n e. let same : j ≡ n = cc in rw (← same) (room-left w g c k i j (sym is ∙ asked));
+          }
 
-    module _ (w : hasAny changeWords g ≡ false) {f : Found} (asked : f ≡ findOf (standsOf (row (s .part)) g) (s .place) (s .count)) where
-      goes : stepOf s g ≡ metBy s (judged (row (s .part)) (s .leg) g f)
-      unfolding stepOf
-      goes = ap (metBy s) (step-by (row (s .part)) changeWords (s .place) (s .count) (s .leg) g inside w asked)
+      pub turn-refused : {x : Refusal} → x ≡ refusalOf f → OneOf (1 ∷ 2 ∷ 3 ∷ 4 ∷ []) (tagOf found.the-type f) → Turns w c k g (turn.Refused x)
+      turn-refused e told =
+          record { says = λ r. step-by (row w) changeWords c k r g inside h asked ∙ sym (rw e (untaken w r g f told)); room = λ i j z. impossible (cc) }
 
-      pub step-takes : (i k : ℕ) {t : Told} → f ≡ Take i k → t ≡ toldOf (s .leg) (placeAt (row (s .part)) i .read k g (s .leg)) → arrived s i (k + 1) t ≡ stepOf s g
-      step-takes i k is told = rw told (arrives s i (k + 1) (placeAt (row (s .part)) i .read k g (s .leg)) ∙ sym taken-so)
-        where
-          taken-so : stepOf s g ≡ metBy s (taken (onward (row (s .part)) i) (k + 1) (placeAt (row (s .part)) i .read k g (s .leg)))
-          taken-so = goes ∙ rw is
+-- what is told at a place, and how reading goes on from there
+pub told-on : (r : Leg) (m n : ℕ) (y : Read Leg) → toldOf r y .judged ≡ fine.Fine → taken m n y ≡ On m n (toldOf r y .leg)
+told-on r m n (Good x) e = refl
+told-on r m n (Bad f) e = impossible (cc)
 
-      pub step-stops : OneOf (1 ∷ 2 ∷ 3 ∷ 4 ∷ []) (tagOf found.the-type f) → metBy s (Stop (refusalOf f)) ≡ stepOf s g
-      step-stops told = ap (metBy s) (untaken (s .part) (s .leg) g f told) ∙ sym goes
-
-  -- TEMPO at once after PROB, or not
-  pub meets-joined : {o : Going} → joins (s .opening) (s .fresh) g ≡ true → o ≡ joined s → record { next = next.On; going = o } ≡ metOf s g
-  unfolding metOf
-  meets-joined e is = rw (e, is)
-
-  pub meets-step : joins (s .opening) (s .fresh) g ≡ false → stepOf s g ≡ metOf s g
-  unfolding metOf
-  meets-step e = rw e
+pub told-off : (r : Leg) (m n : ℕ) (y : Read Leg) (f : Refusal) → toldOf r y .judged ≡ fine.Refused f → taken m n y ≡ Stop f
+told-off r m n (Good x) f e = impossible (cc)
+told-off r m n (Bad h) f e = let same : h ≡ f = cc in rw same

@@ -1,218 +1,285 @@
--- The laws of a TAF's parts: how a part is read from group to group, what a change word's turn comes to, and the groups behind the name.
+-- The laws of a TAF's parts: what a change word opens, how a part is read from group to group, what is read from a change on, and the groups behind the name.
 -- Assumes nothing.
-use Prim.Native.Nat.{ℕ, _≤_}
+use Prim.Native.Nat.{ℕ, zero, suc, _+_, _-_, _≤_, _<_}
 use native.Mathlib.Omega.{arith}
-use mathlib.Core.Path.{_≡_, refl, sym, _∙_}
+use native.Mathlib.Numerals.{add-one}
+use mathlib.Core.Path.{_≡_, refl, sym, ap, _∙_}
 use mathlib.Core.Bool.{Bool, true, false}
 use mathlib.Core.List.{List, [], _∷_}
-use lib.ListN.{length}
+use lib.ListN.{length, set}
+use lib.Seq.{sets}
+use borrow.Author.Tests.{lt-ltb}
 use Rattle.text.specs.declared.kinds.Refusal.{Refusal}
 use Rattle.text.specs.declared.kinds.Refusal.the-variants as refusal
-use Rattle.text.specs.declared.kinds.Judged.the-variants as judged
+use Rattle.text.specs.declared.kinds.Judged.the-variants as fine
 use Rattle.text.specs.declared.kinds.Tail.{Tail}
-use Rattle.text.specs.declared.kinds.Tail.the-variants.{Clear}
-use Rattle.text.specs.Groups.{Piece, groupsFrom, partOf}
+use Rattle.text.specs.declared.kinds.Tail.the-variants.{Clear, Junk}
+use Rattle.text.specs.declared.kinds.Verdict.{Verdict}
+use Rattle.text.specs.Groups.{Piece, groupsFrom, partOf as bytesOf}
 use Rattle.text.specs.Text.{tailOf}
 use Rattle.text.proofs.Groups.{Follows}
 use Rattle.figures.specs.Quote.{bytes}
+use Rattle.figures.proofs.Impossible.{impossible}
 use Rattle.shapes.specs.Pattern.{low, high, fits, hasAny, clash, clashEach}
 use Rattle.shapes.proofs.Patterns.{excluded-each}
-use Rattle.places.specs.Engine.{Group, Read, Good, Bad, Step, On, Halt, Stop, step, Done}
+use Rattle.places.specs.Engine.{Group, placeAt, onward, taken, On, step, Outcome}
+use Rattle.places.specs.Parts.{runTo, stepBy, ended, further, reportOf}
 use Rattle.places.proofs.Going.{step-first}
-use Rattle.record.specs.declared.aerodrome.Opening.the-variants as opening
+use Rattle.places.proofs.Turns.{comes, within, within-over, within-on, within-fault, within-halt}
+use Rattle.record.specs.declared.aerodrome.Opening.{Opening}
+use Rattle.record.specs.declared.aerodrome.Opening.the-variants as kind
+use Rattle.record.specs.declared.aerodrome.Period.{Period}
 use Rattle.record.specs.declared.aerodrome.Leg.{Leg}
+use Rattle.record.specs.declared.aerodrome.Change.{Change}
 use Rattle.record.specs.declared.aerodrome.Taf.{Taf}
-use Rattle.record.specs.Taf.{blankLeg}
+use Rattle.record.specs.Taf.{blankPeriod, blankLeg, blankTaf, setPeriod}
+use Rattle.taf_row.specs.declared.kinds.Part.{Part}
 use Rattle.taf_row.specs.declared.kinds.Part.the-variants as part
-use Rattle.taf.specs.declared.kinds.Next.the-variants as next
-use Rattle.taf.specs.declared.kinds.Stop.the-variants as stop
-use Rattle.taf.specs.declared.kinds.Going.{Going}
-use Rattle.taf.specs.declared.kinds.Met.{Met}
-use Rattle.taf.specs.declared.kinds.Opened.{Opened}
-use Rattle.taf.specs.declared.kinds.PartRead.{PartRead}
+use Rattle.taf.specs.declared.kinds.Told.{Told}
 use Rattle.taf.specs.declared.kinds.Turn.{Turn}
+use Rattle.taf.specs.declared.kinds.Turn.the-variants as turn
+use Rattle.taf.specs.declared.kinds.Opened.{Opened}
+use Rattle.taf.specs.declared.kinds.Opened.the-variants as opened
+use Rattle.taf.specs.declared.kinds.Next.{Next}
+use Rattle.taf.specs.declared.kinds.Next.the-variants as next
+use Rattle.taf.specs.declared.kinds.PartRead.{PartRead}
+use Rattle.taf.specs.declared.kinds.Ahead.{Ahead}
 use Rattle.taf.specs.declared.kinds.Reading.{Reading}
 use Rattle.taf_row.specs.Row.{word, row, changeWords}
-use Rattle.taf_row.specs.Tests.{joins, lacks, isFull}
-use Rattle.taf.specs.Read.{opened, probableGroup, fromGroup, openedBy, withPart, finish, bodyOf, groupsRead, behindName, refused, answer}
-use Rattle.taf.specs.Step.{metOf, stepOf, openedAs, turned, turnOf, bodyFrom, changeFrom, afterPart, PartDone}
+use Rattle.taf_row.specs.Tests.{joins, lacks}
+use Rattle.taf.specs.Read.{probableGroup, fromGroup, openedBy, afterProbable, partOf, changeOf, partIn, changePart, changes, groupsRead, behindName, answer}
+use Rattle.taf.specs.Step.{toldOf, turned, Turns, begunBy, Begins, partBy, changeFrom, bodyFrom, refusedAt, atEnd, outcomeOf, afterPart, MetWord, PartDone, noneAhead, ReadAhead}
+use Rattle.taf.proofs.Steps.{told-on, told-off}
 
 -- ---- what a change word opens
 
-module _ (s : Going) (g : Group) where
-  pub opens-becoming : word "BECMG" g ≡ true → openedAs s (opened opening.Becoming part.Changing blankLeg) ≡ openedAs s (openedBy g)
+module _ (g : Group) where
+  pub opens-becoming : word "BECMG" g ≡ true → begunBy (opened.Good kind.Becoming blankPeriod) ≡ openedBy g
   unfolding openedBy
   opens-becoming a = rw a
 
   module _ (a : word "BECMG" g ≡ false) where
-    pub opens-temporary : word "TEMPO" g ≡ true → openedAs s (opened opening.Temporary part.Changing blankLeg) ≡ openedAs s (openedBy g)
+    pub opens-temporary : word "TEMPO" g ≡ true → begunBy (opened.Good kind.Temporary blankPeriod) ≡ openedBy g
     unfolding openedBy
     opens-temporary b = rw (a, b)
 
     module _ (b : word "TEMPO" g ≡ false) where
-      pub opens-probable : word "PROB##" g ≡ true → openedAs s (probableGroup g) ≡ openedAs s (openedBy g)
+      pub opens-probable : word "PROB##" g ≡ true → probableGroup g ≡ openedBy g
       unfolding openedBy
       opens-probable c = rw (a, b, c)
 
-      pub opens-from : word "PROB##" g ≡ false → openedAs s (fromGroup g) ≡ openedAs s (openedBy g)
+      pub opens-from : word "PROB##" g ≡ false → fromGroup g ≡ openedBy g
       unfolding openedBy
       opens-from c = rw (a, b, c)
 
--- ---- a change word's turn
+-- behind the word
+module _ (text : List ℕ) (o : Opening) (at : ℕ) where
+  pub begins-last : groupsFrom text at ≡ [] → Begins text o at (record { opening = o; at = at })
+  begins-last none = record { reads = λ more t p. rw none; later = omega arith }
 
-abbrev lacking : Going → Bool
-lacking s = lacks (s .part) (s .place) (s .count) (s .leg)
+  module _ {start end : ℕ} {g : Group} (follows : Follows text at start end) (cut : g ≡ bytesOf text start end) where
+    pub begins-joined : {b : Opening} → joins o g ≡ true → b ≡ afterProbable o → Begins text o at (record { opening = b; at = end })
+    begins-joined j is =
+        record { reads = λ more t p. rw (is, follows .groups, ← cut, j); later = omega (arith, follows .after, follows .some) }
 
-module _ (t : Taf) (s : Going) (g : Group) where
-  pub turn-lacks : lacking s ≡ true → turned t s (Bad refusal.Absence) ≡ turnOf t s g
-  unfolding turnOf
-  turn-lacks e = rw e
+    pub begins-other : joins o g ≡ false → Begins text o at (record { opening = o; at = at })
+    begins-other j = record { reads = λ more t p. rw (follows .groups, ← cut, j); later = omega arith }
 
-  module _ (whole : lacking s ≡ false) where
-    pub turn-full : isFull (withPart t s .changes .count) ≡ true → turned t s (Bad refusal.Limit) ≡ turnOf t s g
-    unfolding turnOf
-    turn-full e = rw (whole, e)
+-- ---- a change word ends a part
 
-    module _ (room : isFull (withPart t s .changes .count) ≡ false) {u : Opened} (asked : u ≡ openedAs s (openedBy g)) where
-      turn-by : turned t s (openedBy g) ≡ turnOf t s g
-      unfolding turnOf
-      turn-by = rw (whole, room)
+module _ (g : Group) (start end n : ℕ) where
+  pub meets-lacking : MetWord g start end n true (refusedAt refusal.Absence start)
+  meets-lacking = record { reads = λ text t. refl; ahead = λ o q to e. impossible (cc) }
 
-      pub turn-opens : {r : Taf} → r ≡ withPart t s → u .judged ≡ judged.Fine → record { judged = judged.Fine; report = r; going = u .going } ≡ turnOf t s g
-      turn-opens is fine = rw is (by (openedBy g) refl asked ∙ turn-by)
-        where
-          by : (x : Read Going) → openedBy g ≡ x → u ≡ openedAs s x → record { judged = judged.Fine; report = withPart t s; going = u .going } ≡ turned t s (openedBy g)
-          by (Good o) e q = rw (q, e)
-          by (Bad f) e q = let z : _≡_ {A = ℕ} 0 1 = cc in absurd (omega arith)
+  pub meets-full : 16 ≤ n → MetWord g start end n false (refusedAt refusal.Limit start)
+  unfolding further
+  meets-full h = let none : 16 - n ≡ 0 = omega arith in record { reads = λ text t. rw none; ahead = λ o q to e. impossible (cc) }
 
-      pub turn-refused : (f : Refusal) → u .judged ≡ judged.Refused f → turned t s (Bad f) ≡ turnOf t s g
-      turn-refused f told = by (openedBy g) refl asked ∙ turn-by
-        where
-          by : (x : Read Going) → openedBy g ≡ x → u ≡ openedAs s x → turned t s (Bad f) ≡ turned t s (openedBy g)
-          by (Good o) e q = let z : _≡_ {A = ℕ} 0 1 = cc in absurd (omega arith)
-          by (Bad h) e q = let z : f ≡ h = cc in rw (e, z)
+  module _ (few : n < 16) where
+    one-less : 16 - n ≡ suc (16 - (n + 1))
+    one-less = omega arith
 
--- ---- from group to group
+    pub meets-good : (o : Opening) (p : Period) {x : Opened} → begunBy x ≡ openedBy g → x ≡ opened.Good o p → MetWord g start end n false (next.Change o p end)
+    unfolding further changeFrom
+    meets-good o p e is =
+        record {
+          reads = λ text t. rw (one-less, ← e, is);
+          ahead = λ o′ q to z. let same : end ≡ to = cc in (sym same, few);
+        }
 
--- what the text is read as past a group of a part, which stands from start up to end
-abbrev onMet : List ℕ → Taf → Going → ℕ → ℕ → Met → Reading
-onMet text t s start end u =
-    elim (u .next) [
-      | next.On ↦ bodyFrom text t (u .going) end
-      | next.Change ↦ changeFrom text t s start end
-      | next.Fault f ↦ refused f start
-    ]
+    pub meets-bad : {x : Opened} {f : Refusal} → begunBy x ≡ openedBy g → x ≡ opened.Bad f → MetWord g start end n false (refusedAt f start)
+    unfolding further
+    meets-bad e is = record { reads = λ text t. rw (one-less, ← e, is); ahead = λ o q to z. impossible (cc) }
 
-met-law : (text : List ℕ) (t : Taf) (s : Going) (at start end : ℕ) → Follows text at start end
-    → bodyFrom text t s at ≡ onMet text t s start end (metOf s (partOf text start end))
-unfolding bodyFrom changeFrom bodyOf metOf stepOf
-met-law text t s at start end follows =
-    by (joins (s .opening) (s .fresh) (partOf text start end)) refl (step (row (s .part)) changeWords (s .place) (s .count) (s .leg) (partOf text start end)) refl
-  where
-    by : (b : Bool) → joins (s .opening) (s .fresh) (partOf text start end) ≡ b
-        → (x : Step Leg) → step (row (s .part)) changeWords (s .place) (s .count) (s .leg) (partOf text start end) ≡ x
-        → bodyFrom text t s at ≡ onMet text t s start end (metOf s (partOf text start end))
-    by true j x e = rw (follows .groups, j)
-    by false j (On c k r) e = rw (follows .groups, j, e)
-    by false j Halt e = rw (follows .groups, j, e)
-    by false j (Stop f) e = rw (follows .groups, j, e)
+-- ---- a part, from group to group
+
+-- a part is being read, n changes in the report that takes it in
+unfoldable pub goes-on : List ℕ → Part → ℕ → (Leg → Taf) → ℕ → ℕ → Leg → ℕ → Outcome Taf
+goes-on text w n takes c k r at = within changes text (partIn w takes) (16 - n) c k r at
 
 -- a part has been read from a position on: the text is read as from where reading stands
-pub record Reached (text : List ℕ) (first : Going) (from : ℕ) (s : Going) (at : ℕ) : Type 0 where
-  pub same : (t : Taf) → bodyFrom text t first from ≡ bodyFrom text t s at
-  pub later : from ≤ at
+pub record Reached (text : List ℕ) (w : Part) (n first : ℕ) (r₀ : Leg) (start c k : ℕ) (r : Leg) (at : ℕ) : Type 0 where
+  pub same : (takes : Leg → Taf) → partBy text w takes n first r₀ start ≡ goes-on text w n takes c k r at
+  pub later : start ≤ at
 
-pub starts : (text : List ℕ) (s : Going) (at : ℕ) → Reached text s at s at
-starts text s at = record { same = λ t. refl; later = omega arith }
+pub starts : (text : List ℕ) (w : Part) (n k : ℕ) (r : Leg) (at : ℕ) → Reached text w n k r at 0 k r at
+unfolding partBy goes-on within comes
+starts text w n k r at = record { same = λ takes. refl; later = omega arith }
 
-body-over : (text : List ℕ) (t : Taf) (s : Going) (at : ℕ) → groupsFrom text at ≡ [] → bodyFrom text t s at ≡ answer (finish t s (tailOf text) (length text))
-unfolding bodyFrom bodyOf
-body-over text t s at none = rw none
+end-is : (text : List ℕ) (tail : Tail) (n end : ℕ) (b : Bool) (t : Taf) → ended tail end b t ≡ afterPart text n t (atEnd tail end b)
+end-is text (Junk at) n end b t = refl
+end-is text Clear n end true t = refl
+end-is text Clear n end false t = refl
 
-module _ {text : List ℕ} {first : Going} {from : ℕ} {s : Going} {at : ℕ} (reached : Reached text first from s at) where
-  pub part-over : groupsFrom text at ≡ [] → PartDone text first from (record { stop = stop.Over; going = s })
-  unfolding afterPart
-  part-over none =
+end-stays : (tail : Tail) (end : ℕ) (b : Bool) (o : Opening) (q : Period) (to : ℕ) → atEnd tail end b ≡ next.Change o q to → ⊥
+end-stays (Junk at) end b o q to e = impossible (cc)
+end-stays Clear end true o q to e = impossible (cc)
+end-stays Clear end false o q to e = impossible (cc)
+
+module _ {text : List ℕ} {w : Part} {n first : ℕ} {r₀ : Leg} {start c k : ℕ} {r : Leg} {at : ℕ} (reached : Reached text w n first r₀ start c k r at) where
+  abbrev done : PartRead → Type 0
+  done x = PartDone text w n first r₀ start x
+
+  pub part-over : {x : PartRead} → groupsFrom text at ≡ [] → x ≡ record { next = atEnd (tailOf text) (length text) (lacks w c k r); leg = r } → done x
+  unfolding goes-on
+  part-over none e =
       record {
-        reads = λ t. reached .same t ∙ body-over text t s at none;
-        ahead = λ start end e. let z : _≡_ {A = ℕ} 0 1 = cc in absurd (omega arith);
+        reads = λ takes.
+            reached .same takes
+            ∙ within-over changes text (partIn w takes) (16 - n) c k r at none
+            ∙ rw e (end-is text (tailOf text) n (length text) (lacks w c k r) (takes r));
+        ahead = λ o q to z. absurd (end-stays (tailOf text) (length text) (lacks w c k r) o q to (rw e at z));
       }
 
-  module _ {start end : ℕ} {g : Group} {u : Met} (follows : Follows text at start end) (cut : g ≡ partOf text start end) (read : u ≡ metOf s g) where
-    met : (t : Taf) → bodyFrom text t first from ≡ onMet text t s start end u
-    met t = rw (read, cut) (reached .same t ∙ met-law text t s at start end follows)
+  module _ {from to : ℕ} {g : Group} {u : Turn} (follows : Follows text at from to) (cut : g ≡ bytesOf text from to) (turns : Turns w c k g u) where
+    groups : groupsFrom text at ≡ record { start = from; bytes = g } ∷ groupsFrom text to
+    groups = rw cut (follows .groups)
 
-    pub part-on : u .next ≡ next.On → Reached text first from (u .going) end
-    part-on is = record { same = λ t. met t ∙ rw is; later = omega (arith, reached .later, follows .after, follows .some) }
+    steps : stepBy (row w) (hasAny changeWords) c k r g ≡ turned w r g u
+    unfolding step
+    steps = turns .says r
 
-    pub part-change : u .next ≡ next.Change → PartDone text first from (record { stop = stop.Change start end; going = s })
-    unfolding afterPart
-    part-change is =
+    pub part-word : {x : PartRead} → u ≡ turn.Halt → (x .leg ≡ r) × MetWord g from to n (lacks w c k r) (x .next) → done x
+    unfolding goes-on comes
+    part-word o (is, met) =
         record {
-          reads = λ t. met t ∙ rw is;
-          ahead = λ i j e. let z : end ≡ j = cc in (omega (arith, reached .later, follows .after, follows .some), omega (arith, follows .within));
+          reads = λ takes.
+              reached .same takes
+              ∙ within-halt changes text (partIn w takes) (16 - n) c k r at from to g groups (steps ∙ rw o)
+              ∙ rw is (met .reads text (takes r));
+          ahead = λ o q at′ z.
+              let m = met .ahead o q at′ z in
+              (omega (arith, m .0, reached .later, follows .after, follows .some), omega (arith, m .0, follows .within), m .1);
         }
 
-    pub part-fault : (f : Refusal) → u .next ≡ next.Fault f → PartDone text first from (record { stop = stop.Fault f start; going = s })
-    unfolding afterPart
-    part-fault f is =
+    pub part-fault : {f : Refusal} {x : PartRead} → u ≡ turn.Refused f → x ≡ record { next = refusedAt f from; leg = r } → done x
+    unfolding goes-on
+    part-fault {f} o e =
         record {
-          reads = λ t. met t ∙ rw is;
-          ahead = λ i j e. let z : _≡_ {A = ℕ} 0 1 = cc in absurd (omega arith);
+          reads = λ takes. reached .same takes ∙ within-fault changes text (partIn w takes) (16 - n) c k r at from to g groups f (steps ∙ rw o) ∙ rw e;
+          ahead = λ o q at′ z. impossible (let y = rw e at z in cc);
         }
 
--- ---- from part to part
+    module _ (i j : ℕ) (o : u ≡ turn.At i j) {x : Told} (told : x ≡ toldOf r (placeAt (row w) i .read j g r)) where
+      goes : stepBy (row w) (hasAny changeWords) c k r g ≡ taken (onward (row w) i) (j + 1) (placeAt (row w) i .read j g r)
+      goes = steps ∙ rw o
 
-module _ {text : List ℕ} {s : Going} {at : ℕ} {p : PartRead} (done : PartDone text s at p) (t : Taf) where
-  pub body-ends : p .stop ≡ stop.Over → answer (finish t (p .going) (tailOf text) (length text)) ≡ bodyFrom text t s at
-  unfolding afterPart
-  body-ends is = sym (done .reads t ∙ rw is)
+      pub part-on : {c′ : ℕ} → c′ ≡ onward (row w) i → x .judged ≡ fine.Fine → Reached text w n first r₀ start c′ (j + 1) (x .leg) to
+      unfolding goes-on
+      part-on is good =
+          let y = placeAt (row w) i .read j g r in
+          record {
+            same = λ takes.
+                reached .same takes
+                ∙ rw (is, told)
+                (within-on changes text (partIn w takes) (16 - n) c k r at from to g groups (onward (row w) i) (j + 1) (toldOf r y .leg) (goes ∙ told-on r (onward (row w) i) (j + 1) y (rw told at good)));
+            later = omega (arith, reached .later, follows .after, follows .some);
+          }
 
-  pub body-changes : (start end : ℕ) → p .stop ≡ stop.Change start end → changeFrom text t (p .going) start end ≡ bodyFrom text t s at
-  unfolding afterPart
-  body-changes start end is = sym (done .reads t ∙ rw is)
+      pub part-bad : {f : Refusal} {z : PartRead} → x .judged ≡ fine.Refused f → z ≡ record { next = refusedAt f from; leg = r } → done z
+      unfolding goes-on
+      part-bad {f} bad e =
+          let y = placeAt (row w) i .read j g r in
+          record {
+            reads = λ takes.
+                reached .same takes
+                ∙ within-fault changes text (partIn w takes) (16 - n) c k r at from to g groups f (goes ∙ told-off r (onward (row w) i) (j + 1) y f (rw told at bad))
+                ∙ rw e;
+            ahead = λ o q at′ v. impossible (let s = rw e at v in cc);
+          }
 
-  pub body-refused : (f : Refusal) (place : ℕ) → p .stop ≡ stop.Fault f place → refused f place ≡ bodyFrom text t s at
-  unfolding afterPart
-  body-refused f place is = sym (done .reads t ∙ rw is)
+-- ---- what is read from a change on
 
--- what the text is read as past a change word
-abbrev onTurn : List ℕ → ℕ → ℕ → Turn → Reading
-onTurn text start end u =
-    elim (u .judged) [
-      | judged.Fine ↦ bodyFrom text (u .report) (u .going) end
-      | judged.Refused f ↦ refused f start
-    ]
+-- a store before a run of stores
+set-before : (xs : List Change) (n m : ℕ) (c : Change) (cs : List Change) → n < m → set (sets xs m cs) n c ≡ sets (set xs n c) m cs
+set-before xs n m c [] h = refl
+set-before xs n m c (d ∷ cs) h = set-before (set xs m d) n (suc m) c cs (omega arith) ∙ ap (λ (l : List Change). sets l (suc m) cs) (apart xs n m h)
+  where
+    apart : (xs : List Change) (n m : ℕ) → n < m → set (set xs m d) n c ≡ set (set xs n c) m d
+    apart [] n m h = refl
+    apart (x ∷ xs) zero zero h = absurd (omega arith)
+    apart (x ∷ xs) zero (suc m) h = refl
+    apart (x ∷ xs) (suc n) zero h = absurd (omega arith)
+    apart (x ∷ xs) (suc n) (suc m) h = ap (λ (l : List Change). x ∷ l) (apart xs n m (omega arith))
 
-module _ (text : List ℕ) (t : Taf) (s : Going) (start end : ℕ) where
-  turn-law : onTurn text start end (turnOf t s (partOf text start end)) ≡ changeFrom text t s start end
-  unfolding turnOf changeFrom bodyFrom
-  turn-law = by (lacking s) refl (isFull (withPart t s .changes .count)) refl (openedBy (partOf text start end)) refl
-    where
-      by : (b : Bool) → lacking s ≡ b → (d : Bool) → isFull (withPart t s .changes .count) ≡ d → (x : Read Going) → openedBy (partOf text start end) ≡ x
-          → onTurn text start end (turnOf t s (partOf text start end)) ≡ changeFrom text t s start end
-      by true e d h x q = rw e
-      by false e true h x q = rw (e, h)
-      by false e false h (Good o) q = rw (e, h, q)
-      by false e false h (Bad f) q = rw (e, h, q)
+module _ (text : List ℕ) (n : ℕ) (o : Opening) (p : Period) (at : ℕ) (few : n < 16) {w : Part} (held : w ≡ partOf o) {read : PartRead}
+    (done : PartDone text w (n + 1) 0 (setPeriod p blankLeg) at read) {c : Change} (made : c ≡ changeOf o (read .leg)) where
+  -- the part is taken in, and what follows it
+  abbrev takes : Taf → Taf
+  takes t = record { leg = t .leg; changes = record { items = set (t .changes .items) n c; count = n + 1 } }
 
-  module _ {g : Group} {u : Turn} (cut : g ≡ partOf text start end) (asked : u ≡ turnOf t s g) where
-    turns : onTurn text start end u ≡ changeFrom text t s start end
-    turns = rw (asked, cut) turn-law
+  follows-body : (t : Taf) → t .changes .count ≡ n → bodyFrom text n o p at t ≡ afterPart text (n + 1) (takes t) (read .next)
+  unfolding bodyFrom partBy
+  follows-body t e =
+      let with-it : changePart t o .takes (read .leg) ≡ takes t = rw (e, lt-ltb n 16 few, made) in
+      (rw held at (done .reads (λ r. changePart t o .takes r))) ∙ ap (λ (x : Taf). afterPart text (n + 1) x (read .next)) with-it
 
-    pub change-opens : u .judged ≡ judged.Fine → bodyFrom text (u .report) (u .going) end ≡ changeFrom text t s start end
-    change-opens is = rw is at turns
+  pub body-ends : {v : Verdict} {a : Ahead} → read .next ≡ next.End v → a ≡ noneAhead v (n + 1)
+      → ReadAhead n (bodyFrom text n o p at) (record { verdict = a .verdict; items = set (a .items) n c; count = a .count })
+  body-ends is e =
+      record {
+        more = c ∷ [];
+        items = rw e;
+        count = rw e;
+        says = λ t q. follows-body t q ∙ rw (is, e);
+      }
 
-    pub change-refused : (f : Refusal) → u .judged ≡ judged.Refused f → refused f start ≡ changeFrom text t s start end
-    change-refused f is = rw is at turns
+  pub body-goes : {o′ : Opening} {p′ : Period} {to : ℕ} {a : Ahead} → read .next ≡ next.Change o′ p′ to → ReadAhead (n + 1) (changeFrom text (n + 1) o′ p′ to) a
+      → ReadAhead n (bodyFrom text n o p at) (record { verdict = a .verdict; items = set (a .items) n c; count = a .count })
+  body-goes is next =
+      let many : n + 1 + length (next .more) ≡ n + length (c ∷ next .more) = omega arith in
+      record {
+        more = c ∷ next .more;
+        items = rw (next .items) (set-before (blankTaf .changes .items) n (n + 1) c (next .more) (omega arith) ∙ rw (add-one n));
+        count = next .count ∙ many;
+        says = λ t q. (rw is at (follows-body t q)) ∙ next .says (takes t) refl ∙ rw (many, add-one n);
+      }
 
--- ---- reading ends
+-- behind the word, from where its part begins
+pub change-goes : (text : List ℕ) (n : ℕ) (o b : Opening) (p : Period) (at to : ℕ) {a : Ahead} → Begins text o at (record { opening = b; at = to })
+    → ReadAhead n (bodyFrom text n b p to) a → ReadAhead n (changeFrom text n o p at) a
+unfolding changeFrom bodyFrom
+change-goes text n o b p at to begins ahead =
+    record { more = ahead .more; items = ahead .items; count = ahead .count; says = λ t q. begins .reads _ t (setPeriod p blankLeg) ∙ ahead .says t q }
 
-pub closes-lacking : (t : Taf) (s : Going) (end : ℕ) → lacking s ≡ true → refused refusal.Absence end ≡ answer (finish t s Clear end)
-closes-lacking t s end e = rw e
+-- ---- the main part, from behind the name on
 
-pub closes-whole : (t : Taf) (s : Going) (end : ℕ) → lacking s ≡ false → answer (Done end (withPart t s)) ≡ answer (finish t s Clear end)
-closes-whole t s end e = rw e
+module _ {text : List ℕ} {at : ℕ} {read : PartRead} (done : PartDone text part.Main 0 1 blankLeg at read) where
+  abbrev whole : Reading
+  whole = answer (behindName (tailOf text) (length text) (groupsFrom text at))
+
+  main-reads : behindName (tailOf text) (length text) (groupsFrom text at) ≡ afterPart text 0 (record { leg = read .leg; changes = blankTaf .changes }) (read .next)
+  unfolding behindName partBy
+  main-reads = done .reads (λ r. record { leg = r; changes = blankTaf .changes })
+
+  pub main-ends : {v : Verdict} → read .next ≡ next.End v → answer (outcomeOf v (record { leg = read .leg; changes = blankTaf .changes })) ≡ whole
+  main-ends is = ap answer (sym (rw is at main-reads))
+
+  pub main-goes : {o : Opening} {p : Period} {to : ℕ} {a : Ahead} → read .next ≡ next.Change o p to → ReadAhead 0 (changeFrom text 0 o p to) a
+      → answer (outcomeOf (a .verdict) (record { leg = read .leg; changes = record { items = a .items; count = a .count } })) ≡ whole
+  main-goes is ahead =
+      let t : Taf = record { leg = read .leg; changes = blankTaf .changes } in
+      sym (ap answer (rw (← ahead .items, ← ahead .count) at ((rw is at main-reads) ∙ ahead .says t refl)))
 
 -- ---- the name, at the main row's first place
 
@@ -221,11 +288,15 @@ module _ (g : Group) (is : word "TAF" g ≡ true) where
   unfolding changeWords clashEach clash fits low high
   no-change = excluded-each g (bytes "TAF") changeWords refl is
 
-  taken-first : step (row part.Main) changeWords 0 0 blankLeg g ≡ On 0 1 blankLeg
+  stands-first : step (row part.Main) changeWords 0 0 blankLeg g ≡ On 0 1 blankLeg
   unfolding row
-  taken-first = step-first _ _ changeWords blankLeg g is (omega arith) no-change
+  stands-first = step-first _ _ changeWords blankLeg g is (omega arith) no-change
+
+  taken-first : stepBy (row part.Main) (hasAny changeWords) 0 0 blankLeg g ≡ On 0 1 blankLeg
+  unfolding step
+  taken-first = stands-first
 
 -- BEHIND THE NAME the groups come to what all groups come to.
 pub past-name : (tail : Tail) (end : ℕ) (g : Piece) (gs : List Piece) → word "TAF" (g .bytes) ≡ true → groupsRead tail end (g ∷ gs) ≡ behindName tail end gs
-unfolding groupsRead behindName bodyOf
+unfolding groupsRead behindName reportOf runTo
 past-name tail end g gs is = rw (taken-first (g .bytes) is)

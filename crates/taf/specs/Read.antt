@@ -1,18 +1,18 @@
--- Reading a TAF: its main part, then its change groups, each with a part of its own.
+-- Reading a TAF: a report of parts (places, Parts), its main part, then its change groups, each with a part of its own.
 -- Assumes nothing: these are definitions.
 use Prim.Native.Nat.{ℕ, _+_}
-use mathlib.Core.Bool.{true, false, cond, _&&_, _||_}
-use mathlib.Core.List.{List, [], _∷_}
+use mathlib.Core.Bool.{cond, not, _&&_, _||_}
+use mathlib.Core.List.{List}
 use lib.ListN.{set}
 use lib.Dec.{ltb, eqb}
 use Rattle.figures.specs.Figures.{fieldAt}
 use Rattle.text.specs.declared.kinds.Refusal.{Refusal}
-use Rattle.text.specs.declared.kinds.Refusal.the-variants as refusal
 use Rattle.text.specs.declared.kinds.Tail.{Tail}
-use Rattle.text.specs.declared.kinds.Tail.the-variants.{Clear, Junk}
 use Rattle.text.specs.declared.kinds.Verdict.{Verdict}
 use Rattle.text.specs.Groups.{Piece}
-use Rattle.places.specs.Engine.{Group, Read, Good, Bad, On, Halt, Stop, Step, step, Outcome, Done, Fault}
+use Rattle.shapes.specs.Pattern.{hasAny}
+use Rattle.places.specs.Engine.{Group, Read, Good, Outcome}
+use Rattle.places.specs.Parts.{Begun, Opens, Part as ReportPart, Parts, partFrom, further, reportOf}
 use Rattle.places.specs.Answer.{acceptedAs, refusedAs, answerOf}
 use Rattle.record.specs.declared.values.Number.the-variants as number
 use Rattle.record.specs.declared.aerodrome.Opening.{Opening}
@@ -26,56 +26,36 @@ use Rattle.elements.specs.Parts.{figured, provided}
 use Rattle.aerodrome_groups.specs.Head.{isDay, isHour, isMinute}
 use Rattle.taf_row.specs.declared.kinds.Part.{Part}
 use Rattle.taf_row.specs.declared.kinds.Part.the-variants as part
-use Rattle.taf.specs.declared.kinds.Going.{Going}
 use Rattle.taf.specs.declared.kinds.Reading.{Reading}
 use Rattle.taf_row.specs.Row.{isMain, word, row, changeWords}
-use Rattle.taf_row.specs.Tests.{joins, lacks, isFull}
+use Rattle.taf_row.specs.Tests.{joins, hasElement}
 
--- ---- what a change word opens
+-- ---- what a change word opens: "BECMG, TEMPO, PROB30, PROB40, .. or FMYYGGgg"
 
--- the part that it opens, with nothing read of it
-abbrev pub begun : Opening → Part → Leg → Going
-begun o w r = record { opening = o; part = w; place = 0; count = 0; fresh = true; leg = r }
-
-abbrev pub opened : Opening → Part → Leg → Read Going
-opened o w r = Good (begun o w r)
+abbrev pub opened : Opening → Leg → Read (Begun Opening Leg)
+opened o r = Good (record { kind = o; start = r })
 
 -- FMYYGGgg
-abbrev pub fromGroup : Group → Read Going
+abbrev pub fromGroup : Group → Read (Begun Opening Leg)
 fromGroup g =
     figured (fieldAt g 2 2)
     (λ d. figured (fieldAt g 4 2)
     (λ h. figured (fieldAt g 6 2)
     (λ m. provided (isDay d && isHour h && isMinute m)
-    (opened opening.From part.From
+    (opened opening.From
     (setPeriod (record { from = record { day = number.Is d; hour = number.Is h; minute = number.Is m }; to = blankInstant }) blankLeg)))))
 
 -- PROB30, PROB40
-abbrev pub probableGroup : Group → Read Going
+abbrev pub probableGroup : Group → Read (Begun Opening Leg)
 probableGroup g =
-    figured (fieldAt g 4 2) (λ n. provided (eqb n 30 || eqb n 40) (opened (opening.Probable n) part.Changing blankLeg))
+    figured (fieldAt g 4 2) (λ n. provided (eqb n 30 || eqb n 40) (opened (opening.Probable n) blankLeg))
 
-unfoldable pub openedBy : Group → Read Going
+unfoldable pub openedBy : Group → Read (Begun Opening Leg)
 openedBy g =
-    cond (word "BECMG" g) (opened opening.Becoming part.Changing blankLeg)
-    (cond (word "TEMPO" g) (opened opening.Temporary part.Changing blankLeg) (cond (word "PROB##" g) (probableGroup g) (fromGroup g)))
+    cond (word "BECMG" g) (opened opening.Becoming blankLeg)
+    (cond (word "TEMPO" g) (opened opening.Temporary blankLeg) (cond (word "PROB##" g) (probableGroup g) (fromGroup g)))
 
--- ---- the reading so far: the main part and the changes that are read whole, and the part that is being read
-
-abbrev pub changeOf : Opening → Leg → Change
-changeOf o r = record { opening = o; period = r .period; wind = r .wind; visibility = r .visibility; weathers = r .weathers; nsw = r .nsw; sky = r .sky }
-
--- one more change; past the sixteenth there is no room
-abbrev pub withChange : Changes → Change → Changes
-withChange cs c = cond (ltb (cs .count) 16) (record { items = set (cs .items) (cs .count) c; count = cs .count + 1 }) cs
-
--- the report with a part that is whole
-unfoldable pub withPart : Taf → Going → Taf
-withPart t s =
-    cond (isMain (s .part)) (record { leg = s .leg; changes = t .changes })
-    (record { leg = t .leg; changes = withChange (t .changes) (changeOf (s .opening) (s .leg)) })
-
--- PROB30 TEMPO, PROB40 TEMPO: TEMPO at once after PROB is part of what opens the change
+-- "PROB TEMPO": TEMPO at once after PROB30 or PROB40 is part of what opens the change
 abbrev pub afterProbable : Opening → Opening
 afterProbable opening.None = opening.None
 afterProbable opening.Becoming = opening.Becoming
@@ -84,48 +64,56 @@ afterProbable (opening.Probable n) = opening.ProbablyTemporary n
 afterProbable (opening.ProbablyTemporary n) = opening.ProbablyTemporary n
 afterProbable opening.From = opening.From
 
--- the reading ends
-abbrev pub finish : Taf → Going → Tail → ℕ → Outcome Taf
-finish t s (Junk at) end = Fault refusal.Shape at
-finish t s Clear end = cond (lacks (s .part) (s .place) (s .count) (s .leg)) (Fault refusal.Absence end) (Done end (withPart t s))
+-- the row that a change is held to
+abbrev pub partOf : Opening → Part
+partOf opening.None = part.Changing
+partOf opening.Becoming = part.Changing
+partOf opening.Temporary = part.Changing
+partOf (opening.Probable n) = part.Changing
+partOf (opening.ProbablyTemporary n) = part.Changing
+partOf opening.From = part.From
 
-abbrev pub opens : Read Going → ℕ → (Going → Outcome Taf) → Outcome Taf
-opens (Good o) at k = k o
-opens (Bad f) at k = Fault f at
+-- ---- the report with a part that is whole
 
--- one group: by what it comes to in its part's row; `go` reads the groups after it
-abbrev pub onStep : Step Leg → Taf → Going → Piece → (Taf → Going → Outcome Taf) → Outcome Taf
-onStep (On c k r) t s g go = go t (record { opening = s .opening; part = s .part; place = c; count = k; fresh = false; leg = r })
-onStep (Stop f) t s g go = Fault f (g .start)
-onStep Halt t s g go =
-    cond (lacks (s .part) (s .place) (s .count) (s .leg)) (Fault refusal.Absence (g .start))
-    (cond (isFull (withPart t s .changes .count)) (Fault refusal.Limit (g .start)) (opens (openedBy (g .bytes)) (g .start) (λ o. go (withPart t s) o)))
+abbrev pub changeOf : Opening → Leg → Change
+changeOf o r = record { opening = o; period = r .period; wind = r .wind; visibility = r .visibility; weathers = r .weathers; nsw = r .nsw; sky = r .sky }
 
-abbrev pub onGroup : Taf → Going → Piece → (Taf → Going → Outcome Taf) → Outcome Taf
-onGroup t s g go =
-    cond (joins (s .opening) (s .fresh) (g .bytes))
-    (go t (record { opening = afterProbable (s .opening); part = s .part; place = 0; count = 0; fresh = false; leg = s .leg }))
-    (onStep (step (row (s .part)) changeWords (s .place) (s .count) (s .leg) (g .bytes)) t s g go)
+-- one more change; past the sixteenth there is no room
+abbrev pub withChange : Changes → Change → Changes
+withChange cs c = cond (ltb (cs .count) 16) (record { items = set (cs .items) (cs .count) c; count = cs .count + 1 }) cs
 
-unfoldable pub bodyOf : Tail → ℕ → Taf → Going → List Piece → Outcome Taf
-bodyOf tail end t s [] = finish t s tail end
-bodyOf tail end t s (g ∷ gs) = onGroup t s g (λ t′ s′. bodyOf tail end t′ s′ gs)
+-- ---- the parts: "A change group opens a body and a body runs to the next change group"
+
+-- a part held to its row; "A change body needs one element". The report takes it in by `takes`.
+abbrev pub partIn : Part → (Leg → Taf) → ReportPart Taf Leg Opening Leg
+partIn w takes =
+    record {
+      row = row w;
+      halts = hasAny changeWords;
+      lacks = λ r. not (isMain w) && not (hasElement r);
+      takes = takes;
+      word = λ t g. Opens (openedBy g);
+    }
+
+abbrev pub mainPart : ReportPart Taf Leg Opening Leg
+mainPart = partIn part.Main (λ r. record { leg = r; changes = blankTaf .changes })
+
+abbrev pub changePart : Taf → Opening → ReportPart Taf Leg Opening Leg
+changePart t o = partIn (partOf o) (λ r. record { leg = t .leg; changes = withChange (t .changes) (changeOf o r) })
+
+abbrev pub changes : Parts Taf Leg Opening
+changes = record { part = changePart; joins = joins; joined = afterProbable }
 
 -- ---- the report
 
-abbrev pub mainPart : Going
-mainPart = record { opening = opening.None; part = part.Main; place = 0; count = 0; fresh = false; leg = blankLeg }
-
--- WHAT THE GROUPS OF A TAF COME TO, its name first, which stands at the first place of the main part's row; what follows the "=", and the text's length.
+-- WHAT THE GROUPS OF A TAF COME TO, its name first, which stands at the first place of the main part's row: "up to .. 16 change groups". What follows the
+-- "=", and the text's length.
 unfoldable pub groupsRead : Tail → ℕ → List Piece → Outcome Taf
-groupsRead tail end gs = bodyOf tail end blankTaf mainPart gs
+groupsRead tail end gs = reportOf tail end changes 16 mainPart blankLeg gs
 
 -- the groups behind the name, where that has stood
-abbrev pub mainBehind : Going
-mainBehind = record { opening = opening.None; part = part.Main; place = 0; count = 1; fresh = false; leg = blankLeg }
-
 unfoldable pub behindName : Tail → ℕ → List Piece → Outcome Taf
-behindName tail end gs = bodyOf tail end blankTaf mainBehind gs
+behindName tail end gs = partFrom tail end mainPart (further tail end changes 16) 0 1 blankLeg gs
 
 -- a reading with its verdict; the record is blank where the text is refused
 abbrev pub reading : Verdict → Taf → Reading

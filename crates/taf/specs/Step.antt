@@ -1,39 +1,47 @@
--- What the functions that read a TAF answer, in terms of its rows: one group, a part, a change word's turn.
+-- What the functions that read a TAF answer, in terms of its parts: one group, what a change word opens, a part, and what is read from a change on.
 -- Assumes nothing: these are definitions.
-use Prim.Native.Nat.{ℕ, _≤_, _<_}
+use Prim.Native.Nat.{ℕ, _+_, _-_, _≤_, _<_}
 use mathlib.Core.Path.{_≡_}
-use mathlib.Core.Bool.{false, cond}
+use mathlib.Core.Bool.{Bool, true, false}
 use mathlib.Core.List.{List}
 use lib.ListN.{length}
+use lib.Seq.{sets}
+use Rattle.text.specs.declared.kinds.Refusal.{Refusal}
 use Rattle.text.specs.declared.kinds.Refusal.the-variants as refusal
 use Rattle.text.specs.declared.kinds.Judged.the-variants as judged
-use Rattle.text.specs.Groups.{groupsFrom, partOf}
+use Rattle.text.specs.declared.kinds.Tail.{Tail}
+use Rattle.text.specs.declared.kinds.Tail.the-variants.{Clear, Junk}
+use Rattle.text.specs.declared.kinds.Verdict.{Verdict}
+use Rattle.text.specs.declared.kinds.Verdict.the-variants as verdict
+use Rattle.text.specs.Groups.{groupsFrom}
 use Rattle.text.specs.Text.{tailOf}
-use Rattle.places.specs.Engine.{Group, Read, Good, Bad, placeAt, Step, On, Halt, Stop, step, onward, Fault}
+use Rattle.places.specs.Engine.{Group, Read, Good, Bad, placeAt, Step, Halt, Stop, step, taken, onward, Outcome, Done, Fault}
+use Rattle.places.specs.Parts.{Begun, Further, unless, partFrom, begins, further}
 use Rattle.record.specs.declared.aerodrome.Period.{Period}
 use Rattle.record.specs.declared.aerodrome.Leg.{Leg}
-use Rattle.record.specs.declared.values.Number.the-variants as number
+use Rattle.record.specs.declared.aerodrome.Opening.{Opening}
 use Rattle.record.specs.declared.aerodrome.Opening.the-variants as opening
+use Rattle.record.specs.declared.aerodrome.Change.{Change}
 use Rattle.record.specs.declared.aerodrome.Taf.{Taf}
-use Rattle.record.specs.Taf.{blankInstant, blankLeg, setPeriod}
+use Rattle.record.specs.declared.values.Number.the-variants as number
+use Rattle.record.specs.Taf.{blankInstant, blankLeg, blankTaf, setPeriod}
 use Rattle.taf_row.specs.declared.kinds.Part.{Part}
-use Rattle.taf_row.specs.declared.kinds.Part.the-variants as part
 use Rattle.taf.specs.declared.kinds.PeriodRead.{PeriodRead}
 use Rattle.taf.specs.declared.kinds.PeriodRead.the-variants as period
 use Rattle.taf.specs.declared.kinds.Told.{Told}
-use Rattle.taf.specs.declared.kinds.Going.{Going}
-use Rattle.taf.specs.declared.kinds.Next.the-variants as next
-use Rattle.taf.specs.declared.kinds.Met.{Met}
-use Rattle.taf.specs.declared.kinds.Stop.the-variants as stop
-use Rattle.taf.specs.declared.kinds.PartRead.{PartRead}
-use Rattle.taf.specs.declared.kinds.Opened.{Opened}
 use Rattle.taf.specs.declared.kinds.Turn.{Turn}
-use Rattle.taf.specs.declared.kinds.Reading.{Reading}
+use Rattle.taf.specs.declared.kinds.Turn.the-variants as turn
+use Rattle.taf.specs.declared.kinds.Opened.{Opened}
+use Rattle.taf.specs.declared.kinds.Opened.the-variants as opened
+use Rattle.taf.specs.declared.kinds.Start.{Start}
+use Rattle.taf.specs.declared.kinds.Next.{Next}
+use Rattle.taf.specs.declared.kinds.Next.the-variants as next
+use Rattle.taf.specs.declared.kinds.PartRead.{PartRead}
+use Rattle.taf.specs.declared.kinds.Ahead.{Ahead}
 use Rattle.taf_row.specs.Row.{row, changeWords}
-use Rattle.taf_row.specs.Tests.{joins, lacks, isFull}
-use Rattle.taf.specs.Read.{openedBy, begun, withPart, afterProbable, finish, onStep, bodyOf, refused, answer}
+use Rattle.taf.specs.Read.{openedBy, partIn, changePart, changes}
 
--- ---- one group at its place
+-- ---- one group
 
 abbrev pub asPeriod : Read Period → PeriodRead
 asPeriod (Good x) = period.Good x
@@ -52,78 +60,92 @@ ToldAt i g r t = (w : Part) (k : ℕ) → t ≡ toldOf r (placeAt (row w) i .rea
 abbrev pub Onward : ℕ → ℕ → Type 0
 Onward i j = (w : Part) → j ≡ onward (row w) i
 
--- ---- one group in a part
+-- what a group's turn comes to with what was read before it
+abbrev pub turned : Part → Leg → Group → Turn → Step Leg
+turned w r g (turn.At i k) = taken (onward (row w) i) (k + 1) (placeAt (row w) i .read k g r)
+turned w r g turn.Halt = Halt
+turned w r g (turn.Refused f) = Stop f
 
-abbrev pub moved : Going → ℕ → ℕ → Leg → Going
-moved s c k r = record { opening = s .opening; part = s .part; place = c; count = k; fresh = false; leg = r }
+-- a group's turn, where k groups stand at place c: it says what a step of the row says, whatever was read before; no place has more than four groups
+pub record Turns (w : Part) (c k : ℕ) (g : Group) (t : Turn) : Type 0 where
+  pub says : (r : Leg) → step (row w) changeWords c k r g ≡ turned w r g t
+  pub room : (i j : ℕ) → t ≡ turn.At i j → j < 4
 
--- a group that was read at place i, where it is group number k there
-abbrev pub arrived : Going → ℕ → ℕ → Told → Met
-arrived s i k t =
-    elim (t .judged) [
-      | judged.Fine ↦ record { next = next.On; going = moved s (onward (row (s .part)) i) k (t .leg) }
-      | judged.Refused f ↦ record { next = next.Fault f; going = s }
-    ]
+-- ---- what a change word opens
 
-abbrev pub metBy : Going → Step Leg → Met
-metBy s (On c k r) = record { next = next.On; going = moved s c k r }
-metBy s Halt = record { next = next.Change; going = s }
-metBy s (Stop f) = record { next = next.Fault f; going = s }
-
-abbrev pub joined : Going → Going
-joined s = record { opening = afterProbable (s .opening); part = s .part; place = 0; count = 0; fresh = false; leg = s .leg }
-
-unfoldable pub stepOf : Going → Group → Met
-stepOf s g = metBy s (step (row (s .part)) changeWords (s .place) (s .count) (s .leg) g)
-
-unfoldable pub metOf : Going → Group → Met
-metOf s g = cond (joins (s .opening) (s .fresh) g) (record { next = next.On; going = joined s }) (stepOf s g)
-
--- ---- a change word's turn
-
-abbrev pub turned : Taf → Going → Read Going → Turn
-turned t s (Good o) = record { judged = judged.Fine; report = withPart t s; going = o }
-turned t s (Bad f) = record { judged = judged.Refused f; report = t; going = s }
-
-abbrev pub openedAs : Going → Read Going → Opened
-openedAs s (Good o) = record { judged = judged.Fine; going = o }
-openedAs s (Bad f) = record { judged = judged.Refused f; going = s }
-
--- a part is opened, whatever was read before it
-abbrev pub Opens : Opened → Going → Type 0
-Opens r o = (s : Going) → r ≡ openedAs s (Good o)
+abbrev pub begunBy : Opened → Read (Begun Opening Leg)
+begunBy (opened.Good o p) = Good (record { kind = o; start = setPeriod p blankLeg })
+begunBy (opened.Bad f) = Bad f
 
 -- a part that begins at the time of FMYYGGgg
-abbrev pub fromTime : ℕ → ℕ → ℕ → Going
-fromTime d h m =
-    begun opening.From part.From
-    (setPeriod (record { from = record { day = number.Is d; hour = number.Is h; minute = number.Is m }; to = blankInstant }) blankLeg)
+abbrev pub fromTime : ℕ → ℕ → ℕ → Opened
+fromTime d h m = opened.Good opening.From (record { from = record { day = number.Is d; hour = number.Is h; minute = number.Is m }; to = blankInstant })
 
-unfoldable pub turnOf : Taf → Going → Group → Turn
-turnOf t s g =
-    cond (lacks (s .part) (s .place) (s .count) (s .leg)) (turned t s (Bad refusal.Absence))
-    (cond (isFull (withPart t s .changes .count)) (turned t s (Bad refusal.Limit)) (turned t s (openedBy g)))
+-- behind the word: for whatever was read before, the part that begins there is the one that begins where TEMPO has joined PROB or not
+pub record Begins (text : List ℕ) (o : Opening) (at : ℕ) (s : Start) : Type 0 where
+  pub reads : (more : Further Taf Leg Opening) (t : Taf) (p : Leg)
+      → begins (tailOf text) (length text) changes more t o p (groupsFrom text at)
+      ≡ partFrom (tailOf text) (length text) (changePart t (s .opening)) more 0 0 p (groupsFrom text (s .at))
+  pub later : at ≤ s .at
 
--- ---- the text from a position on
+-- ---- the text from a position on, n changes being read before
 
-unfoldable pub bodyFrom : List ℕ → Taf → Going → ℕ → Reading
-bodyFrom text t s at = answer (bodyOf (tailOf text) (length text) t s (groupsFrom text at))
+-- so many changes may still come
+abbrev pub moreAfter : List ℕ → ℕ → Further Taf Leg Opening
+moreAfter text n = further (tailOf text) (length text) changes (16 - n)
 
--- from a change word on, which stands from start up to end
-unfoldable pub changeFrom : List ℕ → Taf → Going → ℕ → ℕ → Reading
-changeFrom text t s start end =
-    answer (onStep Halt t s (record { start = start; bytes = partOf text start end }) (λ t′ s′. bodyOf (tailOf text) (length text) t′ s′ (groupsFrom text end)))
+-- any part, k groups at its first place
+unfoldable pub partBy : List ℕ → Part → (Leg → Taf) → ℕ → ℕ → Leg → ℕ → Outcome Taf
+partBy text w takes n k r at = partFrom (tailOf text) (length text) (partIn w takes) (moreAfter text n) 0 k r (groupsFrom text at)
 
--- what the text is read as where a part has been read
-unfoldable pub afterPart : List ℕ → Taf → PartRead → Reading
-afterPart text t p =
-    elim (p .stop) [
-      | stop.Over ↦ answer (finish t (p .going) (tailOf text) (length text))
-      | stop.Change start end ↦ changeFrom text t (p .going) start end
-      | stop.Fault f at ↦ refused f at
-    ]
+-- a change, from behind its word on
+unfoldable pub changeFrom : List ℕ → ℕ → Opening → Period → ℕ → Taf → Outcome Taf
+changeFrom text n o p at t = begins (tailOf text) (length text) changes (moreAfter text (n + 1)) t o (setPeriod p blankLeg) (groupsFrom text at)
 
--- a part read from a position on: for every report before it the text is read as what is left says, and a change word lies ahead in the text
-pub record PartDone (text : List ℕ) (s : Going) (at : ℕ) (p : PartRead) : Type 0 where
-  pub reads : (t : Taf) → bodyFrom text t s at ≡ afterPart text t p
-  pub ahead : (start end : ℕ) → p .stop ≡ stop.Change start end → (at < end) × (end ≤ length text)
+-- its part
+unfoldable pub bodyFrom : List ℕ → ℕ → Opening → Period → ℕ → Taf → Outcome Taf
+bodyFrom text n o p at t = partFrom (tailOf text) (length text) (changePart t o) (moreAfter text (n + 1)) 0 0 (setPeriod p blankLeg) (groupsFrom text at)
+
+-- ---- what follows a part
+
+abbrev pub refusedAt : Refusal → ℕ → Next
+refusedAt f at = next.End (verdict.Refused f at)
+
+-- the text's end: what follows the "=" is refused first, an absence last
+abbrev pub atEnd : Tail → ℕ → Bool → Next
+atEnd (Junk at) end lacking = refusedAt refusal.Shape at
+atEnd Clear end true = refusedAt refusal.Absence end
+atEnd Clear end false = next.End (verdict.Accepted end)
+
+-- a verdict with the report that it accepts
+abbrev pub outcomeOf : Verdict → Taf → Outcome Taf
+outcomeOf (verdict.Accepted rest) t = Done rest t
+outcomeOf (verdict.Refused f at) t = Fault f at
+
+abbrev pub afterPart : List ℕ → ℕ → Taf → Next → Outcome Taf
+afterPart text n t (next.End v) = outcomeOf v t
+afterPart text n t (next.Change o p at) = changeFrom text n o p at t
+
+-- a change word that ends a part, n changes in the report that takes it in: an absence first, then whether there is room, then what the word opens
+pub record MetWord (g : Group) (start end n : ℕ) (lacking : Bool) (x : Next) : Type 0 where
+  pub reads : (text : List ℕ) (t : Taf)
+      → unless lacking start (moreAfter text n t (record { start = start; bytes = g }) (openedBy g) (groupsFrom text end)) ≡ afterPart text n t x
+  pub ahead : (o : Opening) (q : Period) (to : ℕ) → x ≡ next.Change o q to → (to ≡ end) × (n < 16)
+
+-- a part that was read, n changes in the report that takes it in: the text is read as what follows it says, and a change lies ahead in the text
+pub record PartDone (text : List ℕ) (w : Part) (n k : ℕ) (r : Leg) (at : ℕ) (x : PartRead) : Type 0 where
+  pub reads : (takes : Leg → Taf) → partBy text w takes n k r at ≡ afterPart text n (takes (x .leg)) (x .next)
+  pub ahead : (o : Opening) (q : Period) (to : ℕ) → x .next ≡ next.Change o q to → (at < to) × (to ≤ length text) × (n < 16)
+
+-- ---- what is read from a change on
+
+abbrev pub noneAhead : Verdict → ℕ → Ahead
+noneAhead v n = record { verdict = v; items = blankTaf .changes .items; count = n }
+
+-- Read with n changes before it: the changes that are read, in their places; and for every report with n changes the verdict, with those changes added.
+pub record ReadAhead (n : ℕ) (from : Taf → Outcome Taf) (a : Ahead) : Type 0 where
+  pub more : List Change
+  pub items : a .items ≡ sets (blankTaf .changes .items) n more
+  pub count : a .count ≡ n + length more
+  pub says : (t : Taf) → t .changes .count ≡ n
+      → from t ≡ outcomeOf (a .verdict) (record { leg = t .leg; changes = record { items = sets (t .changes .items) n more; count = n + length more } })

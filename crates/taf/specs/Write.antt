@@ -34,7 +34,7 @@ use Rattle.taf_row.specs.declared.kinds.Part.{Part}
 use Rattle.taf_row.specs.declared.kinds.Part.the-variants as part
 use Rattle.taf_row.specs.Row.{isMain, isWhole, isEndHour, row}
 use Rattle.taf_row.specs.Tests.{hasElement}
-use Rattle.taf.specs.Read.{changeOf}
+use Rattle.taf.specs.Read.{partOf, changeOf}
 
 -- ---- a part: wind, visibility, weather, sky, in written order
 
@@ -81,14 +81,6 @@ openingFits opening.Temporary p = periodFits p
 openingFits (opening.Probable n) p = isChance n && periodFits p
 openingFits (opening.ProbablyTemporary n) p = isChance n && periodFits p
 openingFits opening.From p = instantFits (p .from) && noInstant (p .to)
-
-abbrev pub partOf : Opening → Part
-partOf opening.None = part.Changing
-partOf opening.Becoming = part.Changing
-partOf opening.Temporary = part.Changing
-partOf (opening.Probable n) = part.Changing
-partOf (opening.ProbablyTemporary n) = part.Changing
-partOf opening.From = part.From
 
 -- a change group's part as a leg, its head blank
 abbrev pub legOf : Change → Leg

@@ -1,25 +1,19 @@
-// One group of a part: read at its place of the row, and what the part comes to with it.
-use crate::kinds::Going;
-use crate::kinds::Met;
-use crate::kinds::Next;
+// One group of a part: where it goes in the row of places, which what was read before has no part in, and what it adds to the part there.
 use crate::kinds::Told;
+use crate::kinds::Turn;
 use crate::take;
 use places::kinds::Found;
 use record::aerodrome::Leg;
-use record::aerodrome::Opening;
 use taf_row::kinds::Part;
 use taf_row::row::find;
 use taf_row::row::is_change_word;
 use taf_row::row::is_main;
-use taf_row::tests::does_join;
-use text::kinds::Judged;
 use text::kinds::Refusal;
 ghost use mathlib.Core.Path.{_≡_};
 ghost use Prim.Native.Nat.{_<_, _≤_};
-ghost use Rattle.places.specs.Engine.{placeAt, Stop};
+ghost use Rattle.places.specs.Engine.{placeAt};
 ghost use Rattle.taf_row.specs.Row.{row};
-ghost use Rattle.taf.specs.Read.{afterProbable};
-ghost use Rattle.taf.specs.Step.{toldOf, ToldAt, Onward, arrived, joined, metBy, stepOf, metOf};
+ghost use Rattle.taf.specs.Step.{toldOf, ToldAt, Onward, Turns};
 
 // ---- a group at its place
 
@@ -55,7 +49,7 @@ fn read_element(part: Part, place: usize, count: usize, g: &[u8], r: Leg) -> Tol
 }
 
 // The group at its place.
-fn read_at(part: Part, place: usize, count: usize, g: &[u8], r: Leg) -> Told
+pub fn read_at(part: Part, place: usize, count: usize, g: &[u8], r: Leg) -> Told
     ensures { λ t. ⌜ t ≡ toldOf r (placeAt (row part) place .read count (now (g .entry)) r) ⌝ }
 {
     if place < 7 {
@@ -66,7 +60,7 @@ fn read_at(part: Part, place: usize, count: usize, g: &[u8], r: Leg) -> Told
 }
 
 // Past NIL and past CNL reading is past the row.
-fn go_past(place: usize) -> usize
+pub fn go_past(place: usize) -> usize
     ensures { λ r. ⌜ Onward place r ⌝ }
 {
     if (place == 4) | (place == 6) {
@@ -76,108 +70,27 @@ fn go_past(place: usize) -> usize
     }
 }
 
-// ---- one group in its part
+// ---- its place
 
-fn fault(refusal: Refusal, s: Going) -> Met
-    ensures { λ r. ⌜ r ≡ metBy s (Stop refusal) ⌝ }
+// The group's turn, where `count` groups stand at `place`.
+pub fn decide(part: Part, place: usize, count: usize, g: &[u8]) -> Turn
+    ensures { λ t. ⌜ Turns part place count (now (g .entry)) t ⌝ }
 {
-    Met {
-        next: Next::Fault(refusal),
-        going: s,
-    }
-}
-
-// A group was read at a place, the `count`th there: the part goes on from it, or the group is refused.
-fn arrive(place: usize, count: usize, told: Told, s: Going) -> Met
-    ensures { λ r. ⌜ r ≡ arrived s place count told ⌝ }
-{
-    let judged = told.judged;
-    match judged {
-        Judged::Fine => {
-            let leg = told.leg;
-            let mut going = s;
-            going.place = go_past(place);
-            going.count = count;
-            going.fresh = false;
-            going.leg = leg;
-            Met {
-                next: Next::On,
-                going,
-            }
-        }
-        Judged::Refused(refusal) => fault(refusal, s),
-    }
-}
-
-// One group by its part's row.
-fn step(s: Going, g: &[u8]) -> Met
-    ensures { λ r. ⌜ r ≡ stepOf s (now (g .entry)) ⌝ }
-{
-    if 11 <= s.place {
-        return fault(Refusal::Shape, s);
+    if 11 <= place {
+        return Turn::Refused(Refusal::Shape);
     }
     if is_change_word(g) {
-        return Met {
-            next: Next::Change,
-            going: s,
-        };
+        return Turn::Halt;
     }
-    let part = s.part;
-    let found = find(part, s.place, s.count, g);
+    let found = find(part, place, count, g);
     match found {
-        Found::Take { place, count } => {
-            let leg = s.leg;
-            let told = read_at(part, place, count, g, leg);
-            arrive(place, count + 1, told, s)
-        }
-        _ => fault(places::refusal_of(found), s),
-    }
-}
-
-// ---- TEMPO at once after PROB30 or PROB40
-
-fn after_probable(opening: Opening) -> Opening
-    ensures { λ r. ⌜ r ≡ afterProbable opening ⌝ }
-{
-    match opening {
-        Opening::None => Opening::None,
-        Opening::Becoming => Opening::Becoming,
-        Opening::Temporary => Opening::Temporary,
-        Opening::Probable(n) => Opening::ProbablyTemporary(n),
-        Opening::ProbablyTemporary(n) => Opening::ProbablyTemporary(n),
-        Opening::From => Opening::From,
-    }
-}
-
-fn join(s: Going) -> Going
-    ensures { λ r. ⌜ r ≡ joined s ⌝ }
-{
-    let opening = s.opening;
-    let both = after_probable(opening);
-    let part = s.part;
-    let leg = s.leg;
-    Going {
-        opening: both,
-        part,
-        place: 0,
-        count: 0,
-        fresh: false,
-        leg,
-    }
-}
-
-// One group.
-pub fn meet(s: Going, g: &[u8]) -> Met
-    ensures { λ r. ⌜ r ≡ metOf s (now (g .entry)) ⌝ }
-{
-    let opening = s.opening;
-    if does_join(opening, s.fresh, g) {
-        let going = join(s);
-        Met {
-            next: Next::On,
-            going,
-        }
-    } else {
-        step(s, g)
+        Found::Take {
+            place: there,
+            count: standing,
+        } => Turn::At {
+            place: there,
+            count: standing,
+        },
+        _ => Turn::Refused(places::refusal_of(found)),
     }
 }

@@ -1,9 +1,9 @@
 // What the reader and writer of TAF answer, and what they hold on the way.
+use record::aerodrome::Change;
 use record::aerodrome::Leg;
 use record::aerodrome::Opening;
 use record::aerodrome::Period;
 use record::aerodrome::Taf;
-use taf_row::kinds::Part;
 use text::kinds::Judged;
 use text::kinds::Refusal;
 use text::kinds::Verdict;
@@ -20,52 +20,45 @@ pub struct Told {
     pub leg: Leg,
 }
 
-// The part that is being read: what opened it, the place that reading stands at and how many groups stand there, whether nothing has followed
-// what opened it, and what was read so far.
-pub struct Going {
+// A group's turn by its part's row, before it is read: it goes to a place, where so many groups stand, it is a change word, or it is refused.
+pub enum Turn {
+    At { place: usize, count: usize },
+    Halt,
+    Refused(Refusal),
+}
+
+// What a change word opens, with the period that FMYYGGgg gives, or the word's refusal.
+pub enum Opened {
+    Good { opening: Opening, period: Period },
+    Bad(Refusal),
+}
+
+// What opens a change, TEMPO with PROB30 or PROB40 too, and where its part begins.
+pub struct Start {
     pub opening: Opening,
-    pub part: Part,
-    pub place: usize,
-    pub count: usize,
-    pub fresh: bool,
-    pub leg: Leg,
+    pub at: usize,
 }
 
-// What one group comes to: the part goes on, a change word ends it, or the group is refused.
+// What follows a part: the end of the reading, or a change, `at` behind its word.
 pub enum Next {
-    On,
-    Change,
-    Fault(Refusal),
-}
-
-pub struct Met {
-    pub next: Next,
-    pub going: Going,
-}
-
-// How the reading of a part ends: the groups are over, a change word stands from start up to end, or a group is refused at its place.
-pub enum Stop {
-    Over,
-    Change { start: usize, end: usize },
-    Fault { refusal: Refusal, place: usize },
+    End(Verdict),
+    Change {
+        opening: Opening,
+        period: Period,
+        at: usize,
+    },
 }
 
 pub struct PartRead {
-    pub stop: Stop,
-    pub going: Going,
+    pub next: Next,
+    pub leg: Leg,
 }
 
-// What a change word opens, or its refusal.
-pub struct Opened {
-    pub judged: Judged,
-    pub going: Going,
-}
-
-// A change word's turn: the report with the part before it, and the part that it opens; or the refusal.
-pub struct Turn {
-    pub judged: Judged,
-    pub report: Taf,
-    pub going: Going,
+// What is read from a change on: the verdict on the text, and the changes, those before it still blank.
+pub struct Ahead {
+    pub verdict: Verdict,
+    pub items: [Change; 16],
+    pub count: usize,
 }
 
 // The record is blank where the text is refused.

@@ -13,6 +13,7 @@ use record::aerodrome::Taf;
 use record::blank_aerodrome::blank_instant;
 use record::blank_aerodrome::blank_station;
 use sky::judge::judge_sky;
+use taf::word::part_of;
 use taf_row::kinds::Part;
 use taf_row::row::is_main;
 use taf_row::row::is_whole;
@@ -33,7 +34,7 @@ ghost use lib.Dec.{leb};
 ghost use Rattle.text.specs.declared.kinds.Judged.the-variants as judged;
 ghost use Rattle.text.specs.Judge.{judge, andThen};
 ghost use Rattle.taf_row.specs.declared.kinds.Part.the-variants as part;
-ghost use Rattle.taf.specs.Write.{unlessAbsent, nswAgrees, judgeForecast, judgePart, isHourOf, periodFits, instantFits, openingFits, partOf, judgeChange, judgeEach, judgeChanges, foreignBlank, judgeOf, legOf};
+ghost use Rattle.taf.specs.Write.{unlessAbsent, nswAgrees, judgeForecast, judgePart, isHourOf, periodFits, instantFits, openingFits, judgeChange, judgeEach, judgeChanges, foreignBlank, judgeOf, legOf};
 
 // ---- a part
 
@@ -126,19 +127,6 @@ fn opening_fits(o: Opening, p: Period) -> bool
         Opening::Probable(n) => ((n == 30) | (n == 40)) & period_fits(p),
         Opening::ProbablyTemporary(n) => ((n == 30) | (n == 40)) & period_fits(p),
         Opening::From => instant_fits(from) & to.is_blank(),
-    }
-}
-
-pub fn part_of(o: Opening) -> Part
-    ensures { λ r. ⌜ r ≡ partOf o ⌝ }
-{
-    match o {
-        Opening::None => Part::Changing,
-        Opening::Becoming => Part::Changing,
-        Opening::Temporary => Part::Changing,
-        Opening::Probable(_) => Part::Changing,
-        Opening::ProbablyTemporary(_) => Part::Changing,
-        Opening::From => Part::From,
     }
 }
 

@@ -32,8 +32,8 @@ use Rattle.taf_row.specs.declared.kinds.Part.{Part}
 use Rattle.taf_row.specs.declared.kinds.Part.the-variants as part
 use Rattle.taf_row.specs.Row.{isMain, row}
 use Rattle.taf_row.specs.Tests.{hasElement}
-use Rattle.taf.specs.Read.{changeOf}
-use Rattle.taf.specs.Write.{unlessAbsent, judgeForecast, judgePart, instantFits, openingFits, partOf, legOf, judgeChange, judgeEach, showOpening, showChange, showEach, openedLeg, classChange}
+use Rattle.taf.specs.Read.{partOf, changeOf}
+use Rattle.taf.specs.Write.{unlessAbsent, judgeForecast, judgePart, instantFits, openingFits, legOf, judgeChange, judgeEach, showOpening, showChange, showEach, openedLeg, classChange}
 use Rattle.taf_laws.proofs.Periods.{no-end}
 use Rattle.taf_laws.proofs.Places.{there-judged}
 use Rattle.taf_laws.proofs.Parts.{FairPart, FairChange, fair-change}

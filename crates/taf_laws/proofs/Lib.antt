@@ -4,7 +4,6 @@ pub mod Rows
 pub mod Places
 pub mod Parts
 pub mod Changes
-pub mod Bodies
 pub mod Reports
 pub mod Classes
 pub mod Canonical

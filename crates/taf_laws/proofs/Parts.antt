@@ -33,7 +33,8 @@ use Rattle.taf_row.specs.declared.kinds.Part.{Part}
 use Rattle.taf_row.specs.declared.kinds.Part.the-variants as part
 use Rattle.taf_row.specs.Row.{isMain, row}
 use Rattle.taf_row.specs.Tests.{hasElement}
-use Rattle.taf.specs.Write.{unlessAbsent, judgeForecast, judgePart, periodFits, isChance, openingFits, partOf, legOf, judgeChange, judgeChanges, foreignBlank, judgeOf, openedLeg}
+use Rattle.taf.specs.Read.{partOf}
+use Rattle.taf.specs.Write.{unlessAbsent, judgeForecast, judgePart, periodFits, isChance, openingFits, legOf, judgeChange, judgeChanges, foreignBlank, judgeOf, openedLeg}
 use Rattle.taf_laws.proofs.Places.{kept-name, kept-correction, kept-station, kept-time, kept-nil, kept-period, kept-cancelled, kept-wind, kept-visibility, kept-forecast, kept-sky}
 
 -- ---- what is judged fine

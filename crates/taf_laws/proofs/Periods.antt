@@ -27,7 +27,6 @@ use Rattle.record.specs.Missing.{present, isMissing}
 use Rattle.record.proofs.Blanks.{number-blank}
 use Rattle.record.specs.SilentAerodrome.{noInstant}
 use Rattle.record.proofs.AerodromeBlanks.{instant-blank}
-use Rattle.taf_row.specs.declared.kinds.Part.the-variants as part
 use Rattle.taf_row.specs.Row.{periodShape, isEndHour, hourOf, readPeriod, showPeriod}
 use Rattle.taf.specs.Read.{openedBy, opened}
 use Rattle.taf.specs.Write.{isHourOf, periodFits, instantFits, isChance, showChance, showFrom}
@@ -213,7 +212,7 @@ module _ (t : Instant) (e : instantFits t ≡ true) where
       rw (time-is .3) (from-shape (field.Number (time-is .0)) (field.Number (time-is .1)) (field.Number (time-is .2)) (omega arith) (omega arith) (omega arith))
 
   -- FM opens its part with its time
-  pub from-opened : openedBy (showFrom t) ≡ opened opening.From part.From (setPeriod (record { from = t; to = blankInstant }) blankLeg)
+  pub from-opened : openedBy (showFrom t) ≡ opened opening.From (setPeriod (record { from = t; to = blankInstant }) blankLeg)
   unfolding openedBy low high clash
   from-opened =
       let few = time-range in
@@ -244,6 +243,6 @@ module _ (n : ℕ) (e : isChance n ≡ true) where
   unfolding hasPattern fits low high numberText figures
   chance-shaped = or-cases (eqb n 30) (eqb n 40) e (λ h. rw (eqb-true n 30 h)) (λ h. rw (eqb-true n 40 h))
 
-  pub chance-opened : openedBy (showChance n) ≡ opened (opening.Probable n) part.Changing blankLeg
+  pub chance-opened : openedBy (showChance n) ≡ opened (opening.Probable n) blankLeg
   unfolding openedBy hasPattern fits low high numberText figures fieldAt scan
   chance-opened = or-cases (eqb n 30) (eqb n 40) e (λ h. rw (eqb-true n 30 h)) (λ h. rw (eqb-true n 40 h))

@@ -31,9 +31,8 @@ isProbable (opening.Probable n) = true
 isProbable (opening.ProbablyTemporary n) = false
 isProbable opening.From = false
 
--- by what opened the part, and whether nothing has followed it
-abbrev pub joins : Opening → Bool → Group → Bool
-joins o fresh g = isProbable o && fresh && word "TEMPO" g
+abbrev pub joins : Opening → Group → Bool
+joins o g = isProbable o && word "TEMPO" g
 
 -- ---- the end of a body: a required group is absent, or a change body has no element
 

@@ -28,12 +28,12 @@ fn is_probable(opening: Opening) -> bool
 }
 
 // TEMPO at once after PROB30 or PROB40
-pub fn does_join(opening: Opening, fresh: bool, g: &[u8]) -> bool
-    ensures { λ r. ⌜ r ≡ joins opening fresh (now (g .entry)) ⌝ }
+pub fn does_join(opening: Opening, g: &[u8]) -> bool
+    ensures { λ r. ⌜ r ≡ joins opening (now (g .entry)) ⌝ }
 {
     let probable = is_probable(opening);
     let joining = has_pattern(g, b"TEMPO");
-    probable & fresh & joining
+    probable & joining
 }
 
 // NSW disagrees with the main part, with weather before it and with CAVOK.

@@ -1,0 +1,14 @@
+-- `taf::answer::refuse` meets its contract: the record is blank.
+-- Assumes nothing.
+use borrow.Author.Needs.{needs}
+use Rattle.taf.proofs.answer.refuse.Statement.{statement}
+use Rattle.taf.proofs.answer.refuse.Tie as tie
+
+returns : tie.Need-returns
+returns c = rw (c .blank-taf .ensures)
+
+pub refuse-spec : {M : Type 1} → statement M
+refuse-spec =
+    tie.close
+    (tie.spec
+    (λ c κs. search needs) returns)

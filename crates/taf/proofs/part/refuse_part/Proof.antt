@@ -1,0 +1,14 @@
+-- `taf::part::refuse_part` meets its contract: the part as it was.
+-- Assumes nothing.
+use borrow.Author.Needs.{needs}
+use Rattle.taf.proofs.part.refuse_part.Statement.{statement}
+use Rattle.taf.proofs.part.refuse_part.Tie as tie
+
+returns : tie.Need-returns
+returns c = rw (c .refuse .ensures)
+
+pub refuse-part-spec : {M : Type 1} → statement M
+refuse-part-spec =
+    tie.close
+    (tie.spec
+    (λ c κs. search needs) returns)
