@@ -1,13 +1,13 @@
 -- The laws of a TAF's parts: what a change word opens, how a part is read from group to group, what is read from a change on, and the groups behind the name.
 -- Assumes nothing.
-use Prim.Native.Nat.{ℕ, zero, suc, _+_, _-_, _≤_, _<_}
+use Prim.Native.Nat.{ℕ, suc, _+_, _-_, _≤_, _<_}
 use native.Mathlib.Omega.{arith}
 use native.Mathlib.Numerals.{add-one}
 use mathlib.Core.Path.{_≡_, refl, sym, ap, _∙_}
 use mathlib.Core.Bool.{Bool, true, false}
 use mathlib.Core.List.{List, [], _∷_}
 use lib.ListN.{length, set}
-use lib.Seq.{sets}
+use lib.Seq.{sets, set-comm}
 use borrow.Author.Tests.{lt-ltb}
 use Rattle.text.specs.declared.kinds.Refusal.{Refusal}
 use Rattle.text.specs.declared.kinds.Refusal.the-variants as refusal
@@ -40,7 +40,6 @@ use Rattle.taf.specs.declared.kinds.Turn.{Turn}
 use Rattle.taf.specs.declared.kinds.Turn.the-variants as turn
 use Rattle.taf.specs.declared.kinds.Opened.{Opened}
 use Rattle.taf.specs.declared.kinds.Opened.the-variants as opened
-use Rattle.taf.specs.declared.kinds.Next.{Next}
 use Rattle.taf.specs.declared.kinds.Next.the-variants as next
 use Rattle.taf.specs.declared.kinds.PartRead.{PartRead}
 use Rattle.taf.specs.declared.kinds.Ahead.{Ahead}
@@ -213,14 +212,8 @@ module _ {text : List ℕ} {w : Part} {n first : ℕ} {r₀ : Leg} {start c k : 
 -- a store before a run of stores
 set-before : (xs : List Change) (n m : ℕ) (c : Change) (cs : List Change) → n < m → set (sets xs m cs) n c ≡ sets (set xs n c) m cs
 set-before xs n m c [] h = refl
-set-before xs n m c (d ∷ cs) h = set-before (set xs m d) n (suc m) c cs (omega arith) ∙ ap (λ (l : List Change). sets l (suc m) cs) (apart xs n m h)
-  where
-    apart : (xs : List Change) (n m : ℕ) → n < m → set (set xs m d) n c ≡ set (set xs n c) m d
-    apart [] n m h = refl
-    apart (x ∷ xs) zero zero h = absurd (omega arith)
-    apart (x ∷ xs) zero (suc m) h = refl
-    apart (x ∷ xs) (suc n) zero h = absurd (omega arith)
-    apart (x ∷ xs) (suc n) (suc m) h = ap (λ (l : List Change). x ∷ l) (apart xs n m (omega arith))
+set-before xs n m c (d ∷ cs) h =
+    set-before (set xs m d) n (suc m) c cs (omega arith) ∙ ap (λ (l : List Change). sets l (suc m) cs) (set-comm xs m n d c (omega arith))
 
 module _ (text : List ℕ) (n : ℕ) (o : Opening) (p : Period) (at : ℕ) (few : n < 16) {w : Part} (held : w ≡ partOf o) {read : PartRead}
     (done : PartDone text w (n + 1) 0 (setPeriod p blankLeg) at read) {c : Change} (made : c ≡ changeOf o (read .leg)) where

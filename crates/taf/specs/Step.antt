@@ -81,7 +81,7 @@ begunBy (opened.Bad f) = Bad f
 abbrev pub fromTime : ℕ → ℕ → ℕ → Opened
 fromTime d h m = opened.Good opening.From (record { from = record { day = number.Is d; hour = number.Is h; minute = number.Is m }; to = blankInstant })
 
--- behind the word: for whatever was read before, the part that begins there is the one that begins where TEMPO has joined PROB or not
+-- behind the word that opens a change: whatever was read before, its part is read from `s` on, which is past TEMPO where that joins PROB
 pub record Begins (text : List ℕ) (o : Opening) (at : ℕ) (s : Start) : Type 0 where
   pub reads : (more : Further Taf Leg Opening) (t : Taf) (p : Leg)
       → begins (tailOf text) (length text) changes more t o p (groupsFrom text at)

@@ -4,11 +4,9 @@ use borrow.Author.Needs.{needs}
 use Rattle.taf.proofs.answer.refuse.Statement.{statement}
 use Rattle.taf.proofs.answer.refuse.Tie as tie
 
-returns : tie.Need-returns
-returns c = rw (c .blank-taf .ensures)
-
 pub refuse-spec : {M : Type 1} → statement M
 refuse-spec =
     tie.close
     (tie.spec
-    (λ c κs. search needs) returns)
+    (λ c κs. search needs)
+    (λ c. rw (c .blank-taf .ensures)))

@@ -4,11 +4,9 @@ use borrow.Author.Needs.{needs}
 use Rattle.taf.proofs.part.end_part.Statement.{statement}
 use Rattle.taf.proofs.part.end_part.Tie as tie
 
-returns : tie.Need-returns
-returns c = rw (c .after-end .ensures, c .before .lacks .ensures)
-
 pub end-part-spec : {M : Type 1} → statement M
 end-part-spec =
     tie.close
     (tie.spec
-    (λ c κs. search needs) (λ c κs. search needs) returns)
+    (λ c κs. search needs) (λ c κs. search needs)
+    (λ c. rw (c .after-end .ensures, c .before .lacks .ensures)))

@@ -5,11 +5,9 @@ use mathlib.Core.Path.{refl}
 use Rattle.taf.proofs.part.meet_word.Statement.{statement}
 use Rattle.taf.proofs.part.meet_word.Tie as tie
 
-returns : tie.Need-returns
-returns c = (refl, rw (c .before .lacks .ensures) at (c .after-word .ensures))
-
 pub meet-word-spec : {M : Type 1} → statement M
 meet-word-spec =
     tie.close
     (tie.spec
-    (λ c κs. search needs) (λ c κs. search needs) returns)
+    (λ c κs. search needs) (λ c κs. search needs)
+    (λ c. (refl, rw (c .before .lacks .ensures) at (c .after-word .ensures))))

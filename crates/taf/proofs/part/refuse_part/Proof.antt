@@ -4,11 +4,9 @@ use borrow.Author.Needs.{needs}
 use Rattle.taf.proofs.part.refuse_part.Statement.{statement}
 use Rattle.taf.proofs.part.refuse_part.Tie as tie
 
-returns : tie.Need-returns
-returns c = rw (c .refuse .ensures)
-
 pub refuse-part-spec : {M : Type 1} → statement M
 refuse-part-spec =
     tie.close
     (tie.spec
-    (λ c κs. search needs) returns)
+    (λ c κs. search needs)
+    (λ c. rw (c .refuse .ensures)))

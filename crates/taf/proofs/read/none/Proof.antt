@@ -4,11 +4,9 @@ use borrow.Author.Needs.{needs}
 use Rattle.taf.proofs.read.none.Statement.{statement}
 use Rattle.taf.proofs.read.none.Tie as tie
 
-returns : tie.Need-returns
-returns c = rw (c .before .before .blank-taf .ensures)
-
 pub none-spec : {M : Type 1} → statement M
 none-spec =
     tie.close
     (tie.spec
-    (λ c κs. search needs) returns)
+    (λ c κs. search needs)
+    (λ c. rw (c .before .before .blank-taf .ensures)))

@@ -4,11 +4,9 @@ use borrow.Author.Needs.{needs}
 use Rattle.taf.proofs.word.begin.Statement.{statement}
 use Rattle.taf.proofs.word.begin.Tie as tie
 
-returns : tie.Need-returns
-returns c = rw (c .blank-instant2 .ensures, c .before .blank-instant .ensures)
-
 pub begin-spec : {M : Type 1} → statement M
 begin-spec =
     tie.close
     (tie.spec
-    (λ c κs. search needs) (λ c κs. search needs) returns)
+    (λ c κs. search needs) (λ c κs. search needs)
+    (λ c. rw (c .blank-instant2 .ensures, c .before .blank-instant .ensures)))

@@ -4,11 +4,9 @@ use borrow.Author.Needs.{needs}
 use Rattle.taf.proofs.word.begin_from.Statement.{statement}
 use Rattle.taf.proofs.word.begin_from.Tie as tie
 
-returns : tie.Need-returns
-returns c = rw (c .blank-instant .ensures)
-
 pub begin-from-spec : {M : Type 1} → statement M
 begin-from-spec =
     tie.close
     (tie.spec
-    (λ c κs. search needs) returns)
+    (λ c κs. search needs)
+    (λ c. rw (c .blank-instant .ensures)))
