@@ -50,11 +50,12 @@ pub says-nothing : (n : Needs) (i : ℕ) (g : Group) → Others 0 10 i → Says 
 unfolding withSaid
 says-nothing n i g others = λ m s. ap (λ (p : Place Surface). p .read m g s) (List·getD-eq-default (row n) nowhere (rw (row-length n) (beyond 0 10 i zero-le others)))
 
--- what is read at a place, where the group is refused and where it is not
+-- what is read at a place, where the group is refused and (below) where it is not
 pub said-bad : (n : Needs) (i k : ℕ) (g : Group) (s : Surface) {x : Said} {f : Refusal} → Says n i g x → x ≡ said.Refused f → placeAt (row n) i .read k g s ≡ Bad f
 unfolding withSaid
 said-bad n i k g s says e = says k s ∙ rw e
 
+-- whatever is no refusal is added
 abbrev pub right : List ℕ
 right = 1 ∷ 2 ∷ 3 ∷ 4 ∷ 5 ∷ 6 ∷ 7 ∷ 8 ∷ 9 ∷ 10 ∷ 11 ∷ 12 ∷ 13 ∷ 14 ∷ 15 ∷ []
 
