@@ -24,8 +24,8 @@ use scales::metres::runway_reading;
 use scales::pressure::pressure_reading;
 use shapes::kinds::Scan;
 use shapes::kinds::Value;
+use shapes::scan::absent;
 use shapes::scan::figures_or;
-use shapes::scan::none;
 use shapes::scan::nothing;
 use shapes::scan::scanned;
 use shapes::scan::word_or;
@@ -77,7 +77,7 @@ pub fn read_time(g: &[u8]) -> InstantRead
 fn scan_runway(g: &[u8]) -> Scan
     ensures { λ r. ⌜ r ≡ scanOf runwayShape (now (g .entry)) ⌝ }
 {
-    let none = none(g);
+    let none = absent(g);
     let number = figures_or(g, 0, 0, b"R##", 1, 2, none);
     let at = number.past;
     let no_side = nothing(3, at);
@@ -226,7 +226,7 @@ pub fn add_runway(k: usize, rs: Runways, x: Runway) -> Runways
 fn scan_temperatures(g: &[u8]) -> Scan
     ensures { λ r. ⌜ r ≡ scanOf temperaturesShape (now (g .entry)) ⌝ }
 {
-    let none = none(g);
+    let none = absent(g);
     let plus = nothing(1, 0);
     let air_sign = word_or(g, 0, 0, b"M", plus);
     let air = figures_or(g, air_sign.past, 0, b"##", 0, 2, none);

@@ -15,7 +15,7 @@ ghost use Rattle.figures.specs.declared.kinds.Field.the-variants.{Other};
 ghost use Rattle.shapes.specs.Shape.{begins, blankValue, stepTo, scanEnd, padded};
 
 // The group begins with bytes that fit the pattern.
-pub fn begins_with(g: &[u8], pattern: &[u8]) -> bool
+fn begins_with(g: &[u8], pattern: &[u8]) -> bool
     ensures { λ r. ⌜ r ≡ begins (now (pattern .entry)) (now (g .entry)) ⌝ }
 {
     let mut i = 0;
@@ -32,8 +32,8 @@ pub fn begins_with(g: &[u8], pattern: &[u8]) -> bool
     true
 }
 
-// What stands from a position on.
-fn rest_from(g: &[u8], at: usize) -> &[u8]
+// What stands from a position on; nothing past the end.
+pub fn rest_from(g: &[u8], at: usize) -> &[u8]
     ensures { λ r. ⌜ now r ≡ drop at (now (g .entry)) ⌝ }
 {
     if at < g.len() {
@@ -44,7 +44,7 @@ fn rest_from(g: &[u8], at: usize) -> &[u8]
 }
 
 // None of a part's alternatives is there.
-pub fn none(g: &[u8]) -> Step
+pub fn absent(g: &[u8]) -> Step
     ensures { λ r. ⌜ r ≡ stepTo 0 Other (length (now (g .entry)) + 1) ⌝ }
 {
     nothing(0, g.len() + 1)

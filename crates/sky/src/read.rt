@@ -15,8 +15,8 @@ use scales::metres::cloud_reading;
 use shapes::has_pattern;
 use shapes::kinds::Scan;
 use shapes::kinds::Value;
+use shapes::scan::absent;
 use shapes::scan::figures_or;
-use shapes::scan::none;
 use shapes::scan::nothing;
 use shapes::scan::scanned;
 use shapes::scan::word_or;
@@ -42,7 +42,7 @@ enum HeightRead {
 fn scan_layer(g: &[u8]) -> Scan
     ensures { λ r. ⌜ r ≡ scanOf layerShape (now (g .entry)) ⌝ }
 {
-    let none = none(g);
+    let none = absent(g);
     let overcast = word_or(g, 0, 3, b"OVC", none);
     let broken = word_or(g, 0, 2, b"BKN", overcast);
     let scattered = word_or(g, 0, 1, b"SCT", broken);

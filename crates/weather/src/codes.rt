@@ -3,23 +3,12 @@
 use figures::byte_at;
 use record::aerodrome::Code;
 use record::aerodrome::Intensity;
+use shapes::scan::rest_from;
 ghost use mathlib.Core.Path.{_≡_};
 ghost use mathlib.Core.Bool.{_&&_};
 ghost use mathlib.Core.List.{_∷_, []};
-ghost use lib.ListN.{drop};
 ghost use Rattle.elements.specs.Weather.{codesOf, among, isDescriptor, allAmong, differ, precipitations, single, suits, under, right, inVicinity, signed, intensityFits, codeAt};
 ghost use Rattle.weather.specs.Split.{descriptorOf, codeLength};
-
-// What stands past the first n bytes.
-pub fn past(s: &[u8], n: usize) -> &[u8]
-    ensures { λ r. ⌜ now r ≡ drop n (now (s .entry)) ⌝ }
-{
-    if n < s.len() {
-        return &s[n..];
-    }
-    let end = s.len();
-    &s[end..]
-}
 
 // The code of these two letters is one of the codes.
 pub fn is_one(codes: &[u8], a: u8, b: u8) -> bool
@@ -56,7 +45,7 @@ fn all_differ(s: &[u8]) -> bool
 {
     let mut i = 0;
     while 2 <= s.len() - i {
-        if is_one(past(s, i + 2), s[i], s[i + 1]) {
+        if is_one(rest_from(s, i + 2), s[i], s[i + 1]) {
             return false;
         }
         i += 2;

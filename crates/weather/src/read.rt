@@ -4,7 +4,6 @@ use crate::codes::code_at;
 use crate::codes::code_length;
 use crate::codes::descriptor_of;
 use crate::codes::intensity_fits;
-use crate::codes::past;
 use elements::kinds::WeatherRead;
 use figures::byte_at;
 use record::aerodrome::Code;
@@ -13,6 +12,7 @@ use record::aerodrome::Phenomena;
 use record::aerodrome::Weather;
 use record::aerodrome::Weathers;
 use shapes::has_pattern;
+use shapes::scan::rest_from;
 use text::kinds::Refusal;
 ghost use mathlib.Core.Path.{_≡_};
 ghost use Rattle.elements.specs.Answers.{asWeather};
@@ -40,7 +40,7 @@ fn are_signed_codes(g: &[u8]) -> bool
 {
     let b = byte_at(g, 0);
     if (b == b'+') | (b == b'-') {
-        are_codes(past(g, 1))
+        are_codes(rest_from(g, 1))
     } else {
         are_codes(g)
     }
@@ -57,7 +57,7 @@ pub fn has_recent(g: &[u8]) -> bool
 {
     let r = byte_at(g, 0);
     let e = byte_at(g, 1);
-    (r == b'R') & (e == b'E') & are_signed_codes(past(g, 2))
+    (r == b'R') & (e == b'E') & are_signed_codes(rest_from(g, 2))
 }
 
 fn intensity_of(g: &[u8]) -> Intensity
@@ -93,7 +93,7 @@ fn tell(i: Intensity, s: &[u8]) -> WeatherRead
     ensures { λ r. ⌜ r ≡ asWeather (told i (codesOf (now (s .entry)))) ⌝ }
 {
     let d = descriptor_of(s);
-    let rest = past(s, code_length(d));
+    let rest = rest_from(s, code_length(d));
     if intensity_fits(i, d, rest) {
         let first = code_at(rest, 0);
         let second = code_at(rest, 1);
@@ -115,7 +115,7 @@ fn say_weather(g: &[u8]) -> WeatherRead
     ensures { λ r. ⌜ r ≡ asWeather (saidWeather (now (g .entry))) ⌝ }
 {
     let i = intensity_of(g);
-    tell(i, past(g, sign_length(i)))
+    tell(i, rest_from(g, sign_length(i)))
 }
 
 pub fn is_unknown(c: Code) -> bool
@@ -222,7 +222,7 @@ pub fn read_weather(forecast: bool, automatic: bool, g: &[u8]) -> WeatherRead
 pub fn read_recent(automatic: bool, g: &[u8]) -> WeatherRead
     ensures { λ r. ⌜ r ≡ asWeather (readRecent automatic (now (g .entry))) ⌝ }
 {
-    unless_unknown(automatic, only_plain(say_weather(past(g, 2))))
+    unless_unknown(automatic, only_plain(say_weather(rest_from(g, 2))))
 }
 
 // One more where k stand; past the third there is no room.

@@ -22,8 +22,8 @@ use scales::kinds::Reading;
 use shapes::has_pattern;
 use shapes::kinds::Scan;
 use shapes::kinds::Value;
+use shapes::scan::absent;
 use shapes::scan::figures_or;
-use shapes::scan::none;
 use shapes::scan::nothing;
 use shapes::scan::scanned;
 use shapes::scan::word_or;
@@ -41,14 +41,11 @@ ghost use Rattle.wind.specs.Parts.{asDirection, asFigures, asSpeed, wind
 
 // ---- wind
 
-// Direction, speed, gust and unit.
-pub const WIND_SHAPE: [u8; 35] = *b"###|VRB ###|## G###|G##| KT|MPS|KMH";
-
-// By code made for the shape.
+// Direction, speed, gust and unit: "###|VRB ###|## G###|G##| KT|MPS|KMH" by code made for it.
 fn scan_wind(g: &[u8]) -> Scan
     ensures { λ r. ⌜ r ≡ scanOf windShape (now (g .entry)) ⌝ }
 {
-    let none = none(g);
+    let none = absent(g);
     let variable = word_or(g, 0, 1, b"VRB", none);
     let direction = figures_or(g, 0, 0, b"###", 0, 3, variable);
     let at = direction.past;

@@ -1,7 +1,6 @@
 // How a wind, its variation and a visibility are written over a lent buffer, with what parts the group from the one before it. Every function
 // answers the position after its text. What a buffer has no room for is not written, so that a caller may judge the room afterwards.
 use crate::directions::degrees_text;
-use crate::read::WIND_SHAPE;
 use figures::kinds::Field;
 use figures::put::put_byte;
 use figures::put::put_number;
@@ -124,6 +123,8 @@ fn unit_value(u: Unit) -> Value
         },
     }
 }
+
+const WIND_SHAPE: [u8; 35] = *b"###|VRB ###|## G###|G##| KT|MPS|KMH";
 
 // dddffGff and unit
 pub fn put_wind(out: &mut [u8], at: usize, w: Wind) -> usize

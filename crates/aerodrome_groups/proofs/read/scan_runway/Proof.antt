@@ -2,7 +2,6 @@
 -- Assumes nothing.
 use borrow.Author.Needs.{needs}
 use mathlib.Core.Path.{refl}
-use mathlib.Core.List.{[], _∷_}
 use Rattle.shapes.specs.Shape.{leading, split, partsOf}
 use Rattle.shapes.proofs.Scans.{no-step, nothing-step, word-step, figures-step, scan-by-steps, end, _then_}
 use Rattle.aerodrome_groups.specs.Runway.{runwayShape}
@@ -38,10 +37,10 @@ scan-runway-spec =
     rw (c .scanned .ensures)
     (unfold leading split partsOf in
     scan-by-steps runwayShape g refl
-    (figures-step (no-step (none .none .ensures)) 1 2 refl refl (number .figures-or .ensures)
+    (figures-step (no-step (none .absent .ensures)) 1 2 refl refl (number .figures-or .ensures)
     then word-step (word-step (word-step (nothing-step (no-side .nothing .ensures)) refl (right .word-or .ensures)) refl (centre .word-or2 .ensures)) refl (side .word-or3 .ensures)
-    then word-step (no-step (none .none .ensures)) refl (stroke .word-or4 .ensures)
+    then word-step (no-step (none .absent .ensures)) refl (stroke .word-or4 .ensures)
     then word-step (word-step (nothing-step (exact .nothing2 .ensures)) refl (above .word-or5 .ensures)) refl (mark .word-or6 .ensures)
-    then figures-step (no-step (none .none .ensures)) 0 4 refl refl (range .figures-or2 .ensures)
+    then figures-step (no-step (none .absent .ensures)) 0 4 refl refl (range .figures-or2 .ensures)
     then word-step (word-step (word-step (nothing-step (no-course .nothing3 .ensures)) refl (no-change .word-or7 .ensures)) refl (down .word-or8 .ensures)) refl (course .word-or9 .ensures)
     then end))))

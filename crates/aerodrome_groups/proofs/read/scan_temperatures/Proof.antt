@@ -2,7 +2,6 @@
 -- Assumes nothing.
 use borrow.Author.Needs.{needs}
 use mathlib.Core.Path.{refl}
-use mathlib.Core.List.{[], _∷_}
 use Rattle.shapes.specs.Shape.{leading, split, partsOf}
 use Rattle.shapes.proofs.Scans.{no-step, nothing-step, word-step, figures-step, scan-by-steps, end, _then_}
 use Rattle.aerodrome_groups.specs.Temperatures.{temperaturesShape}
@@ -26,12 +25,12 @@ scan-temperatures-spec =
     let air-plus = air-sign .before .before in
     let none = air-plus .before in
     let g = none .before .before .args .g .now in
-    rw (c .scanned .ensures, none .none .ensures)
+    rw (c .scanned .ensures, none .absent .ensures)
     (unfold leading split partsOf in
     scan-by-steps temperaturesShape g refl
     (word-step (nothing-step (air-plus .nothing .ensures)) refl (air-sign .word-or .ensures)
-    then figures-step (no-step (none .none .ensures)) 0 2 refl refl (air .figures-or .ensures)
-    then word-step (no-step (none .none .ensures)) refl (stroke .word-or2 .ensures)
+    then figures-step (no-step (none .absent .ensures)) 0 2 refl refl (air .figures-or .ensures)
+    then word-step (no-step (none .absent .ensures)) refl (stroke .word-or2 .ensures)
     then word-step (nothing-step (dew-plus .nothing2 .ensures)) refl (dew-sign .word-or3 .ensures)
-    then figures-step (no-step (none .none .ensures)) 0 2 refl refl (dew .figures-or2 .ensures)
+    then figures-step (no-step (none .absent .ensures)) 0 2 refl refl (dew .figures-or2 .ensures)
     then end))))

@@ -2,7 +2,6 @@
 -- Assumes nothing.
 use borrow.Author.Needs.{needs}
 use mathlib.Core.Path.{refl}
-use mathlib.Core.List.{[], _∷_}
 use Rattle.shapes.specs.Shape.{leading, split, partsOf}
 use Rattle.shapes.proofs.Scans.{no-step, nothing-step, word-step, figures-step, scan-by-steps, end, _then_}
 use Rattle.elements.specs.Sky.{layerShape}
@@ -27,10 +26,10 @@ scan-layer-spec =
     let overcast = broken .before .before in
     let none = overcast .before .before in
     let g = none .before .before .args .g .now in
-    rw (c .scanned .ensures, none .none .ensures)
+    rw (c .scanned .ensures, none .absent .ensures)
     (unfold leading split partsOf in
     scan-by-steps layerShape g refl
-    (word-step (word-step (word-step (word-step (no-step (none .none .ensures)) refl (overcast .word-or .ensures)) refl (broken .word-or2 .ensures)) refl (scattered .word-or3 .ensures)) refl (amount .word-or4 .ensures)
-    then figures-step (no-step (none .none .ensures)) 0 3 refl refl (height .figures-or .ensures)
+    (word-step (word-step (word-step (word-step (no-step (none .absent .ensures)) refl (overcast .word-or .ensures)) refl (broken .word-or2 .ensures)) refl (scattered .word-or3 .ensures)) refl (amount .word-or4 .ensures)
+    then figures-step (no-step (none .absent .ensures)) 0 3 refl refl (height .figures-or .ensures)
     then word-step (word-step (nothing-step (neither .nothing .ensures)) refl (towering .word-or5 .ensures)) refl (convective .word-or6 .ensures)
     then end))))

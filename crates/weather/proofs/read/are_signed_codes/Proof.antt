@@ -12,5 +12,5 @@ are-signed-codes-spec =
     (λ c κs. tt)
     (λ c κs. tt)
     (λ c κs. tt)
-    (λ c. rw (signed-codes (c .before .before .before .before .before .args .g .now), ← c .before .before .before .byte-at .ensures, c .before .before .if1 .taken) (rw (c .before .past .ensures) at (c .are-codes .ensures)))
+    (λ c. rw (signed-codes (c .before .before .before .before .before .args .g .now), ← c .before .before .before .byte-at .ensures, c .before .before .if1 .taken) (rw (c .before .rest-from .ensures) at (c .are-codes .ensures)))
     (λ c. rw (signed-codes (c .before .before .before .before .args .g .now), ← c .before .before .byte-at .ensures, c .before .if1 .left) (c .are-codes2 .ensures)))

@@ -12,4 +12,4 @@ has-recent-spec =
     (λ c κs. tt)
     (λ c κs. tt)
     (λ c κs. tt)
-    (λ c. rw (recent-codes (c .before .before .before .before .before .args .g .now), ← c .before .before .before .byte-at .ensures, ← c .before .before .byte-at2 .ensures, ← c .before .past .ensures, ← c .are-signed-codes .ensures)))
+    (λ c. rw (recent-codes (c .before .before .before .before .before .args .g .now), ← c .before .before .before .byte-at .ensures, ← c .before .before .byte-at2 .ensures, ← c .before .rest-from .ensures, ← c .are-signed-codes .ensures)))

@@ -17,4 +17,4 @@ read-recent-spec =
     (λ c.
     let said = saidWeather (drop 2 (c .before .before .before .before .before .args .g .now)) in
     rw (recent-is (c .before .before .before .before .before .args .automatic) (c .before .before .before .before .before .args .g .now))
-    (rw (c .before .only-plain .ensures, c .before .before .say-weather .ensures, c .before .before .before .past .ensures, reading-of said, reading-of (onlyPlain said)) at (c .unless-unknown .ensures))))
+    (rw (c .before .only-plain .ensures, c .before .before .say-weather .ensures, c .before .before .before .rest-from .ensures, reading-of said, reading-of (onlyPlain said)) at (c .unless-unknown .ensures))))

@@ -12,4 +12,4 @@ say-weather-spec =
     (λ c κs. tt)
     (λ c κs. tt)
     (λ c κs. tt)
-    (λ c. rw (said-is (c .before .before .before .before .before .args .g .now), ← c .before .before .before .intensity-of .ensures, ← c .before .before .sign-length .ensures, ← c .before .past .ensures) (c .tell .ensures)))
+    (λ c. rw (said-is (c .before .before .before .before .before .args .g .now), ← c .before .before .before .intensity-of .ensures, ← c .before .before .sign-length .ensures, ← c .before .rest-from .ensures) (c .tell .ensures)))

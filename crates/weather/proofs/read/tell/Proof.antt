@@ -19,9 +19,9 @@ tell-spec =
     (λ c.
     let d = c .before .before .before .before .before in
     rw (c .before .before .code-at .ensures, c .before .code-at2 .ensures, c .code-at3 .ensures)
-    (told-good (c .before .before .before .before .before .before .before .before .before .args .i) (c .before .before .before .before .before .before .before .before .before .args .s .now) (d .before .before .descriptor-of .ensures) (rw (d .before .code-length .ensures) at (d .past .ensures))
+    (told-good (c .before .before .before .before .before .before .before .before .before .args .i) (c .before .before .before .before .before .before .before .before .before .args .s .now) (d .before .before .descriptor-of .ensures) (rw (d .before .code-length .ensures) at (d .rest-from .ensures))
     (sym (c .before .before .before .before .intensity-fits .ensures) ∙ c .before .before .before .if1 .taken)))
     (λ c.
     let d = c .before .before in
-    told-bad (c .before .before .before .before .before .before .args .i) (c .before .before .before .before .before .before .args .s .now) (d .before .before .descriptor-of .ensures) (rw (d .before .code-length .ensures) at (d .past .ensures))
+    told-bad (c .before .before .before .before .before .before .args .i) (c .before .before .before .before .before .before .args .s .now) (d .before .before .descriptor-of .ensures) (rw (d .before .code-length .ensures) at (d .rest-from .ensures))
     (sym (c .before .intensity-fits .ensures) ∙ c .if1 .left)))

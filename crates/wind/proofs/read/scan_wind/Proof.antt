@@ -2,7 +2,6 @@
 -- Assumes nothing.
 use borrow.Author.Needs.{needs}
 use mathlib.Core.Path.{refl}
-use mathlib.Core.List.{[], _∷_}
 use Rattle.shapes.specs.Shape.{leading, split, partsOf}
 use Rattle.shapes.proofs.Scans.{no-step, nothing-step, word-step, figures-step, scan-by-steps, end, _then_}
 use Rattle.elements.specs.Wind.{windShape}
@@ -30,11 +29,11 @@ scan-wind-spec =
     let variable = direction .before .before in
     let none = variable .before .before in
     let g = none .before .before .args .g .now in
-    rw (c .scanned .ensures, none .none .ensures)
+    rw (c .scanned .ensures, none .absent .ensures)
     (unfold leading split partsOf in
     scan-by-steps windShape g refl
-    (figures-step (word-step (no-step (none .none .ensures)) refl (variable .word-or .ensures)) 0 3 refl refl (direction .figures-or .ensures)
-    then figures-step (figures-step (no-step (none .none .ensures)) 0 2 refl refl (two-speed .figures-or2 .ensures)) 0 3 refl refl (speed .figures-or3 .ensures)
+    (figures-step (word-step (no-step (none .absent .ensures)) refl (variable .word-or .ensures)) 0 3 refl refl (direction .figures-or .ensures)
+    then figures-step (figures-step (no-step (none .absent .ensures)) 0 2 refl refl (two-speed .figures-or2 .ensures)) 0 3 refl refl (speed .figures-or3 .ensures)
     then figures-step (figures-step (nothing-step (steady .nothing .ensures)) 1 2 refl refl (two-gust .figures-or4 .ensures)) 1 3 refl refl (gust .figures-or5 .ensures)
-    then word-step (word-step (word-step (no-step (none .none .ensures)) refl (kilometres .word-or2 .ensures)) refl (metres .word-or3 .ensures)) refl (unit .word-or4 .ensures)
+    then word-step (word-step (word-step (no-step (none .absent .ensures)) refl (kilometres .word-or2 .ensures)) refl (metres .word-or3 .ensures)) refl (unit .word-or4 .ensures)
     then end))))
