@@ -1,7 +1,7 @@
 -- The laws that other crates use.
-pub mod Answers
 pub mod Readings
 pub mod HeadBack
+pub mod HeadKept
 pub mod Printed
 pub mod RunwayBack
 pub mod RunwaysBack

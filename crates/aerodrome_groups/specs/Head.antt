@@ -1,8 +1,10 @@
--- The station and the time, CCCC and YYGGggZ: "Days 01-31, minutes 00-59, .. others 00-23".
+-- The head's groups: a word that stands or does not (COR, NIL, AUTO, CNL), the station and the time, CCCC and YYGGggZ: "Days 01-31, minutes 00-59,
+-- .. others 00-23". Each is a place of its own, which the rows of METAR and TAF lift.
 -- Assumes nothing: these are definitions.
 use Prim.Native.Nat.{ℕ}
-use mathlib.Core.Bool.{Bool, true, false, _&&_}
-use mathlib.Core.List.{_++_}
+use Prim.Native.String.{String}
+use mathlib.Core.Bool.{Bool, true, false, cond, _&&_}
+use mathlib.Core.List.{[], _∷_, _++_}
 use lib.ListN.{length, take, replicate}
 use lib.Dec.{leb, eqb}
 use Rattle.figures.specs.Quote.{bytes}
@@ -11,8 +13,8 @@ use Rattle.figures.specs.declared.kinds.Field.the-variants as field
 use Rattle.figures.specs.Figures.{fieldAt, fieldText, isLetter, every}
 use Rattle.text.specs.declared.kinds.Judged.{Judged}
 use Rattle.text.specs.Judge.{judge}
-use Rattle.shapes.specs.Pattern.{Pattern}
-use Rattle.places.specs.Engine.{Group, Read, Good}
+use Rattle.shapes.specs.Pattern.{Pattern, hasPattern}
+use Rattle.places.specs.Engine.{Group, Read, Good, Place}
 use Rattle.record.specs.declared.values.Number.{Number}
 use Rattle.record.specs.declared.values.Number.the-variants as number
 use Rattle.record.specs.declared.aerodrome.Instant.{Instant}
@@ -62,3 +64,48 @@ judgeStation s = judge (eqb (length (s .letters)) 4 && every isLetter (s .letter
 
 unfoldable pub judgeTime : Instant → Judged
 judgeTime t = judge (present isDay (t .day) && present isHour (t .hour) && present isMinute (t .minute)) true
+
+-- ---- the places
+
+-- a word; whether it ends the report
+abbrev pub wordPlace : String → Bool → Place Bool
+wordPlace w ends =
+    record {
+      has = λ g. hasPattern g (bytes w);
+      cover = bytes w ∷ [];
+      spoken = bytes w ∷ [];
+      most = 1;
+      must = false;
+      ends = ends;
+      read = λ k g x. Good true;
+      show = λ x. cond x (bytes w ∷ []) [];
+      put = λ x acc. x;
+    }
+
+abbrev pub stationPlace : Place Station
+stationPlace =
+    record {
+      has = λ g. hasPattern g stationShape;
+      cover = stationShape ∷ [];
+      spoken = stationShape ∷ [];
+      most = 1;
+      must = true;
+      ends = false;
+      read = λ k g s. Good (stationOf g);
+      show = λ s. s .letters ∷ [];
+      put = λ s acc. s;
+    }
+
+abbrev pub timePlace : Place Instant
+timePlace =
+    record {
+      has = λ g. hasPattern g timeShape;
+      cover = timeShape ∷ [];
+      spoken = timeShape ∷ [];
+      most = 1;
+      must = true;
+      ends = false;
+      read = λ k g t. readTime g;
+      show = λ t. showTime t ∷ [];
+      put = λ t acc. t;
+    }

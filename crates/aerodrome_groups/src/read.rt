@@ -1,9 +1,6 @@
 // What a group says: the station, the time, a runway range, the temperatures and Q. A caller holds the group to its shape first; what has another
 // shape is refused as a wrong figure.
-use crate::kinds::InstantRead;
-use crate::kinds::QnhRead;
-use crate::kinds::RunwayRead;
-use crate::kinds::TemperaturesRead;
+use elements::kinds::Said;
 use figures::byte_at;
 use figures::field;
 use figures::kinds::Field;
@@ -34,7 +31,8 @@ ghost use mathlib.Core.Path.{_≡_};
 ghost use mathlib.Core.List.{_++_};
 ghost use lib.ListN.{take, replicate};
 ghost use Rattle.shapes.specs.Shape.{hasShape, scanOf};
-ghost use Rattle.aerodrome_groups.specs.Answers.{asInstant, asRange, asRunway, asDegrees, asTemperatures, asQnh};
+ghost use Rattle.elements.specs.Answers.{asInstant, asRunway, asTemperatures, asQnh};
+ghost use Rattle.aerodrome_groups.specs.Answers.{asRange, asDegrees};
 ghost use Rattle.aerodrome_groups.specs.Head.{stationOf, readTime};
 ghost use Rattle.aerodrome_groups.specs.Runway.{runwayShape, sideOf, courseOf, rangeOf, readRange, runwayBy, readRunway, withRunway};
 ghost use Rattle.aerodrome_groups.specs.Temperatures.{temperaturesShape, readDegrees, temperaturesBy, readTemperatures, readQnh};
@@ -48,26 +46,26 @@ pub fn station_of(g: &[u8]) -> Station
 }
 
 // YYGGggZ
-pub fn read_time(g: &[u8]) -> InstantRead
+pub fn read_time(g: &[u8]) -> Said
     ensures { λ r. ⌜ r ≡ asInstant (readTime (now (g .entry))) ⌝ }
 {
     let Field::Number(day) = field(g, 0, 2) else {
-        return InstantRead::Bad(Refusal::Figure);
+        return Said::Refused(Refusal::Figure);
     };
     let Field::Number(hour) = field(g, 2, 2) else {
-        return InstantRead::Bad(Refusal::Figure);
+        return Said::Refused(Refusal::Figure);
     };
     let Field::Number(minute) = field(g, 4, 2) else {
-        return InstantRead::Bad(Refusal::Figure);
+        return Said::Refused(Refusal::Figure);
     };
     if (1 <= day) & (day <= 31) & (hour <= 23) & (minute <= 59) {
-        InstantRead::Good(Instant {
+        Said::Time(Instant {
             day: Number::Is(day),
             hour: Number::Is(hour),
             minute: Number::Is(minute),
         })
     } else {
-        InstantRead::Bad(Refusal::Figure)
+        Said::Refused(Refusal::Figure)
     }
 }
 
@@ -169,12 +167,12 @@ fn read_range(mark: Value, f: Value) -> RangeRead
     }
 }
 
-fn runway_by(n: Value, s: Value, mark: Value, f: Value, c: Value) -> RunwayRead
+fn runway_by(n: Value, s: Value, mark: Value, f: Value, c: Value) -> Said
     ensures { λ r. ⌜ r ≡ asRunway (runwayBy n s mark f c) ⌝ }
 {
     let told = n.field;
     let Field::Number(k) = told else {
-        return RunwayRead::Bad(Refusal::Figure);
+        return Said::Refused(Refusal::Figure);
     };
     if (1 <= k) & (k <= 36) {
         let r = read_range(mark, f);
@@ -182,21 +180,21 @@ fn runway_by(n: Value, s: Value, mark: Value, f: Value, c: Value) -> RunwayRead
             RangeRead::Good(range) => {
                 let side = side_of(s.which);
                 let course = course_of(c.which);
-                RunwayRead::Good(Runway {
+                Said::Runway(Runway {
                     number: Number::Is(k),
                     side,
                     range,
                     course,
                 })
             }
-            RangeRead::Bad(refusal) => RunwayRead::Bad(refusal),
+            RangeRead::Bad(refusal) => Said::Refused(refusal),
         }
     } else {
-        RunwayRead::Bad(Refusal::Figure)
+        Said::Refused(Refusal::Figure)
     }
 }
 
-pub fn read_runway(g: &[u8]) -> RunwayRead
+pub fn read_runway(g: &[u8]) -> Said
     ensures { λ r. ⌜ r ≡ asRunway (readRunway (now (g .entry))) ⌝ }
 {
     let s = scan_runway(g);
@@ -276,7 +274,7 @@ fn read_degrees(mark: Value, f: Value) -> DegreesRead
     }
 }
 
-fn temperatures_by(m: Value, a: Value, n: Value, b: Value) -> TemperaturesRead
+fn temperatures_by(m: Value, a: Value, n: Value, b: Value) -> Said
     ensures { λ r. ⌜ r ≡ asTemperatures (temperaturesBy m a n b) ⌝ }
 {
     let x = read_degrees(m, a);
@@ -284,16 +282,16 @@ fn temperatures_by(m: Value, a: Value, n: Value, b: Value) -> TemperaturesRead
         DegreesRead::Good(air) => {
             let y = read_degrees(n, b);
             match y {
-                DegreesRead::Good(dew) => TemperaturesRead::Good(Temperatures { air, dew }),
-                DegreesRead::Bad(refusal) => TemperaturesRead::Bad(refusal),
+                DegreesRead::Good(dew) => Said::Temperatures(Temperatures { air, dew }),
+                DegreesRead::Bad(refusal) => Said::Refused(refusal),
             }
         }
-        DegreesRead::Bad(refusal) => TemperaturesRead::Bad(refusal),
+        DegreesRead::Bad(refusal) => Said::Refused(refusal),
     }
 }
 
 // T/Td
-pub fn read_temperatures(g: &[u8]) -> TemperaturesRead
+pub fn read_temperatures(g: &[u8]) -> Said
     ensures { λ r. ⌜ r ≡ asTemperatures (readTemperatures (now (g .entry))) ⌝ }
 {
     let s = scan_temperatures(g);
@@ -302,7 +300,7 @@ pub fn read_temperatures(g: &[u8]) -> TemperaturesRead
 }
 
 // Q
-pub fn read_qnh(g: &[u8]) -> QnhRead
+pub fn read_qnh(g: &[u8]) -> Said
     ensures { λ r. ⌜ r ≡ asQnh (readQnh (now (g .entry))) ⌝ }
 {
     let f = field(g, 1, 4);
@@ -310,14 +308,14 @@ pub fn read_qnh(g: &[u8]) -> QnhRead
         Field::Number(n) => {
             let r = pressure_reading(n);
             match r {
-                Reading::Is(p) => QnhRead::Good(Qnh { is: Number::Is(p) }),
-                Reading::Unused => QnhRead::Bad(Refusal::Figure),
+                Reading::Is(p) => Said::Qnh(Qnh { is: Number::Is(p) }),
+                Reading::Unused => Said::Refused(Refusal::Figure),
             }
         }
-        Field::Missing => QnhRead::Good(Qnh {
+        Field::Missing => Said::Qnh(Qnh {
             is: Number::Missing,
         }),
-        Field::Mixed => QnhRead::Bad(Refusal::Figure),
-        Field::Other => QnhRead::Bad(Refusal::Figure),
+        Field::Mixed => Said::Refused(Refusal::Figure),
+        Field::Other => Said::Refused(Refusal::Figure),
     }
 }

@@ -5,3 +5,4 @@ pub mod Visibility
 pub mod Weather
 pub mod Sky
 pub mod Answers
+pub mod Body

@@ -1,27 +1,42 @@
-// What an element's group is read as: the value, or the group's refusal, 5 or 7.
+// What a group of METAR, SPECI or TAF says, and what parts of one are read as on the way: the value, or the group's refusal, 5 or 7.
+use record::aerodrome::Correction;
 use record::aerodrome::Cover;
+use record::aerodrome::Instant;
 use record::aerodrome::Layer;
-use record::aerodrome::Sky;
+use record::aerodrome::Period;
+use record::aerodrome::Qnh;
+use record::aerodrome::Runway;
+use record::aerodrome::Temperatures;
 use record::aerodrome::Variation;
 use record::aerodrome::Visibility;
 use record::aerodrome::Weather;
 use record::aerodrome::Wind;
-use text::kinds::Judged;
 use text::kinds::Refusal;
 
-pub enum WindRead {
-    Good(Wind),
-    Bad(Refusal),
-}
-
-pub enum VariationRead {
-    Good(Variation),
-    Bad(Refusal),
-}
-
-pub enum VisibilityRead {
-    Good(Visibility),
-    Bad(Refusal),
+// What one group says, to be put into the record afterwards. The station's letters are taken from the group itself.
+pub enum Said {
+    Special(bool),
+    Corrected,
+    Correction(Correction),
+    Station,
+    Time(Instant),
+    Nil,
+    Automatic,
+    Period(Period),
+    Cancelled,
+    Wind(Wind),
+    Variation(Variation),
+    Visibility(Visibility),
+    Runway(Runway),
+    Weather(Weather),
+    Nsw,
+    Layer(Layer),
+    Cover(Cover),
+    Temperatures(Temperatures),
+    Qnh(Qnh),
+    Recent(Weather),
+    Nothing,
+    Refused(Refusal),
 }
 
 pub enum WeatherRead {
@@ -37,10 +52,4 @@ pub enum LayerRead {
 pub enum CoverRead {
     Good(Cover),
     Bad(Refusal),
-}
-
-// A sky with one group more, or as it was beside the group's refusal.
-pub struct SkyRead {
-    pub judged: Judged,
-    pub sky: Sky,
 }

@@ -1,47 +1,44 @@
--- The laws of reading a METAR: what a group adds to the record, and the name at the row's first place.
+-- The laws of reading a METAR: what a group says goes into the record as its place reads it, and the name at the row's first place.
 -- Assumes nothing.
 use Prim.Native.Nat.{ℕ, _≤_}
 use native.Mathlib.Omega.{arith}
 use mathlib.Core.Path.{_≡_, refl, sym, ap, _∙_}
-use mathlib.Core.Bool.{Bool, true, false, not, cond}
+use mathlib.Core.Bool.{Bool, true, false, cond, false≢true}
 use mathlib.Core.List.{List, [], _∷_}
 use lib.ListN.{length, List·getD-eq-default}
+use types.Run.{OneOf, miss}
+use denote.Enum.Declared.{tagOf}
 use Rattle.text.specs.declared.kinds.Refusal.{Refusal}
 use Rattle.text.specs.declared.kinds.Refusal.the-variants as refusal
 use Rattle.text.specs.declared.kinds.Tail.{Tail}
-use Rattle.text.specs.declared.kinds.Judged.the-variants as fine
 use Rattle.text.specs.Groups.{Piece}
 use Rattle.figures.specs.Quote.{bytes}
-use Rattle.figures.proofs.Impossible.{impossible}
 use Rattle.shapes.specs.Pattern.{low, high, fits, hasPattern, hasAny, clash, clashEach, allApart}
 use Rattle.shapes.proofs.Patterns.{or-right, excluded, all-excluded}
-use Rattle.places.specs.Engine.{Group, Read, Good, Bad, Place, nowhere, placeAt, On, step, run}
+use Rattle.places.specs.Engine.{Group, Read, Good, Bad, then, Place, nowhere, placeAt, On, step, run}
 use Rattle.places.proofs.ReadBack.{two-patterns}
 use Rattle.places.proofs.Going.{step-first}
 use Rattle.places.proofs.Loop.{atMost}
-use Rattle.record.specs.declared.aerodrome.Weather.{Weather}
+use Rattle.record.specs.declared.aerodrome.Body.{Body}
 use Rattle.record.specs.declared.aerodrome.Metar.{Metar}
-use Rattle.record.specs.Metar.{blankMetar, setSpecial}
-use Rattle.elements.specs.Parts.{agreeing}
-use Rattle.elements.specs.Visibility.{isCavok}
-use Rattle.metar.specs.declared.kinds.Told.{Told}
-use Rattle.metar_row.specs.Row.{onto, besideCavok, isName, row, stopWords}
-use Rattle.metar.specs.Step.{toldOf}
+use Rattle.record.specs.Metar.{blankMetar, setSpecial, setTime, setBody, setVariation, setRunways, setTemperatures, setQnh, setRecents}
+use Rattle.elements.specs.declared.kinds.Said.{Said}
+use Rattle.elements.specs.declared.kinds.Said.the-variants as said
+use Rattle.elements.proofs.kinds.Said as says
+use Rattle.elements.specs.Wind.{readVariation}
+use Rattle.elements.specs.Weather.{readRecent, withWeather}
+use Rattle.elements.specs.Answers.{asSaid}
+use Rattle.aerodrome_groups.specs.Head.{readTime}
+use Rattle.aerodrome_groups.specs.Runway.{readRunway, withRunway}
+use Rattle.aerodrome_groups.specs.Temperatures.{readTemperatures, readQnh}
+use Rattle.elements.proofs.Answers.{said-put}
+use Rattle.elements.specs.Body.{bodyRow}
+use Rattle.body.specs.Said.{unlessRefused, putSaid, withSaid, isOfBody}
+use Rattle.body.specs.Said.{Says as BodySays}
+use Rattle.body.proofs.Says.{said-fine, not-refused, unless-then, tag-in}
+use Rattle.metar_row.specs.Row.{isName, observed, row, stopWords}
+use Rattle.metar.specs.Said.{ontoBody, reportSaid, Says}
 use Rattle.metar.specs.Read.{groupsRead, behindName}
-
--- ---- what a group adds
-
--- what a group is read as goes into the record
-pub took : {A : Type 0} (r : Metar) (f : A → Metar → Metar) {x y : Read A} → x ≡ y → toldOf r (onto y f r) ≡ toldOf r (onto x f r)
-took r f e = rw e
-
--- weather beside CAVOK, or not beside it
-pub beside : (r : Metar) (f : Weather → Metar → Metar) (w : Weather) {x : Read Weather} (b : Bool) → x ≡ Good w → isCavok (r .visibility) ≡ b
-    → toldOf r (onto (agreeing (not b) (Good w)) f r) ≡ toldOf r (onto (besideCavok r x) f r)
-beside r f w b e c = rw (e, c)
-
-pub beside-bad : (r : Metar) (f : Weather → Metar → Metar) {x y : Read Weather} → x ≡ y → toldOf r (onto (besideCavok r y) f r) ≡ toldOf r (onto (besideCavok r x) f r)
-beside-bad r f e = rw e
 
 -- ---- the row
 
@@ -49,27 +46,144 @@ pub row-length : length row ≡ 15
 unfolding row
 row-length = refl
 
+-- ---- what a group says
+
 -- a place by its number
-pub read-place : (r : Metar) (g : Group) (k : ℕ) {i : ℕ} (j : ℕ) {t : Told} → i ≡ j → t ≡ toldOf r (placeAt row j .read k g r) → t ≡ toldOf r (placeAt row i .read k g r)
-read-place r g k j p e = rw p e
+pub says-at : (j k : ℕ) (g : Group) (automatic : Bool) (b : Body) {i : ℕ} {x y : Said} → i ≡ j → x ≡ y → Says j k g automatic b y → Says i k g automatic b x
+says-at j k g automatic b p q s = rw (p, q) s
+
+-- what a group is read as, where it says one value that goes into one part of the record
+pub says-read : {A : Type 0} (i k : ℕ) (g : Group) (automatic : Bool) (b : Body) (makes : A → Said) (put : A → Metar → Metar) (x : Read A)
+    → ((r : Metar) (a : A) → unlessRefused (makes a) (reportSaid k g (makes a) r) ≡ Good (put a r))
+    → ((r : Metar) → r .automatic ≡ automatic → placeAt row i .read k g r ≡ then x (λ a. Good (put a r))) → Says i k g automatic b (asSaid makes x)
+says-read i k g automatic b makes put x good reads r same at =
+    said-put makes (λ y. unlessRefused y (reportSaid k g y r)) (λ a. put a r) (good r) (λ f. refl) x ∙ sym (reads r same)
+
+-- what is none of these is of the body
+abbrev elsewhere : List ℕ
+elsewhere = 2 ∷ 7 ∷ 8 ∷ 9 ∷ 11 ∷ 13 ∷ 14 ∷ 15 ∷ 16 ∷ 20 ∷ 21 ∷ []
+
+pub others : (k : ℕ) (g : Group) (x : Said) → OneOf elsewhere (tagOf says.the-type x) → (r : Metar) → ontoBody k x r ≡ reportSaid k g x r
+unfolding reportSaid
+others k g (said.Special x) told r = absurd (miss elsewhere 0 tt told)
+others k g said.Corrected told r = absurd (miss elsewhere 1 tt told)
+others k g (said.Correction x) told r = refl
+others k g said.Station told r = absurd (miss elsewhere 3 tt told)
+others k g (said.Time x) told r = absurd (miss elsewhere 4 tt told)
+others k g said.Nil told r = absurd (miss elsewhere 5 tt told)
+others k g said.Automatic told r = absurd (miss elsewhere 6 tt told)
+others k g (said.Period x) told r = refl
+others k g said.Cancelled told r = refl
+others k g (said.Wind x) told r = refl
+others k g (said.Variation x) told r = absurd (miss elsewhere 10 tt told)
+others k g (said.Visibility x) told r = refl
+others k g (said.Runway x) told r = absurd (miss elsewhere 12 tt told)
+others k g (said.Weather x) told r = refl
+others k g said.Nsw told r = refl
+others k g (said.Layer x) told r = refl
+others k g (said.Cover x) told r = refl
+others k g (said.Temperatures x) told r = absurd (miss elsewhere 17 tt told)
+others k g (said.Qnh x) told r = absurd (miss elsewhere 18 tt told)
+others k g (said.Recent x) told r = absurd (miss elsewhere 19 tt told)
+others k g said.Nothing told r = refl
+others k g (said.Refused f) told r = refl
+
+-- what a group of the body says
+by-same : (F : Bool → Body → Type 0) {a c : Bool} {b d : Body} → c ≡ a → d ≡ b → F a b → F c d
+by-same F p q h = rw (p, q) h
+
+of-body : (k : ℕ) (g : Group) (x : Said) (r : Metar) → isOfBody x ≡ true → unlessRefused x (reportSaid k g x r) ≡ then (withSaid k x (r .body)) (λ b. Good (setBody b r))
+of-body k g x r own = rw (← others k g x (tag-in elsewhere tt tt tt tt tt tt tt x own) r) (unless-then (λ b. setBody b r) (putSaid k x (r .body)) x)
+
+pub says-body : (i j k : ℕ) (g : Group) (automatic : Bool) (b : Body) {x : Said} → BodySays false false automatic j k g b x
+    → ((r : Metar) → placeAt row i .read k g r ≡ then (placeAt (bodyRow (observed r)) j .read k g (r .body)) (λ b. Good (setBody b r))) → Says i k g automatic b x
+says-body i j k g automatic b {x} s reads r same at =
+    let e = by-same (λ a b. withSaid k x b ≡ placeAt (bodyRow (record { forecast = false; required = true; nsw = false; automatic = a; silent = r .nil })) j .read k g b)
+    same at (s .puts true (r .nil)) in
+    of-body k g x r (s .own) ∙ ap (λ (y : Read Body). then y (λ b. Good (setBody b r))) e ∙ sym (reads r)
+
+-- place by place
+module _ (k : ℕ) (g : Group) (automatic : Bool) (b : Body) where
+  pub says-special : Says 0 k g automatic b (said.Special (hasPattern g (bytes "SPECI")))
+  unfolding row reportSaid
+  says-special r same at = refl
+
+  pub says-corrected : Says 1 k g automatic b said.Corrected
+  unfolding row reportSaid
+  says-corrected r same at = refl
+
+  pub says-station : Says 2 k g automatic b said.Station
+  unfolding row reportSaid
+  says-station r same at = refl
+
+  pub says-time : Says 3 k g automatic b (asSaid said.Time (readTime g))
+  unfolding row reportSaid
+  says-time = says-read 3 k g automatic b said.Time setTime (readTime g) (λ r a. refl) (λ r same. refl)
+
+  pub says-nil : Says 4 k g automatic b said.Nil
+  unfolding row reportSaid
+  says-nil r same at = refl
+
+  pub says-automatic : Says 5 k g automatic b said.Automatic
+  unfolding row reportSaid
+  says-automatic r same at = refl
+
+  pub says-wind : {x : Said} → BodySays false false automatic 0 k g b x → Says 6 k g automatic b x
+  unfolding row
+  says-wind s = says-body 6 0 k g automatic b s (λ r. refl)
+
+  pub says-variation : Says 7 k g automatic b (asSaid said.Variation (readVariation g))
+  unfolding row reportSaid
+  says-variation = says-read 7 k g automatic b said.Variation setVariation (readVariation g) (λ r a. refl) (λ r same. refl)
+
+  pub says-visibility : {x : Said} → BodySays false false automatic 1 k g b x → Says 8 k g automatic b x
+  unfolding row
+  says-visibility s = says-body 8 1 k g automatic b s (λ r. refl)
+
+  pub says-runway : Says 9 k g automatic b (asSaid said.Runway (readRunway g))
+  unfolding row reportSaid
+  says-runway = says-read 9 k g automatic b said.Runway (λ x r. setRunways (withRunway k (r .runways) x) r) (readRunway g) (λ r a. refl) (λ r same. refl)
+
+  pub says-weather : {x : Said} → BodySays false false automatic 2 k g b x → Says 10 k g automatic b x
+  unfolding row
+  says-weather s = says-body 10 2 k g automatic b s (λ r. refl)
+
+  pub says-sky : {x : Said} → BodySays false false automatic 3 k g b x → Says 11 k g automatic b x
+  unfolding row
+  says-sky s = says-body 11 3 k g automatic b s (λ r. refl)
+
+  pub says-temperatures : Says 12 k g automatic b (asSaid said.Temperatures (readTemperatures g))
+  unfolding row reportSaid
+  says-temperatures = says-read 12 k g automatic b said.Temperatures setTemperatures (readTemperatures g) (λ r a. refl) (λ r same. refl)
+
+  pub says-qnh : Says 13 k g automatic b (asSaid said.Qnh (readQnh g))
+  unfolding row reportSaid
+  says-qnh = says-read 13 k g automatic b said.Qnh setQnh (readQnh g) (λ r a. refl) (λ r same. refl)
+
+  pub says-recent : Says 14 k g automatic b (asSaid said.Recent (readRecent automatic g))
+  unfolding row reportSaid
+  says-recent = says-read 14 k g automatic b said.Recent (λ x r. setRecents (withWeather k (r .recents) x) r) (readRecent automatic g) (λ r a. refl) (λ r same. rw same)
 
 -- past the row no group is taken
-pub read-nowhere : (r : Metar) (g : Group) (k i : ℕ) → 15 ≤ i → toldOf r (Bad refusal.Shape) ≡ toldOf r (placeAt row i .read k g r)
-read-nowhere r g k i h = ap (λ (p : Place Metar). toldOf r (p .read k g r)) (sym (List·getD-eq-default row nowhere (rw row-length h)))
+pub says-nothing : (i k : ℕ) (g : Group) (automatic : Bool) (b : Body) → 15 ≤ i → Says i k g automatic b (said.Refused refusal.Shape)
+says-nothing i k g automatic b h r same at = ap (λ (p : Place Metar). p .read k g r) (sym (List·getD-eq-default row nowhere (rw row-length h)))
 
 -- no place has more than four groups
 pub row-few : atMost 4 row ≡ true
 unfolding row
 row-few = refl
 
--- what is told at a place is what the place reads
-pub told-good : (r : Metar) (y : Read Metar) {x : Told} → x ≡ toldOf r y → x .judged ≡ fine.Fine → y ≡ Good (x .report)
-told-good r (Good a) e q = rw e
-told-good r (Bad f) e q = impossible (cc)
+-- what is said at a place is what the place reads: a refusal, or the record with it
+pub said-bad : (i k : ℕ) (g : Group) (r : Metar) {x : Said} {f : Refusal} → Says i k g (r .automatic) (r .body) x → x ≡ said.Refused f → placeAt row i .read k g r ≡ Bad f
+said-bad i k g r s is = sym (rw is at (s r refl refl))
 
-pub told-bad : (r : Metar) (y : Read Metar) {x : Told} {f : Refusal} → x ≡ toldOf r y → x .judged ≡ fine.Refused f → y ≡ Bad f
-told-bad r (Good a) e q = impossible (cc)
-told-bad r (Bad h) {f} e q = let same : h ≡ f = cc in rw same
+pub said-good : (i k : ℕ) (g : Group) (r : Metar) (x : Said) {a : Metar} → Says i k g (r .automatic) (r .body) x → OneOf said-fine (tagOf says.the-type x)
+    → a ≡ reportSaid k g x r → placeAt row i .read k g r ≡ Good a
+said-good i k g r x s fine is = rw is (sym (s r refl refl) ∙ not-refused (reportSaid k g x r) x fine)
+
+-- by what the group was found to say
+pub put-by : (k : ℕ) (g : Group) (r : Metar) {x y : Said} → x ≡ y → reportSaid k g y r ≡ reportSaid k g x r
+put-by k g r q = rw q
 
 -- ---- the name, at the row's first place
 

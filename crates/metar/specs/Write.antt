@@ -12,37 +12,38 @@ use Rattle.text.specs.Groups.{join}
 use Rattle.places.specs.Engine.{written, putAll}
 use Rattle.record.specs.declared.aerodrome.Metar.{Metar}
 use Rattle.record.specs.Metar.{blankMetar}
-use Rattle.record.specs.SilentAerodrome.{noBody}
-use Rattle.elements.specs.Wind.{judgeWind, judgeVariation}
-use Rattle.elements.specs.Visibility.{isCavok, judgeVisibility}
-use Rattle.elements.specs.Weather.{judgeWeather, judgeRecent, judgeWeathers}
-use Rattle.elements.specs.Sky.{judgeSky}
+use Rattle.record.specs.SilentAerodrome.{noObservation}
+use Rattle.elements.specs.Wind.{judgeVariation}
+use Rattle.elements.specs.Weather.{judgeRecent, judgeWeathers}
+use Rattle.elements.specs.Body.{windJudged, visibilityJudged, weatherJudged, skyJudged}
 use Rattle.aerodrome_groups.specs.Head.{judgeStation, judgeTime}
 use Rattle.aerodrome_groups.specs.Runway.{judgeRunways}
 use Rattle.aerodrome_groups.specs.Temperatures.{judgeTemperatures, judgeQnh}
-use Rattle.metar_row.specs.Row.{row}
+use Rattle.metar_row.specs.Row.{observed, row}
 
--- ---- foreign fields: a NIL report has nothing after its time
+-- ---- foreign fields: NSW, and in a NIL report what stands after its time
+
+abbrev pub foreignBlank : Metar → Bool
+foreignBlank r = not (r .body .nsw) && (not (r .nil) || noObservation r)
+
+-- ---- "The writer judges foreign fields first, then the others in written order, 11 before 7 at each"
 
 unfoldable pub judgeHead : Metar → Judged
 judgeHead r = andThen (judgeStation (r .station)) (judgeTime (r .time))
 
--- ---- "The writer judges foreign fields first, then the others in written order, 11 before 7 at each"
-
-unfoldable pub judgeBody : Metar → Judged
-judgeBody r =
-    andThen (judgeWind false (r .wind))
+unfoldable pub judgeObservation : Metar → Judged
+judgeObservation r =
+    andThen (windJudged (observed r) (r .body))
     (andThen (judgeVariation (r .variation))
-    (andThen (judgeVisibility false (r .visibility))
+    (andThen (visibilityJudged (observed r) (r .body))
     (andThen (judgeRunways (r .runways))
-    (andThen (judgeWeathers (judgeWeather false (r .automatic) (isCavok (r .visibility))) (r .weathers))
-    (andThen (judgeSky false (isCavok (r .visibility)) (r .sky))
+    (andThen (weatherJudged (observed r) (r .body))
+    (andThen (skyJudged (observed r) (r .body))
     (andThen (judgeTemperatures (r .temperatures))
     (andThen (judgeQnh (r .qnh)) (judgeWeathers (judgeRecent (r .automatic)) (r .recents)))))))))
 
 unfoldable pub judgeOf : Metar → Judged
-judgeOf r =
-    andThen (judge (not (r .nil) || noBody r) true) (andThen (judgeHead r) (cond (r .nil) judged.Fine (judgeBody r)))
+judgeOf r = andThen (judge (foreignBlank r) true) (andThen (judgeHead r) (cond (r .nil) judged.Fine (judgeObservation r)))
 
 unfoldable pub canonicalOf : Metar → List ℕ
 canonicalOf r = join (written row r)

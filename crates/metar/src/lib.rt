@@ -3,4 +3,3 @@ pub mod answer;
 pub mod kinds;
 pub mod read;
 pub mod step;
-pub mod take;

@@ -2,14 +2,15 @@
 use crate::answer;
 use crate::kinds::Reading;
 use crate::step::decide;
-use crate::step::read_at;
+use crate::step::say_at;
+use crate::step::with_said;
+use elements::kinds::Said;
 use metar_row::go_past;
 use metar_row::musts;
 use places::kinds::Turn;
 use record::aerodrome::Metar;
 use record::blank_aerodrome::blank_metar;
 use text::kinds::Cut;
-use text::kinds::Judged;
 use text::kinds::Refusal;
 use text::kinds::Tail;
 ghost use mathlib.Core.Path.{_≡_};
@@ -66,12 +67,11 @@ pub fn read_from(text: &[u8], at: usize, special: bool) -> Reading
                 place: there,
                 count: standing,
             } => {
-                let told = read_at(there, standing, g, report);
-                let judged = told.judged;
-                if let Judged::Refused(refusal) = judged {
+                let said = say_at(there, standing, g, report.automatic, report.body);
+                if let Said::Refused(refusal) = said {
                     return answer::refuse(refusal, start);
                 }
-                report = told.report;
+                report = with_said(said, standing, g, report);
                 place = go_past(there);
                 count = standing + 1;
                 from = end;

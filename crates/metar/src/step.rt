@@ -1,111 +1,33 @@
-// One group: where it goes in the row of places, which the record has no part in, and what it adds to the record there.
-use crate::kinds::Told;
-use crate::take;
+// One group: where it goes in the row of places, which the record has no part in, what it says there, and the record with it.
+use aerodrome_groups::read::add_runway;
+use aerodrome_groups::read::read_qnh;
+use aerodrome_groups::read::read_runway;
+use aerodrome_groups::read::read_temperatures;
+use aerodrome_groups::read::read_time;
 use aerodrome_groups::read::station_of;
+use body::read::put;
+use body::read::say;
+use elements::kinds::Said;
+use elements::kinds::WeatherRead;
 use metar_row::find;
 use metar_row::is_stop_word;
 use places::kinds::Turn;
 use places::turn_by;
+use record::aerodrome::Body;
 use record::aerodrome::Metar;
 use shapes::has_pattern;
 use text::kinds::Refusal;
+use weather::read::add_weather;
+use weather::read::read_recent;
+use wind::read::read_variation;
 ghost use mathlib.Core.Path.{_≡_};
-ghost use mathlib.Core.Bool.{true};
-ghost use Prim.Native.Nat.{_<_, _≤_};
-ghost use Rattle.places.specs.Engine.{Good, placeAt};
+ghost use Rattle.shapes.specs.Pattern.{hasAny};
 ghost use Rattle.places.specs.Turn.{turnAt};
-ghost use Rattle.record.specs.Metar.{setSpecial, setCorrected, setStation, setNil, setAutomatic};
-ghost use Rattle.figures.specs.Quote.{bytes};
-ghost use Rattle.shapes.specs.Pattern.{hasPattern, hasAny};
-ghost use Rattle.aerodrome_groups.specs.Head.{stationOf};
+ghost use Rattle.elements.specs.declared.kinds.Said.the-variants as said;
+ghost use Rattle.elements.specs.Weather.{readRecent};
+ghost use Rattle.elements.specs.Answers.{asSaid};
 ghost use Rattle.metar_row.specs.Row.{row, stopWords};
-ghost use Rattle.metar.specs.Step.{toldOf, ToldAt};
-
-fn take_name(g: &[u8], r: Metar) -> Told
-    ensures { λ t. ⌜ t ≡ toldOf r (Good (setSpecial (hasPattern (now (g .entry)) (bytes "SPECI")) r)) ⌝ }
-{
-    let mut a = r;
-    a.special = has_pattern(g, b"SPECI");
-    take::keep(a)
-}
-
-fn take_corrected(r: Metar) -> Told
-    ensures { λ t. ⌜ t ≡ toldOf r (Good (setCorrected true r)) ⌝ }
-{
-    let mut a = r;
-    a.corrected = true;
-    take::keep(a)
-}
-
-fn take_station(g: &[u8], r: Metar) -> Told
-    ensures { λ t. ⌜ t ≡ toldOf r (Good (setStation (stationOf (now (g .entry))) r)) ⌝ }
-{
-    let station = station_of(g);
-    let mut a = r;
-    a.station = station;
-    take::keep(a)
-}
-
-fn take_nil(r: Metar) -> Told
-    ensures { λ t. ⌜ t ≡ toldOf r (Good (setNil true r)) ⌝ }
-{
-    let mut a = r;
-    a.nil = true;
-    take::keep(a)
-}
-
-fn take_automatic(r: Metar) -> Told
-    ensures { λ t. ⌜ t ≡ toldOf r (Good (setAutomatic true r)) ⌝ }
-{
-    let mut a = r;
-    a.automatic = true;
-    take::keep(a)
-}
-
-// The group at a place through AUTO.
-fn read_head(place: usize, g: &[u8], r: Metar) -> Told
-    requires { ⌜ place < 6 ⌝ }
-    ensures { λ t. ⌜ ToldAt place (now (g .entry)) r t ⌝ }
-{
-    match place {
-        0 => take_name(g, r),
-        1 => take_corrected(r),
-        2 => take_station(g, r),
-        3 => take::take_time(g, r),
-        4 => take_nil(r),
-        _ => take_automatic(r),
-    }
-}
-
-// The group at a later place, where `count` groups stand.
-fn read_body(place: usize, count: usize, g: &[u8], r: Metar) -> Told
-    requires { ⌜ 6 ≤ place ⌝ }
-    ensures { λ t. ⌜ t ≡ toldOf r (placeAt row place .read count (now (g .entry)) r) ⌝ }
-{
-    match place {
-        6 => take::take_wind(g, r),
-        7 => take::take_variation(g, r),
-        8 => take::take_visibility(g, r),
-        9 => take::take_runway(count, g, r),
-        10 => take::take_weather(count, g, r),
-        11 => take::take_sky(count, g, r),
-        12 => take::take_temperatures(g, r),
-        13 => take::take_qnh(g, r),
-        14 => take::take_recent(count, g, r),
-        _ => take::refuse(Refusal::Shape, r),
-    }
-}
-
-// The group at its place.
-pub fn read_at(place: usize, count: usize, g: &[u8], r: Metar) -> Told
-    ensures { λ t. ⌜ t ≡ toldOf r (placeAt row place .read count (now (g .entry)) r) ⌝ }
-{
-    if place < 6 {
-        read_head(place, g, r)
-    } else {
-        read_body(place, count, g, r)
-    }
-}
+ghost use Rattle.metar.specs.Said.{reportSaid, Says};
 
 // The group's turn, where `count` groups stand at `place`.
 pub fn decide(place: usize, count: usize, g: &[u8]) -> Turn
@@ -118,4 +40,61 @@ pub fn decide(place: usize, count: usize, g: &[u8]) -> Turn
         return Turn::Halt;
     }
     turn_by(find(place, count, g))
+}
+
+// Recent weather.
+fn say_recent(automatic: bool, g: &[u8]) -> Said
+    ensures { λ x. ⌜ x ≡ asSaid said.Recent (readRecent automatic (now (g .entry))) ⌝ }
+{
+    let read = read_recent(automatic, g);
+    match read {
+        WeatherRead::Good(w) => Said::Recent(w),
+        WeatherRead::Bad(refusal) => Said::Refused(refusal),
+    }
+}
+
+// What the group says at its place, where `count` groups stand; `automatic` and the body are those of the record so far.
+pub fn say_at(place: usize, count: usize, g: &[u8], automatic: bool, b: Body) -> Said
+    ensures { λ x. ⌜ Says place count (now (g .entry)) automatic b x ⌝ }
+{
+    match place {
+        0 => Said::Special(has_pattern(g, b"SPECI")),
+        1 => Said::Corrected,
+        2 => Said::Station,
+        3 => read_time(g),
+        4 => Said::Nil,
+        5 => Said::Automatic,
+        6 => say(0, false, false, automatic, count, g, b),
+        7 => read_variation(g),
+        8 => say(1, false, false, automatic, count, g, b),
+        9 => read_runway(g),
+        10 => say(2, false, false, automatic, count, g, b),
+        11 => say(3, false, false, automatic, count, g, b),
+        12 => read_temperatures(g),
+        13 => read_qnh(g),
+        14 => say_recent(automatic, g),
+        _ => Said::Refused(Refusal::Shape),
+    }
+}
+
+// The record with what the group says, where `count` groups stand at its place.
+pub fn with_said(said: Said, count: usize, g: &[u8], r: Metar) -> Metar
+    ensures { λ a. ⌜ a ≡ reportSaid count (now (g .entry)) said r ⌝ }
+{
+    let mut a = r;
+    match said {
+        Said::Special(x) => a.special = x,
+        Said::Corrected => a.corrected = true,
+        Said::Station => a.station = station_of(g),
+        Said::Time(x) => a.time = x,
+        Said::Nil => a.nil = true,
+        Said::Automatic => a.automatic = true,
+        Said::Variation(x) => a.variation = x,
+        Said::Runway(x) => a.runways = add_runway(count, r.runways, x),
+        Said::Temperatures(x) => a.temperatures = x,
+        Said::Qnh(x) => a.qnh = x,
+        Said::Recent(x) => a.recents = add_weather(count, r.recents, x),
+        _ => a.body = put(said, count, r.body),
+    }
+    a
 }

@@ -14,20 +14,17 @@ use Rattle.places.proofs.Sizes.{Sizes, sizes-more}
 use Rattle.places.proofs.Kept.{kept-sizes, rowRoom, text-short, text-tail, text-back}
 use Rattle.record.specs.declared.aerodrome.Metar.{Metar}
 use Rattle.record.specs.Metar.{blankMetar}
-use Rattle.elements.specs.Visibility.{isCavok}
-use Rattle.wind.proofs.RoundTripWind.{wind-again, wind-classed}
 use Rattle.wind.proofs.RoundTripVariation.{variation-again, variation-classed}
-use Rattle.wind.proofs.RoundTripVisibility.{visibility-again, visibility-classed}
-use Rattle.sky.proofs.RoundTrip.{sky-again, sky-classed}
+use Rattle.sky.proofs.RoundTrip.{sky-again}
+use Rattle.body.proofs.Bodies.{fine-anyway, wind-both, view-both, weather-classed, clouds-classed}
 use Rattle.aerodrome_groups.proofs.RunwaysBack.{runways-again, runways-classed}
 use Rattle.aerodrome_groups.proofs.TemperaturesBack.{temperatures-again, temperatures-classed, qnh-again, qnh-classed}
-use Rattle.metar_row.specs.Row.{row, stopWords}
+use Rattle.metar_row.specs.Row.{observed, row, stopWords}
 use Rattle.metar.specs.Read.{groupsRead}
-use Rattle.metar.specs.Write.{judgeHead, judgeBody, judgeOf, canonicalOf, classedOf}
-use Rattle.metar_row.proofs.Sound.{row-sound}
-use Rattle.metar_laws.proofs.Rows.{row-covered}
-use Rattle.metar_laws.proofs.Report.{fair, FairBody, fair-body, fair-bare, sizes, kept-row}
-use Rattle.elements.proofs.Classed.{cavok-classed}
+use Rattle.metar.specs.Write.{foreignBlank, judgeHead, judgeObservation, judgeOf, canonicalOf, classedOf}
+use Rattle.metar_row.proofs.Sound.{row-sound, row-covered}
+use Rattle.metar_laws.proofs.Places.{live}
+use Rattle.metar_laws.proofs.Report.{fair, FairObservation, fair-observation, fair-bare, sizes, kept-row}
 use Rattle.record.proofs.AerodromeBlanks.{Bare}
 use Rattle.record.specs.Arrays.{MetarArrays}
 
@@ -69,16 +66,17 @@ read-canonical r arrays e =
 
 -- ---- written again
 
--- what stands in the body is written alike
-body-again : (r : Metar) → FairBody r → written row (classedOf r) ≡ written row r
+-- what stands in the observation is written alike
+observation-again : (r : Metar) → FairObservation r → r .nil ≡ false → written row (classedOf r) ≡ written row r
 unfolding row classedOf
-body-again r f =
+observation-again r f full =
+    let t = observed r in
     rw (
-      wind-again false (r .wind) (f .wind),
+      wind-both t (live r full) (r .body) (f .body .wind) .0,
       variation-again (r .variation) (f .variation),
-      visibility-again false (r .visibility) (f .visibility),
+      view-both t (live r full) (r .body) (f .body .visibility) .0,
       runways-again (r .runways),
-      sky-again (r .sky),
+      sky-again (r .body .sky),
       temperatures-again (r .temperatures) (f .temperatures),
       qnh-again (r .qnh),
     )
@@ -86,8 +84,7 @@ body-again r f =
 -- A record that is NIL is read back as it was.
 pub nil-classed : (r : Metar) → Bare r → classedOf r ≡ r
 unfolding row classedOf
-nil-classed r b =
-    rw (b .automatic, b .wind, b .variation, b .visibility, b .runways, b .weathers, b .sky, b .temperatures, b .qnh, b .recents)
+nil-classed r b = rw (b .automatic, b .body, b .variation, b .runways, b .temperatures, b .qnh, b .recents)
 
 -- THE RECORD THAT IS READ BACK IS WRITTEN AS THE SAME TEXT.
 pub written-again : (r : Metar) → MetarArrays r → judgeOf r ≡ judged.Fine → canonicalOf (classedOf r) ≡ canonicalOf r
@@ -95,27 +92,30 @@ written-again r arrays e = go (r .nil) refl
   where
     go : (b : Bool) → r .nil ≡ b → canonicalOf (classedOf r) ≡ canonicalOf r
     go true n = ap canonicalOf (nil-classed r (fair-bare r arrays e n))
-    go false n = unfold canonicalOf in ap join (body-again r (fair-body r e n))
+    go false n = unfold canonicalOf in ap join (observation-again r (fair-observation r e n) n)
 
-body-classed : (r : Metar) → FairBody r → judgeBody (classedOf r) ≡ judged.Fine
-unfolding judgeBody row classedOf
-body-classed r f =
+observation-classed : (r : Metar) → FairObservation r → r .nil ≡ false → judgeObservation (classedOf r) ≡ judged.Fine
+unfolding judgeObservation row classedOf
+observation-classed r f full =
+    let t = observed r in
     rw (
-      cavok-classed (r .visibility .is),
-      wind-classed false (r .wind) (f .wind),
+      wind-both t (live r full) (r .body) (f .body .wind) .1,
       variation-classed (r .variation) (f .variation),
-      visibility-classed false (r .visibility) (f .visibility),
+      view-both t (live r full) (r .body) (f .body .visibility) .1,
       runways-classed (r .runways) (f .runways),
-      f .weathers,
-      sky-classed false (isCavok (r .visibility)) (r .sky) (f .sky),
+      weather-classed t (r .body) (f .body .weather),
+      clouds-classed t (r .body) (f .body .sky),
       temperatures-classed (r .temperatures) (f .temperatures),
       qnh-classed (r .qnh) (f .qnh),
       f .recents,
     )
 
 full-classed : (r : Metar) → judgeOf r ≡ judged.Fine → r .nil ≡ false → judgeOf (classedOf r) ≡ judged.Fine
-unfolding judgeBody judgeOf judgeHead row classedOf
-full-classed r e n = let f = fair r e in rw (n, f .station, f .time) (body-classed r (fair-body r e n))
+unfolding judgeOf judgeHead row classedOf
+full-classed r e n =
+    let f = fair r e in
+    let own : foreignBlank (classedOf r) ≡ true = rw (f .nsw, n) in
+    rw (own, f .station, f .time, fine-anyway (r .nil) (judgeObservation (classedOf r)) (observation-classed r (fair-observation r e n) n))
 
 -- AND THE WRITER ACCEPTS IT.
 pub classed-fine : (r : Metar) → MetarArrays r → judgeOf r ≡ judged.Fine → judgeOf (classedOf r) ≡ judged.Fine

@@ -8,19 +8,16 @@ use Rattle.text.specs.declared.kinds.Judged.the-variants as judged
 use Rattle.text.specs.Groups.{groupsFrom}
 use Rattle.text.specs.Text.{tailOf}
 use Rattle.places.specs.Engine.{Done}
-use Rattle.text.proofs.Judging.{fine}
 use Rattle.record.specs.declared.aerodrome.Metar.{Metar}
-use Rattle.elements.specs.Visibility.{viewFits, judgeVisibility}
-use Rattle.record.proofs.Near.{DirectionNear, no-direction}
-use Rattle.wind.proofs.Promises.{wind-near, ExtremesNear, no-extremes, variation-near, ViewRead, visibility-read}
-use Rattle.sky.proofs.Promises.{SkyBack, sky-read}
+use Rattle.wind.proofs.Promises.{ExtremesNear, no-extremes, variation-near}
+use Rattle.body.proofs.Promises.{BodyRead, body-read, blank-read}
 use Rattle.aerodrome_groups.proofs.Promises.{RunwaysKept, runways-kept, TemperaturesKept, temperatures-kept, QnhKept, qnh-kept}
-use Rattle.metar_row.specs.Row.{row}
+use Rattle.metar_row.specs.Row.{observed, row}
 use Rattle.metar.specs.Read.{groupsRead}
 use Rattle.metar.specs.Write.{judgeOf, canonicalOf, classedOf}
 use Rattle.record.specs.Arrays.{MetarArrays}
-use Rattle.record.proofs.AerodromeBlanks.{Bare}
-use Rattle.metar_laws.proofs.Report.{FairBody, fair-body, fair-bare}
+use Rattle.metar_laws.proofs.Places.{live}
+use Rattle.metar_laws.proofs.Report.{fair-observation, fair-bare}
 use Rattle.metar_laws.proofs.Canonical.{read-canonical}
 
 -- ---- the record that is read back
@@ -33,45 +30,27 @@ pub record RecordRead (r q : Metar) : Type 0 where
   pub time : q .time ≡ r .time
   pub nil : q .nil ≡ r .nil
   pub automatic : q .automatic ≡ r .automatic
-  pub direction : DirectionNear (r .wind .direction) (q .wind .direction)
-  pub speed : q .wind .speed ≡ r .wind .speed
-  pub gust : q .wind .gust ≡ r .wind .gust
-  pub unit : q .wind .unit ≡ r .wind .unit
+  pub body : BodyRead (r .body) (q .body)
   pub variation : ExtremesNear (r .variation .is) (q .variation .is)
-  pub visibility : ViewRead (r .visibility .is) (q .visibility .is)
   pub runways : RunwaysKept (r .runways) (q .runways)
-  pub weathers : q .weathers ≡ r .weathers
-  pub sky : SkyBack (r .sky) (q .sky)
   pub temperatures : TemperaturesKept (r .temperatures) (q .temperatures)
   pub qnh : QnhKept (r .qnh) (q .qnh)
   pub recents : q .recents ≡ r .recents
 
 -- what depends on the judgement: the directions and the visibility are in range, or missing
 record Near (r q : Metar) : Type 0 where
-  direction : DirectionNear (r .wind .direction) (q .wind .direction)
+  body : BodyRead (r .body) (q .body)
   variation : ExtremesNear (r .variation .is) (q .variation .is)
-  fits : viewFits false (r .visibility .is) ≡ true
-
-near-bare : (r : Metar) → Bare r → Near r (classedOf r)
-unfolding row classedOf
-near-bare r b =
-    record { direction = rw (b .wind) no-direction; variation = rw (b .variation) no-extremes; fits = rw (b .visibility) }
-
-near-full : (r : Metar) → FairBody r → Near r (classedOf r)
-unfolding row classedOf judgeVisibility
-near-full r f =
-    record {
-      direction = wind-near false (r .wind) (f .wind);
-      variation = variation-near (r .variation) (f .variation);
-      fits = fine (viewFits false (r .visibility .is)) true (f .visibility) .0;
-    }
 
 near : (r : Metar) → MetarArrays r → judgeOf r ≡ judged.Fine → Near r (classedOf r)
+unfolding row classedOf
 near r arrays e = go (r .nil) refl
   where
     go : (b : Bool) → r .nil ≡ b → Near r (classedOf r)
-    go true n = near-bare r (fair-bare r arrays e n)
-    go false n = near-full r (fair-body r e n)
+    go true n = let b = fair-bare r arrays e n in record { body = blank-read (r .body) (b .body); variation = rw (b .variation) no-extremes }
+    go false n =
+        let f = fair-observation r e n in
+        record { body = body-read (observed r) (live r n) (r .body) (f .body); variation = variation-near (r .variation) (f .variation) }
 
 record-read : (r : Metar) → Near r (classedOf r) → RecordRead r (classedOf r)
 unfolding row classedOf
@@ -83,15 +62,9 @@ record-read r n =
       time = refl;
       nil = refl;
       automatic = refl;
-      direction = n .direction;
-      speed = refl;
-      gust = refl;
-      unit = refl;
+      body = n .body;
       variation = n .variation;
-      visibility = visibility-read false (r .visibility .is) (n .fits);
       runways = runways-kept (r .runways);
-      weathers = refl;
-      sky = sky-read (r .sky);
       temperatures = temperatures-kept (r .temperatures);
       qnh = qnh-kept (r .qnh);
       recents = refl;

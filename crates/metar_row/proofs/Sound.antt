@@ -1,13 +1,26 @@
--- No written group of a METAR can be taken at another place or for a stop word: one computed test over the row.
+-- No written group of a METAR can be taken at another place or for a stop word: one computed test over the row; and every group with a place's
+-- shape fits what covers it.
 -- Assumes nothing.
 use mathlib.Core.Path.{_≡_, refl}
 use mathlib.Core.Bool.{true}
 use Rattle.shapes.specs.Pattern.{low, high, clash, clashEach, allApart}
 use Rattle.shapes.specs.Shape.{leading, split, partsOf, spellings}
-use Rattle.places.proofs.ReadBack.{sound}
+use Rattle.places.proofs.ReadBack.{one-pattern, two-patterns, sound, Covered}
+use Rattle.weather.proofs.Covers.{recent-covered}
+use Rattle.body.proofs.Bodies.{body-covered}
+use Rattle.aerodrome_groups.proofs.RunwayBack.{runway-covered}
+use Rattle.aerodrome_groups.proofs.TemperaturesBack.{temperatures-covered}
+use Rattle.record.specs.Metar.{blankMetar}
 use Rattle.elements.specs.Weather.{codesOf}
-use Rattle.metar_row.specs.Row.{row, stopWords}
+use Rattle.metar_row.specs.Row.{observed, row, stopWords}
 
 pub row-sound : sound stopWords row ≡ true
 unfolding row stopWords low high clash clashEach allApart leading split partsOf spellings codesOf
 row-sound = refl
+
+-- WHAT HAS THE SHAPE OF A PLACE FITS THE PATTERNS THAT COVER IT.
+pub row-covered : Covered row
+unfolding row
+row-covered =
+    let b = body-covered (observed blankMetar) in
+    (two-patterns _ _, (one-pattern _, (one-pattern _, (one-pattern _, (one-pattern _, (one-pattern _, (b .0, (one-pattern _, (b .1 .0, (runway-covered, (b .1 .1 .0, (b .1 .1 .1 .0, (temperatures-covered, (one-pattern _, (recent-covered, tt)))))))))))))))

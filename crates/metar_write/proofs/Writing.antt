@@ -17,15 +17,15 @@ use Rattle.places.specs.Engine.{Group, Place, written as groupsAt}
 use Rattle.places.proofs.Rows.{groups-split}
 use Rattle.places.proofs.Sizes.{Sizes}
 use Rattle.record.specs.declared.aerodrome.Metar.{Metar}
-use Rattle.elements.specs.Weather.{showWeathers}
 use Rattle.elements.specs.Sky.{showSky}
+use Rattle.elements.specs.Body.{showForecast}
 use Rattle.metar_row.specs.Row.{row}
 use Rattle.metar.specs.Write.{judgeOf, canonicalOf, writtenOf, bufferOf}
 
 -- ---- the row in parts
 
 -- the row as the writer prints it
-pub row-in-parts : (r : Metar) → groupsAt row r ≡ groupsAt (take 6 row) r ++ (groupsAt (take 4 (drop 6 row)) r ++ (showWeathers (r .weathers) ++ (showSky (r .sky) ++ groupsAt (drop 12 row) r)))
+pub row-in-parts : (r : Metar) → groupsAt row r ≡ groupsAt (take 6 row) r ++ (groupsAt (take 4 (drop 6 row)) r ++ (showForecast (r .body) ++ (showSky (r .body .sky) ++ groupsAt (drop 12 row) r)))
 row-in-parts r =
     groups-split r 6 row
     ∙ ap (λ (gs : List Group). groupsAt (take 6 row) r ++ gs) (groups-split r 4 (drop 6 row) ∙ ap (λ (gs : List Group). groupsAt (take 4 (drop 6 row)) r ++ gs) (unfold row in refl))

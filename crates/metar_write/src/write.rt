@@ -5,6 +5,9 @@ use aerodrome_groups::write::put_runways;
 use aerodrome_groups::write::put_station;
 use aerodrome_groups::write::put_temperatures;
 use aerodrome_groups::write::put_time;
+use body::write::put_forecast;
+use body::write::put_visibility_unless;
+use body::write::put_wind_unless;
 use record::aerodrome::Metar;
 use sky::write::put_sky;
 use text::kinds::Judged;
@@ -14,10 +17,7 @@ use text::write::deliver;
 use text::write::put_group;
 use text::write::put_if;
 use weather_write::write::put_recents;
-use weather_write::write::put_weathers;
 use wind::write::put_variation;
-use wind::write::put_visibility;
-use wind::write::put_wind;
 ghost use mathlib.Core.Path.{_≡_};
 ghost use mathlib.Core.Bool.{cond};
 ghost use mathlib.Core.List.{_∷_, [], _++_};
@@ -63,19 +63,15 @@ fn put_seen(out: &mut [u8], at: usize, r: Metar) -> usize
     ensures { λ n. ⌜ Put (now (out .entry)) at (written at (groupsAt (take 4 (drop 6 row)) r)) n (now (out .exit)) ⌝ }
 {
     let nil = r.nil;
-    let wind = r.wind;
+    let body = r.body;
+    let wind = body.wind;
     let variation = r.variation;
-    let visibility = r.visibility;
+    let visibility = body.visibility;
     let runways = r.runways;
-    if nil {
-        let varied = put_variation(out, at, variation);
-        put_runways(out, varied, runways)
-    } else {
-        let blown = put_wind(out, at, wind);
-        let varied = put_variation(out, blown, variation);
-        let seen = put_visibility(out, varied, visibility);
-        put_runways(out, seen, runways)
-    }
+    let blown = put_wind_unless(out, at, nil, wind);
+    let varied = put_variation(out, blown, variation);
+    let seen = put_visibility_unless(out, varied, nil, visibility);
+    put_runways(out, seen, runways)
 }
 
 // T/Td, Q and recent weather: the last three. A NIL report is written without T/Td and Q.
@@ -99,11 +95,11 @@ fn put_last(out: &mut [u8], at: usize, r: Metar) -> usize
 fn put_report(out: &mut [u8], r: Metar) -> usize
     ensures { λ n. ⌜ Put (now (out .entry)) 0 (written 0 (groupsAt row r) ++ (61 ∷ [])) n (now (out .exit)) ⌝ }
 {
-    let weathers = r.weathers;
-    let sky = r.sky;
+    let body = r.body;
+    let sky = body.sky;
     let headed = put_head(out, r);
     let seen = put_seen(out, headed, r);
-    let weathered = put_weathers(out, seen, weathers);
+    let weathered = put_forecast(out, seen, body);
     let clouded = put_sky(out, weathered, sky);
     let told = put_last(out, clouded, r);
     close_report(out, told)

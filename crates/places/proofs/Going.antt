@@ -1,21 +1,18 @@
 -- How a reading goes on, group by group, for any row: what a kind's reader loop has seen, and what `run` and `step` say there.
 -- Assumes nothing.
-use Prim.Native.Nat.{ℕ, _+_, _≤_, _<_}
-use mathlib.Core.Path.{_≡_, _∙_}
+use Prim.Native.Nat.{ℕ, _+_, _<_}
+use mathlib.Core.Path.{_≡_}
 use mathlib.Core.Bool.{Bool, true, false, cond}
 use mathlib.Core.List.{List, [], _∷_}
 use lib.ListN.{length, drop}
 use native.Mathlib.Omega.{arith}
-use borrow.Author.Tests.{le-leb, lt-leb, lt-ltb}
+use borrow.Author.Tests.{lt-leb, lt-ltb}
 use Rattle.text.specs.declared.kinds.Refusal.{Refusal}
-use Rattle.text.specs.declared.kinds.Refusal.the-variants as refusal
-use Rattle.text.specs.declared.kinds.Tail.the-variants.{Clear, Junk}
 use Rattle.text.specs.Groups.{groupsFrom}
 use Rattle.text.specs.Text.{tailOf}
 use Rattle.shapes.specs.Pattern.{Pattern, hasAny}
 use Rattle.places.specs.Seek.{seek, findOf, owed}
-use Rattle.places.specs.Engine.{Group, Good, Place, placeAt, standsOf, mustsOf, taken, onward, judged, On, Halt, Stop, step, Outcome, Fault, finish, closed, over, run}
-use Rattle.places.specs.declared.kinds.Found.{Found}
+use Rattle.places.specs.Engine.{Group, Good, Place, placeAt, mustsOf, taken, onward, On, Halt, Stop, step, Outcome, Fault, finish, closed, over, run}
 
 module _ {R : Type 0} (row : List (Place R)) where
   -- a group at place i, where n stand, by what the place says of it
@@ -38,20 +35,9 @@ module _ {R : Type 0} (row : List (Place R)) (words : List Pattern) where
   -- ---- one group
 
   module _ (c k : ℕ) (acc : R) (g : Group) where
-    -- past the row
-    pub step-past : length row ≤ c → step row words c k acc g ≡ Stop refusal.Shape
-    unfolding step
-    step-past h = rw (le-leb (length row) c h)
-
     pub step-word : c < length row → hasAny words g ≡ true → step row words c k acc g ≡ Halt
     unfolding step
     step-word h w = rw (lt-leb (length row) c h, w)
-
-    -- no stop word: by where it goes
-    pub step-by : {f : Found} → c < length row → hasAny words g ≡ false → f ≡ findOf (standsOf row g) c k
-        → step row words c k acc g ≡ judged row acc g f
-    unfolding step
-    step-by h w e = rw (lt-leb (length row) c h, w, ← e)
 
   -- ---- the groups from a position of a text on
 
@@ -59,17 +45,9 @@ module _ {R : Type 0} (row : List (Place R)) (words : List Pattern) where
   going t c k acc at = run row words (tailOf t) (length t) c k acc (groupsFrom t at)
 
   module _ (t : List ℕ) (c k : ℕ) (acc : R) (at : ℕ) where
-    -- no group is left: what follows the "=" is judged, then an absence
-    module _ (none : groupsFrom t at ≡ []) where
-      pub going-over : going t c k acc at ≡ over row (tailOf t) (length t) c k acc
-      unfolding going run
-      going-over = rw none
-
-      pub going-junk : (p : ℕ) → tailOf t ≡ Junk p → going t c k acc at ≡ Fault refusal.Shape p
-      going-junk p e = going-over ∙ rw e
-
-      pub going-end : tailOf t ≡ Clear → going t c k acc at ≡ closed row (length t) c k acc
-      going-end e = going-over ∙ rw e
+    pub going-over : groupsFrom t at ≡ [] → going t c k acc at ≡ over row (tailOf t) (length t) c k acc
+    unfolding going run
+    going-over none = rw none
 
     -- a group, and the groups after it
     module _ (from to : ℕ) (part : Group) (next : groupsFrom t at ≡ record { start = from; bytes = part } ∷ groupsFrom t to) where

@@ -5,7 +5,6 @@ pub mod Fits
 pub mod Going
 pub mod Loop
 pub mod ReadBack
-pub mod Examples
 pub mod Sizes
 pub mod Kept
 pub mod Lift

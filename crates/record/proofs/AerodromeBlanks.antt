@@ -26,6 +26,7 @@ use Rattle.record.specs.declared.aerodrome.View.{View}
 use Rattle.record.specs.declared.aerodrome.View.the-variants as view
 use Rattle.record.specs.declared.aerodrome.Visibility.{Visibility}
 use Rattle.record.specs.declared.aerodrome.Variation.{Variation}
+use Rattle.record.specs.declared.aerodrome.Body.{Body}
 use Rattle.record.specs.declared.aerodrome.Side.{Side}
 use Rattle.record.specs.declared.aerodrome.Side.the-variants as side
 use Rattle.record.specs.declared.aerodrome.Course.{Course}
@@ -57,12 +58,13 @@ use Rattle.record.specs.declared.aerodrome.Leg.{Leg}
 use Rattle.record.specs.declared.aerodrome.Change.{Change}
 use Rattle.record.specs.declared.aerodrome.Metar.{Metar}
 use Rattle.record.specs.declared.aerodrome.Taf.{Taf}
-use Rattle.record.specs.Metar.{blankRunway, blankRunways, blankWeather, blankWeathers, blankLayer, blankSky, blankWind, blankMetar}
+use Rattle.record.specs.Body.{blankWeather, blankWeathers, blankLayer, blankSky, blankWind, blankVisibility, blankBody}
+use Rattle.record.specs.Metar.{blankRunway, blankRunways, blankMetar}
 use Rattle.record.specs.Taf.{blankInstant, blankPeriod, blankLeg, blankChange, blankTaf}
-use Rattle.record.specs.Arrays.{MetarArrays, PartArrays, EachArrays, TafArrays}
+use Rattle.record.specs.Arrays.{BodyArrays, MetarArrays, EachArrays, TafArrays}
 use Rattle.record.specs.SilentAerodrome.{noUnit, isBlankWind, noExtremes, noView, noSide, noCourse, isBlankRunway, noRunways, noPhenomena, isBlankWeather, noWeathers}
 use Rattle.record.specs.SilentAerodrome.{noAmount, noConvective, isBlankLayer, isLayers, noSky, noTemperatures, noStation, noInstant, noPeriod, noCorrection, noOpening}
-use Rattle.record.specs.SilentAerodrome.{noElements, noPart, noHead, isBlankChange, noBody, isBlankMetar, isBlankTaf}
+use Rattle.record.specs.SilentAerodrome.{isBlankBody, noHead, isBlankChange, noObservation, isBlankMetar, isBlankTaf}
 use Rattle.record.proofs.Blanks.{number-blank, tenths-blank, direction-blank, speed-blank, letters-blank}
 
 -- ---- wind, visibility, runways
@@ -93,10 +95,10 @@ view-blank view.Missing e = refl
 view-blank view.Cavok e = absurd (false≢true e)
 view-blank (view.Metres m) e = absurd (false≢true e)
 
-pub visibility-blank : (v : Visibility) → noView (v .is) ≡ true → v ≡ blankMetar .visibility
+pub visibility-blank : (v : Visibility) → noView (v .is) ≡ true → v ≡ blankVisibility
 visibility-blank v e = same (v .is) (view-blank (v .is) e)
   where
-    same : (x : View) → x ≡ view.Missing → _≡_ {A = Visibility} (record { is = x }) (blankMetar .visibility)
+    same : (x : View) → x ≡ view.Missing → _≡_ {A = Visibility} (record { is = x }) (blankVisibility)
     same x e = rw e
 
 side-blank : (s : Side) → noSide s ≡ true → s ≡ side.None
@@ -234,41 +236,48 @@ opening-blank (opening.Probable n) e = absurd (false≢true e)
 opening-blank (opening.ProbablyTemporary n) e = absurd (false≢true e)
 opening-blank opening.From e = absurd (false≢true e)
 
+-- ---- the body
+
+pub body-blank : (b : Body) → BodyArrays b → isBlankBody b ≡ true → b ≡ blankBody
+unfolding isBlankBody
+body-blank b arrays e =
+    let sky = both _ _ e in
+    let nsw = both _ _ (sky .0) in
+    let weathers = both _ _ (nsw .0) in
+    let view = both _ _ (weathers .0) in
+    same (b .wind) (b .visibility) (b .weathers) (b .nsw) (b .sky) (wind-blank (b .wind) (view .0)) (visibility-blank (b .visibility) (view .1))
+    (weathers-blank (b .weathers) (arrays .weathers) (weathers .1)) (not-true (b .nsw) (nsw .1)) (sky-blank (b .sky) (arrays .layers) (sky .1))
+  where
+    same : (w : Wind) (v : Visibility) (ws : Weathers) (n : Bool) (s : Sky) → w ≡ blankWind → v ≡ blankVisibility → ws ≡ blankWeathers → n ≡ false → s ≡ blankSky
+        → _≡_ {A = Body} (record { wind = w; visibility = v; weathers = ws; nsw = n; sky = s }) blankBody
+    same w v ws n s e1 e2 e3 e4 e5 = rw (e1, e2, e3, e4, e5)
+
 -- ---- METAR and SPECI
 
 -- nothing stands after the time
 pub record Bare (r : Metar) : Type 0 where
   pub automatic : r .automatic ≡ false
-  pub wind : r .wind ≡ blankMetar .wind
+  pub body : r .body ≡ blankBody
   pub variation : r .variation ≡ blankMetar .variation
-  pub visibility : r .visibility ≡ blankMetar .visibility
   pub runways : r .runways ≡ blankMetar .runways
-  pub weathers : r .weathers ≡ blankMetar .weathers
-  pub sky : r .sky ≡ blankMetar .sky
   pub temperatures : r .temperatures ≡ blankMetar .temperatures
   pub qnh : r .qnh ≡ blankMetar .qnh
   pub recents : r .recents ≡ blankMetar .recents
 
-pub bare : (r : Metar) → MetarArrays r → noBody r ≡ true → Bare r
-unfolding noBody
+pub bare : (r : Metar) → MetarArrays r → noObservation r ≡ true → Bare r
+unfolding noObservation
 bare r arrays e =
     let recents = both _ _ e in
     let qnh = both _ _ (recents .0) in
     let temperatures = both _ _ (qnh .0) in
-    let sky = both _ _ (temperatures .0) in
-    let weathers = both _ _ (sky .0) in
-    let runways = both _ _ (weathers .0) in
-    let view = both _ _ (runways .0) in
-    let extremes = both _ _ (view .0) in
+    let runways = both _ _ (temperatures .0) in
+    let extremes = both _ _ (runways .0) in
     let first = both _ _ (extremes .0) in
     record {
       automatic = not-true (r .automatic) (first .0);
-      wind = wind-blank (r .wind) (first .1);
+      body = body-blank (r .body) (arrays .body) (first .1);
       variation = rw (extremes-blank (r .variation .is) (extremes .1));
-      visibility = visibility-blank (r .visibility) (view .1);
       runways = runways-blank (r .runways) (arrays .runways) (runways .1);
-      weathers = weathers-blank (r .weathers) (arrays .weathers) (weathers .1);
-      sky = sky-blank (r .sky) (arrays .layers) (sky .1);
       temperatures = temperatures-blank (r .temperatures) (temperatures .1);
       qnh = rw (number-blank (r .qnh .is) (qnh .1));
       recents = weathers-blank (r .recents) (arrays .recents) (recents .1);
@@ -277,85 +286,49 @@ bare r arrays e =
 pub metar-blank : (r : Metar) → MetarArrays r → isBlankMetar r ≡ true → r ≡ blankMetar
 unfolding isBlankMetar
 metar-blank r arrays e =
-    let body = both _ _ e in
-    let nil = both _ _ (body .0) in
+    let observed = both _ _ e in
+    let nil = both _ _ (observed .0) in
     let time = both _ _ (nil .0) in
     let station = both _ _ (time .0) in
     let special = both _ _ (station .0) in
-    let b = bare r arrays (body .1) in
-    same (r .special) (r .corrected) (r .station) (r .time) (r .nil) (r .automatic) (r .wind) (r .variation) (r .visibility) (r .runways) (r .weathers) (r .sky) (r .temperatures)
-    (r .qnh) (r .recents)
+    let b = bare r arrays (observed .1) in
+    same (r .special) (r .corrected) (r .station) (r .time) (r .nil) (r .automatic) (r .body) (r .variation) (r .runways) (r .temperatures) (r .qnh) (r .recents)
     (not-true (r .special) (special .0)) (not-true (r .corrected) (special .1)) (station-blank (r .station) (arrays .letters) (station .1)) (instant-blank (r .time) (time .1))
-    (not-true (r .nil) (nil .1)) (b .automatic) (b .wind) (b .variation) (b .visibility) (b .runways) (b .weathers) (b .sky) (b .temperatures) (b .qnh) (b .recents)
+    (not-true (r .nil) (nil .1)) (b .automatic) (b .body) (b .variation) (b .runways) (b .temperatures) (b .qnh) (b .recents)
   where
-    same : (a b : Bool) (s : Station) (t : Instant) (n o : Bool) (w : Wind) (x : Variation) (v : Visibility) (rs : Runways) (ws : Weathers) (y : Sky) (ts : Temperatures) (q : Qnh)
-        (us : Weathers)
-        → a ≡ false → b ≡ false → s ≡ blankMetar .station → t ≡ blankInstant → n ≡ false → o ≡ false → w ≡ blankMetar .wind → x ≡ blankMetar .variation → v ≡ blankMetar .visibility
-        → rs ≡ blankMetar .runways → ws ≡ blankMetar .weathers → y ≡ blankMetar .sky → ts ≡ blankMetar .temperatures → q ≡ blankMetar .qnh → us ≡ blankMetar .recents
-        → _≡_ {A = Metar} (record { special = a; corrected = b; station = s; time = t; nil = n; automatic = o; wind = w; variation = x; visibility = v; runways = rs; weathers = ws; sky = y; temperatures = ts; qnh = q; recents = us }) blankMetar
-    same a b s t n o w x v rs ws y ts q us e1 e2 e3 e4 e5 e6 e7 e8 e9 f1 f2 f3 f4 f5 f6 = rw (e1, e2, e3, e4, e5, e6, e7, e8, e9, f1, f2, f3, f4, f5, f6)
+    same : (a b : Bool) (s : Station) (t : Instant) (n o : Bool) (x : Body) (v : Variation) (rs : Runways) (ts : Temperatures) (q : Qnh) (us : Weathers)
+        → a ≡ false → b ≡ false → s ≡ blankMetar .station → t ≡ blankInstant → n ≡ false → o ≡ false → x ≡ blankBody → v ≡ blankMetar .variation
+        → rs ≡ blankMetar .runways → ts ≡ blankMetar .temperatures → q ≡ blankMetar .qnh → us ≡ blankMetar .recents
+        → _≡_ {A = Metar} (record { special = a; corrected = b; station = s; time = t; nil = n; automatic = o; body = x; variation = v; runways = rs; temperatures = ts; qnh = q; recents = us }) blankMetar
+    same a b s t n o x v rs ts q us e1 e2 e3 e4 e5 e6 e7 e8 e9 f1 f2 f3 = rw (e1, e2, e3, e4, e5, e6, e7, e8, e9, f1, f2, f3)
 
 -- ---- TAF
 
--- nothing is said of wind, visibility, weather and sky
-pub record Silent (w : Wind) (v : Visibility) (ws : Weathers) (n : Bool) (s : Sky) : Type 0 where
-  pub wind : w ≡ blankLeg .wind
-  pub visibility : v ≡ blankLeg .visibility
-  pub weathers : ws ≡ blankLeg .weathers
-  pub nsw : n ≡ false
-  pub sky : s ≡ blankLeg .sky
-
-pub silent : (w : Wind) (v : Visibility) (ws : Weathers) (n : Bool) (s : Sky) → PartArrays ws s → noElements w v ws n s ≡ true → Silent w v ws n s
-unfolding noElements
-silent w v ws n s arrays e =
-    let sky = both _ _ e in
-    let nsw = both _ _ (sky .0) in
-    let weathers = both _ _ (nsw .0) in
-    let view = both _ _ (weathers .0) in
-    record {
-      wind = wind-blank w (view .0);
-      visibility = visibility-blank v (view .1);
-      weathers = weathers-blank ws (arrays .weathers) (weathers .1);
-      nsw = not-true n (nsw .1);
-      sky = sky-blank s (arrays .layers) (sky .1);
-    }
-
-abbrev pub LegBare : Leg → Type 0
-LegBare r = Silent (r .wind) (r .visibility) (r .weathers) (r .nsw) (r .sky)
-
-pub leg-bare : (r : Leg) → PartArrays (r .weathers) (r .sky) → noPart r ≡ true → LegBare r
-leg-bare r arrays e = silent (r .wind) (r .visibility) (r .weathers) (r .nsw) (r .sky) arrays e
-
-pub change-blank : (c : Change) → PartArrays (c .weathers) (c .sky) → isBlankChange c ≡ true → c ≡ blankChange
+pub change-blank : (c : Change) → BodyArrays (c .body) → isBlankChange c ≡ true → c ≡ blankChange
 change-blank c arrays e =
     let b = both _ _ e in
     let p = both _ _ (b .0) in
-    let s = silent (c .wind) (c .visibility) (c .weathers) (c .nsw) (c .sky) arrays (b .1) in
-    same (c .opening) (c .period) (c .wind) (c .visibility) (c .weathers) (c .nsw) (c .sky) (opening-blank (c .opening) (p .0)) (period-blank (c .period) (p .1))
-    (s .wind) (s .visibility) (s .weathers) (s .nsw) (s .sky)
+    same (c .opening) (c .period) (c .body) (opening-blank (c .opening) (p .0)) (period-blank (c .period) (p .1)) (body-blank (c .body) arrays (b .1))
   where
-    same : (o : Opening) (p : Period) (w : Wind) (v : Visibility) (ws : Weathers) (n : Bool) (s : Sky) → o ≡ opening.None → p ≡ blankPeriod → w ≡ blankWind
-        → v ≡ blankLeg .visibility → ws ≡ blankWeathers → n ≡ false → s ≡ blankSky
-        → _≡_ {A = Change} (record { opening = o; period = p; wind = w; visibility = v; weathers = ws; nsw = n; sky = s }) blankChange
-    same o p w v ws n s e1 e2 e3 e4 e5 e6 e7 = rw (e1, e2, e3, e4, e5, e6, e7)
+    same : (o : Opening) (p : Period) (b : Body) → o ≡ opening.None → p ≡ blankPeriod → b ≡ blankBody
+        → _≡_ {A = Change} (record { opening = o; period = p; body = b }) blankChange
+    same o p b e1 e2 e3 = rw (e1, e2, e3)
 
-leg-blank : (r : Leg) → length (r .station .letters) ≡ 4 → PartArrays (r .weathers) (r .sky) → noHead r ≡ true → noPart r ≡ true → r ≡ blankLeg
+leg-blank : (r : Leg) → length (r .station .letters) ≡ 4 → BodyArrays (r .body) → noHead r ≡ true → isBlankBody (r .body) ≡ true → r ≡ blankLeg
 leg-blank r n arrays e p =
     let cancelled = both _ _ e in
     let period = both _ _ (cancelled .0) in
     let nil = both _ _ (period .0) in
     let time = both _ _ (nil .0) in
     let station = both _ _ (time .0) in
-    let b = leg-bare r arrays p in
-    same (r .correction) (r .station) (r .time) (r .nil) (r .period) (r .cancelled) (r .wind) (r .visibility) (r .weathers) (r .nsw) (r .sky)
+    same (r .correction) (r .station) (r .time) (r .nil) (r .period) (r .cancelled) (r .body)
     (correction-blank (r .correction) (station .0)) (station-blank (r .station) n (station .1)) (instant-blank (r .time) (time .1)) (not-true (r .nil) (nil .1))
-    (period-blank (r .period) (period .1)) (not-true (r .cancelled) (cancelled .1)) (b .wind) (b .visibility) (b .weathers) (b .nsw) (b .sky)
+    (period-blank (r .period) (period .1)) (not-true (r .cancelled) (cancelled .1)) (body-blank (r .body) arrays p)
   where
-    same : (c : Correction) (s : Station) (t : Instant) (n : Bool) (p : Period) (x : Bool) (w : Wind) (v : Visibility) (ws : Weathers) (m : Bool) (y : Sky)
-        → c ≡ correction.None → s ≡ blankLeg .station → t ≡ blankInstant → n ≡ false → p ≡ blankPeriod → x ≡ false → w ≡ blankLeg .wind → v ≡ blankLeg .visibility
-        → ws ≡ blankLeg .weathers → m ≡ false → y ≡ blankLeg .sky
-        → _≡_ {A = Leg} (record { correction = c; station = s; time = t; nil = n; period = p; cancelled = x; wind = w; visibility = v; weathers = ws; nsw = m; sky = y }) blankLeg
-    same c s t n p x w v ws m y e1 e2 e3 e4 e5 e6 e7 e8 e9 f1 f2 = rw (e1, e2, e3, e4, e5, e6, e7, e8, e9, f1, f2)
+    same : (c : Correction) (s : Station) (t : Instant) (n : Bool) (p : Period) (x : Bool) (b : Body)
+        → c ≡ correction.None → s ≡ blankLeg .station → t ≡ blankInstant → n ≡ false → p ≡ blankPeriod → x ≡ false → b ≡ blankBody
+        → _≡_ {A = Leg} (record { correction = c; station = s; time = t; nil = n; period = p; cancelled = x; body = b }) blankLeg
+    same c s t n p x b e1 e2 e3 e4 e5 e6 e7 = rw (e1, e2, e3, e4, e5, e6, e7)
 
 -- the changes past a count have arrays of their own, so that each is taken with its arrays
 pub changes-blank : (cs : List Change) → EachArrays cs → every isBlankChange cs ≡ true → cs ≡ replicate (length cs) blankChange
@@ -370,7 +343,7 @@ taf-blank t arrays e =
     let changes = both _ _ e in
     let part = both _ _ (changes .0) in
     let items = both _ _ (changes .1) in
-    same (t .leg) (t .changes .items) (t .changes .count) (leg-blank (t .leg) (arrays .letters) (arrays .part) (part .0) (part .1))
+    same (t .leg) (t .changes .items) (t .changes .count) (leg-blank (t .leg) (arrays .letters) (arrays .body) (part .0) (part .1))
     (rw (arrays .changes) at (changes-blank (t .changes .items) (arrays .each) (items .1))) (eqb-true (t .changes .count) 0 (items .0))
   where
     same : (l : Leg) (cs : List Change) (n : ℕ) → l ≡ blankLeg → cs ≡ replicate 16 blankChange → n ≡ 0

@@ -3,30 +3,27 @@
 use mathlib.Core.Path.{_≡_}
 use mathlib.Core.List.{List, [], _∷_}
 use lib.ListN.{length}
-use Rattle.record.specs.declared.aerodrome.Weathers.{Weathers}
-use Rattle.record.specs.declared.aerodrome.Sky.{Sky}
+use Rattle.record.specs.declared.aerodrome.Body.{Body}
 use Rattle.record.specs.declared.aerodrome.Metar.{Metar}
 use Rattle.record.specs.declared.aerodrome.Change.{Change}
 use Rattle.record.specs.declared.aerodrome.Taf.{Taf}
 
+pub record BodyArrays (b : Body) : Type 0 where
+  pub weathers : length (b .weathers .items) ≡ 3
+  pub layers : length (b .sky .layers) ≡ 4
+
 pub record MetarArrays (r : Metar) : Type 0 where
   pub letters : length (r .station .letters) ≡ 4
+  pub body : BodyArrays (r .body)
   pub runways : length (r .runways .items) ≡ 4
-  pub weathers : length (r .weathers .items) ≡ 3
-  pub layers : length (r .sky .layers) ≡ 4
   pub recents : length (r .recents .items) ≡ 3
-
--- of the weather and sky of a TAF's part
-pub record PartArrays (ws : Weathers) (s : Sky) : Type 0 where
-  pub weathers : length (ws .items) ≡ 3
-  pub layers : length (s .layers) ≡ 4
 
 abbrev pub EachArrays : List Change → Type 0
 EachArrays [] = Unit {0}
-EachArrays (c ∷ cs) = PartArrays (c .weathers) (c .sky) × EachArrays cs
+EachArrays (c ∷ cs) = BodyArrays (c .body) × EachArrays cs
 
 pub record TafArrays (t : Taf) : Type 0 where
   pub letters : length (t .leg .station .letters) ≡ 4
-  pub part : PartArrays (t .leg .weathers) (t .leg .sky)
+  pub body : BodyArrays (t .leg .body)
   pub changes : length (t .changes .items) ≡ 16
   pub each : EachArrays (t .changes .items)

@@ -1,5 +1,6 @@
 pub mod Blank
 pub mod Set
+pub mod Body
 pub mod Metar
 pub mod Taf
 pub mod Missing

@@ -11,7 +11,7 @@ use Rattle.record.specs.declared.aerodrome.Extremes.{Extremes}
 use Rattle.record.specs.declared.aerodrome.Extremes.the-variants as extremes
 use Rattle.record.specs.declared.aerodrome.View.{View}
 use Rattle.record.specs.declared.aerodrome.View.the-variants as view
-use Rattle.record.specs.declared.aerodrome.Visibility.{Visibility}
+use Rattle.record.specs.declared.aerodrome.Body.{Body}
 use Rattle.record.specs.declared.aerodrome.Side.{Side}
 use Rattle.record.specs.declared.aerodrome.Side.the-variants as side
 use Rattle.record.specs.declared.aerodrome.Course.{Course}
@@ -149,35 +149,33 @@ noOpening (opening.Probable n) = false
 noOpening (opening.ProbablyTemporary n) = false
 noOpening opening.From = false
 
+-- ---- the body
+
+-- nothing is said of wind, visibility, weather (or NSW) and sky
+unfoldable pub isBlankBody : Body → Bool
+isBlankBody b = isBlankWind (b .wind) && noView (b .visibility .is) && noWeathers (b .weathers) && not (b .nsw) && noSky (b .sky)
+
 -- ---- METAR and SPECI
 
 -- nothing stands after the time
-unfoldable pub noBody : Metar → Bool
-noBody r =
-    not (r .automatic) && isBlankWind (r .wind) && noExtremes (r .variation .is) && noView (r .visibility .is)
-    && noRunways (r .runways) && noWeathers (r .weathers) && noSky (r .sky)
+unfoldable pub noObservation : Metar → Bool
+noObservation r =
+    not (r .automatic) && isBlankBody (r .body) && noExtremes (r .variation .is) && noRunways (r .runways)
     && noTemperatures (r .temperatures) && isMissing (r .qnh .is) && noWeathers (r .recents)
 
 unfoldable pub isBlankMetar : Metar → Bool
-isBlankMetar r = not (r .special) && not (r .corrected) && noStation (r .station) && noInstant (r .time) && not (r .nil) && noBody r
+isBlankMetar r = not (r .special) && not (r .corrected) && noStation (r .station) && noInstant (r .time) && not (r .nil) && noObservation r
 
 -- ---- TAF
-
--- nothing is said of wind, visibility, weather (or NSW) and sky
-unfoldable pub noElements : Wind → Visibility → Weathers → Bool → Sky → Bool
-noElements w v ws nsw s = isBlankWind w && noView (v .is) && noWeathers ws && not nsw && noSky s
-
-abbrev pub noPart : Leg → Bool
-noPart r = noElements (r .wind) (r .visibility) (r .weathers) (r .nsw) (r .sky)
 
 abbrev pub noHead : Leg → Bool
 noHead r = noCorrection (r .correction) && noStation (r .station) && noInstant (r .time) && not (r .nil) && noPeriod (r .period) && not (r .cancelled)
 
 abbrev pub isBlankChange : Change → Bool
-isBlankChange c = noOpening (c .opening) && noPeriod (c .period) && noElements (c .wind) (c .visibility) (c .weathers) (c .nsw) (c .sky)
+isBlankChange c = noOpening (c .opening) && noPeriod (c .period) && isBlankBody (c .body)
 
 abbrev pub noChanges : Changes → Bool
 noChanges cs = eqb (cs .count) 0 && every isBlankChange (cs .items)
 
 unfoldable pub isBlankTaf : Taf → Bool
-isBlankTaf t = noHead (t .leg) && noPart (t .leg) && noChanges (t .changes)
+isBlankTaf t = noHead (t .leg) && isBlankBody (t .leg .body) && noChanges (t .changes)

@@ -163,6 +163,16 @@ pub struct Instant {
     pub minute: Number,
 }
 
+// What an observation and each part of a forecast say alike: wind, visibility or CAVOK, weather, clouds.
+pub struct Body {
+    pub wind: Wind,
+    pub visibility: Visibility,
+    pub weathers: Weathers,
+    // NSW, the sole weather, in a TAF's change groups alone
+    pub nsw: bool,
+    pub sky: Sky,
+}
+
 // A METAR, or a SPECI.
 pub struct Metar {
     pub special: bool,
@@ -171,12 +181,9 @@ pub struct Metar {
     pub time: Instant,
     pub nil: bool,
     pub automatic: bool,
-    pub wind: Wind,
+    pub body: Body,
     pub variation: Variation,
-    pub visibility: Visibility,
     pub runways: Runways,
-    pub weathers: Weathers,
-    pub sky: Sky,
     pub temperatures: Temperatures,
     pub qnh: Qnh,
     pub recents: Weathers,
@@ -203,12 +210,7 @@ pub struct Leg {
     pub nil: bool,
     pub period: Period,
     pub cancelled: bool,
-    pub wind: Wind,
-    pub visibility: Visibility,
-    pub weathers: Weathers,
-    // NSW, the sole weather
-    pub nsw: bool,
-    pub sky: Sky,
+    pub body: Body,
 }
 
 // What opens a change group: BECMG, TEMPO, PROB30 or PROB40, the same with TEMPO, FM.
@@ -224,11 +226,7 @@ pub enum Opening {
 pub struct Change {
     pub opening: Opening,
     pub period: Period,
-    pub wind: Wind,
-    pub visibility: Visibility,
-    pub weathers: Weathers,
-    pub nsw: bool,
-    pub sky: Sky,
+    pub body: Body,
 }
 
 // Up to sixteen, the first `count`.

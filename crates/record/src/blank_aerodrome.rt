@@ -1,5 +1,6 @@
 // The blank records of a METAR or SPECI and of a TAF.
 use crate::aerodrome::Amount;
+use crate::aerodrome::Body;
 use crate::aerodrome::Change;
 use crate::aerodrome::Changes;
 use crate::aerodrome::Convective;
@@ -34,7 +35,8 @@ use crate::values::Number;
 use crate::values::Speed;
 use crate::values::Tenths;
 ghost use mathlib.Core.Path.{_≡_};
-ghost use Rattle.record.specs.Metar.{blankWind, blankRunways, blankWeathers, blankSky, blankMetar};
+ghost use Rattle.record.specs.Body.{blankWind, blankWeathers, blankSky, blankBody};
+ghost use Rattle.record.specs.Metar.{blankRunways, blankMetar};
 ghost use Rattle.record.specs.Taf.{blankInstant, blankPeriod, blankLeg, blankChange, blankTaf};
 
 pub fn blank_station() -> Station
@@ -114,15 +116,29 @@ fn blank_sky() -> Sky
     }
 }
 
+fn blank_body() -> Body
+    ensures { λ r. ⌜ r ≡ blankBody ⌝ }
+{
+    let wind = blank_wind();
+    let weathers = blank_weathers();
+    let sky = blank_sky();
+    Body {
+        wind,
+        visibility: Visibility { is: View::Missing },
+        weathers,
+        nsw: false,
+        sky,
+    }
+}
+
 pub fn blank_metar() -> Metar
     ensures { λ r. ⌜ r ≡ blankMetar ⌝ }
 {
     let station = blank_station();
     let time = blank_instant();
-    let wind = blank_wind();
+    let body = blank_body();
     let runways = blank_runways();
-    let weathers = blank_weathers();
-    let sky = blank_sky();
+    let recents = blank_weathers();
     Metar {
         special: false,
         corrected: false,
@@ -130,14 +146,11 @@ pub fn blank_metar() -> Metar
         time,
         nil: false,
         automatic: false,
-        wind,
+        body,
         variation: Variation {
             is: Extremes::Missing,
         },
-        visibility: Visibility { is: View::Missing },
         runways,
-        weathers,
-        sky,
         temperatures: Temperatures {
             air: Tenths::Missing,
             dew: Tenths::Missing,
@@ -145,7 +158,7 @@ pub fn blank_metar() -> Metar
         qnh: Qnh {
             is: Number::Missing,
         },
-        recents: weathers,
+        recents,
     }
 }
 
@@ -155,9 +168,7 @@ pub fn blank_leg() -> Leg
     let station = blank_station();
     let time = blank_instant();
     let period = blank_period();
-    let wind = blank_wind();
-    let weathers = blank_weathers();
-    let sky = blank_sky();
+    let body = blank_body();
     Leg {
         correction: Correction::None,
         station,
@@ -165,11 +176,7 @@ pub fn blank_leg() -> Leg
         nil: false,
         period,
         cancelled: false,
-        wind,
-        visibility: Visibility { is: View::Missing },
-        weathers,
-        nsw: false,
-        sky,
+        body,
     }
 }
 
@@ -177,17 +184,11 @@ fn blank_change() -> Change
     ensures { λ r. ⌜ r ≡ blankChange ⌝ }
 {
     let period = blank_period();
-    let wind = blank_wind();
-    let weathers = blank_weathers();
-    let sky = blank_sky();
+    let body = blank_body();
     Change {
         opening: Opening::None,
         period,
-        wind,
-        visibility: Visibility { is: View::Missing },
-        weathers,
-        nsw: false,
-        sky,
+        body,
     }
 }
 

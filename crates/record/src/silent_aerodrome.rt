@@ -1,5 +1,6 @@
 // Whether nothing is said in a METAR, SPECI or TAF, group by group and in the whole.
 use crate::aerodrome::Amount;
+use crate::aerodrome::Body;
 use crate::aerodrome::Change;
 use crate::aerodrome::Changes;
 use crate::aerodrome::Convective;
@@ -23,7 +24,6 @@ use crate::aerodrome::Taf;
 use crate::aerodrome::Temperatures;
 use crate::aerodrome::Unit;
 use crate::aerodrome::View;
-use crate::aerodrome::Visibility;
 use crate::aerodrome::Weather;
 use crate::aerodrome::Weathers;
 use crate::aerodrome::Wind;
@@ -33,7 +33,7 @@ ghost use lib.ListN.{drop};
 ghost use Rattle.figures.specs.Figures.{every};
 ghost use Rattle.record.specs.SilentAerodrome.{noUnit, isBlankWind, noExtremes, noView, noSide, noCourse, isBlankRunway, noRunways, noPhenomena, isBlankWeather, noWeathers};
 ghost use Rattle.record.specs.SilentAerodrome.{noAmount, noConvective, isBlankLayer, isLayers, noSky, noTemperatures, noStation, noInstant, noPeriod, noCorrection, noOpening};
-ghost use Rattle.record.specs.SilentAerodrome.{noElements, isBlankChange, noChanges, noBody, isBlankMetar, noHead, noPart, isBlankTaf};
+ghost use Rattle.record.specs.SilentAerodrome.{isBlankBody, isBlankChange, noChanges, noObservation, isBlankMetar, noHead, isBlankTaf};
 
 // ---- wind, visibility, runways
 
@@ -344,12 +344,18 @@ impl Opening {
 
 // ---- the reports
 
-// Nothing is said of wind, visibility, weather and sky.
-fn no_elements(wind: Wind, visibility: Visibility, weathers: Weathers, nsw: bool, sky: Sky) -> bool
-    ensures { λ r. ⌜ r ≡ noElements wind visibility weathers nsw sky ⌝ }
-{
-    let view = visibility.is;
-    wind.is_blank() & view.is_missing() & weathers.is_blank() & !nsw & sky.is_blank()
+impl Body {
+    pub fn is_blank(self) -> bool
+        ensures { λ r. ⌜ r ≡ isBlankBody self ⌝ }
+    {
+        let wind = self.wind;
+        let visibility = self.visibility;
+        let view = visibility.is;
+        let weathers = self.weathers;
+        let nsw = self.nsw;
+        let sky = self.sky;
+        wind.is_blank() & view.is_missing() & weathers.is_blank() & !nsw & sky.is_blank()
+    }
 }
 
 impl Change {
@@ -358,13 +364,8 @@ impl Change {
     {
         let opening = self.opening;
         let period = self.period;
-        let wind = self.wind;
-        let visibility = self.visibility;
-        let weathers = self.weathers;
-        let nsw = self.nsw;
-        let sky = self.sky;
-        let silent = no_elements(wind, visibility, weathers, nsw, sky);
-        opening.is_none() & period.is_blank() & silent
+        let body = self.body;
+        opening.is_none() & period.is_blank() & body.is_blank()
     }
 }
 
@@ -395,25 +396,20 @@ impl Changes {
 
 impl Metar {
     // Nothing stands after the time.
-    pub fn has_no_body(self) -> bool
-        ensures { λ r. ⌜ r ≡ noBody self ⌝ }
+    pub fn has_no_observation(self) -> bool
+        ensures { λ r. ⌜ r ≡ noObservation self ⌝ }
     {
-        let wind = self.wind;
+        let body = self.body;
         let variation = self.variation;
         let extremes = variation.is;
-        let visibility = self.visibility;
-        let view = visibility.is;
         let runways = self.runways;
-        let weathers = self.weathers;
-        let sky = self.sky;
         let temperatures = self.temperatures;
         let qnh = self.qnh;
         let pressure = qnh.is;
         let recents = self.recents;
         let automatic = self.automatic;
-        let seen = !automatic & wind.is_blank() & extremes.is_missing() & view.is_missing();
-        let clouded = seen & runways.is_blank() & weathers.is_blank() & sky.is_blank();
-        clouded & temperatures.is_blank() & pressure.is_missing() & recents.is_blank()
+        let seen = !automatic & body.is_blank() & extremes.is_missing() & runways.is_blank();
+        seen & temperatures.is_blank() & pressure.is_missing() & recents.is_blank()
     }
 
     pub fn is_blank(self) -> bool
@@ -425,7 +421,7 @@ impl Metar {
         let corrected = self.corrected;
         let nil = self.nil;
         let headed = !special & !corrected & station.is_blank() & time.is_blank();
-        headed & !nil & self.has_no_body()
+        headed & !nil & self.has_no_observation()
     }
 }
 
@@ -443,18 +439,6 @@ impl Leg {
         let placed = correction.is_none() & station.is_blank() & time.is_blank();
         placed & !nil & period.is_blank() & !cancelled
     }
-
-    // Nothing is said of wind, visibility, weather and sky.
-    pub fn has_no_part(self) -> bool
-        ensures { λ r. ⌜ r ≡ noPart self ⌝ }
-    {
-        let wind = self.wind;
-        let visibility = self.visibility;
-        let weathers = self.weathers;
-        let nsw = self.nsw;
-        let sky = self.sky;
-        no_elements(wind, visibility, weathers, nsw, sky)
-    }
 }
 
 impl Taf {
@@ -462,7 +446,8 @@ impl Taf {
         ensures { λ r. ⌜ r ≡ isBlankTaf self ⌝ }
     {
         let leg = self.leg;
+        let body = leg.body;
         let changes = self.changes;
-        leg.has_no_head() & leg.has_no_part() & changes.is_blank()
+        leg.has_no_head() & body.is_blank() & changes.is_blank()
     }
 }

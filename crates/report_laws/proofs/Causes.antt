@@ -14,8 +14,8 @@ use Rattle.record.specs.declared.aerodrome.Weathers.{Weathers}
 use Rattle.record.specs.declared.aerodrome.Layer.{Layer}
 use Rattle.record.specs.declared.aerodrome.Sky.{Sky}
 use Rattle.record.specs.declared.aerodrome.Runway.{Runway}
+use Rattle.record.specs.declared.aerodrome.Body.{Body}
 use Rattle.record.specs.declared.aerodrome.Metar.{Metar}
-use Rattle.record.specs.declared.aerodrome.Leg.{Leg}
 use Rattle.record.specs.declared.aerodrome.Change.{Change}
 use Rattle.record.specs.declared.aerodrome.Taf.{Taf}
 use Rattle.synop_groups.specs.Judge as surface
@@ -23,6 +23,7 @@ use Rattle.elements.specs.Wind.{judgeWind, judgeVariation}
 use Rattle.elements.specs.Visibility.{judgeVisibility}
 use Rattle.elements.specs.Weather.{judgeWeather, judgeRecent, judgeEach, judgeWeathers}
 use Rattle.elements.specs.Sky.{classLayer, judgeLayers, judgeSky}
+use Rattle.elements.specs.Body.{judgeBody}
 use Rattle.aerodrome_groups.specs.Head.{judgeStation, judgeTime}
 use Rattle.aerodrome_groups.specs.Runway.{judgeEachRunway, judgeRunways}
 use Rattle.aerodrome_groups.specs.Temperatures.{judgeTemperatures, judgeQnh}
@@ -107,14 +108,14 @@ each-runway [] = fine
 each-runway (w ∷ ws) = let rest = each-runway ws in search made
 
 pub observed-causes : (r : Metar) → Caused (metar.judgeOf r)
-unfolding metar.judgeOf metar.judgeHead metar.judgeBody judgeStation judgeTime judgeWind judgeVariation judgeVisibility judgeRunways judgeTemperatures judgeQnh
+unfolding metar.judgeOf metar.judgeHead metar.judgeObservation judgeStation judgeTime judgeWind judgeVariation judgeVisibility judgeRunways judgeTemperatures judgeQnh
 observed-causes r = search (made, each-runway, weathers, weather, recent, sky) depth 14
 
 -- ---- TAF
 
-part : (w : Part) (r : Leg) → Caused (taf.judgePart w r)
-unfolding taf.judgePart judgeWind judgeVisibility
-part w r = search (made, weathers, weather, sky) depth 8
+part : (w : Part) (b : Body) → Caused (taf.judgePart w b)
+unfolding taf.judgePart judgeBody judgeWind judgeVisibility
+part w b = search (made, weathers, weather, sky) depth 8
 
 change : (c : Change) → Caused (taf.judgeChange c)
 unfolding taf.judgeChange

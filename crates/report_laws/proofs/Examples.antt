@@ -32,6 +32,7 @@ use Rattle.synop_row.specs.Row as synop-row
 use Rattle.synop_section.specs.Answer as section
 use Rattle.synop.specs.Read as synop-read
 use Rattle.synop.specs.Write as synop-write
+use Rattle.elements.specs.Body as body
 use Rattle.elements.specs.Sky as sky
 use Rattle.elements.specs.Visibility as visibility
 use Rattle.elements.specs.Weather as weather
@@ -112,7 +113,7 @@ unfolding figures.figures figures.scan figures.fieldAt figures.numberText figure
     rounded.rainFigure rounded.rainReading rounded.directionFigure rounded.directionReading rounded.pressureFigure rounded.pressureReading
     scale.classIn scale.readIn scale.run
     silent-surface.noSurface silent-surface.isBlankSynop
-    silent-aerodrome.noBody silent-aerodrome.noElements silent-aerodrome.isBlankMetar silent-aerodrome.isBlankTaf
+    silent-aerodrome.isBlankBody silent-aerodrome.noObservation silent-aerodrome.isBlankMetar silent-aerodrome.isBlankTaf
     surface-judge.judgeTime surface-judge.judgeStation surface-judge.judgeSign surface-judge.judgePosition surface-judge.judgeIndicators surface-judge.judgeWind surface-judge.judgeAir surface-judge.judgeMoisture surface-judge.judgePressure surface-judge.judgeLevel surface-judge.judgeTendency surface-judge.judgeRainfall surface-judge.judgeWeather surface-judge.judgeClouds surface-judge.judgeClock
     surface-reads.timeOf surface-reads.saidTime surface-reads.saidStation surface-reads.latitudeIs surface-reads.saidLatitude surface-reads.positionOf surface-reads.saidLongitude surface-reads.indicatorsOf surface-reads.saidIndicators surface-reads.windBy surface-reads.saidWind surface-reads.speedIs surface-reads.saidSpeed surface-reads.airIs surface-reads.saidAir surface-reads.moistureIs surface-reads.saidMoisture surface-reads.saidPressure surface-reads.levelIs surface-reads.saidLevel surface-reads.tendencyIs surface-reads.saidTendency surface-reads.saidRainfall surface-reads.saidWeather surface-reads.saidClouds surface-reads.clockIs surface-reads.saidClock
     surface-shows.showTime surface-shows.showStation surface-shows.showSign surface-shows.showLatitude surface-shows.showLongitude surface-shows.showIndicators surface-shows.showWind surface-shows.showSpeed surface-shows.showAir surface-shows.showMoisture surface-shows.showPressure surface-shows.showLevel surface-shows.showTendency surface-shows.showRainfall surface-shows.weatherText surface-shows.showWeather surface-shows.cloudsText surface-shows.showClouds surface-shows.showClock
@@ -120,6 +121,7 @@ unfolding figures.figures figures.scan figures.fieldAt figures.numberText figure
     section.section
     synop-read.withHead synop-read.signOf synop-read.posts synop-read.walk synop-read.groupsRead
     synop-write.foreignBlank synop-write.judgeSite synop-write.judgeSection synop-write.judgeSurface synop-write.judgeOf synop-write.siteGroups synop-write.surfaceGroups synop-write.groupsOf synop-write.canonicalOf
+    body.readForecast body.judgeBody
     sky.readLayer sky.readAlone sky.readSky sky.showLayer sky.showSky sky.judgeSky
     visibility.readVisibility visibility.showVisibility visibility.judgeVisibility
     weather.codesOf weather.areCodes weather.signedCodes weather.hasWeather weather.hasRecent weather.saidWeather weather.readWeather weather.readRecent weather.showWeather weather.showRecent weather.showWeathers weather.showRecents weather.judgeWeather weather.judgeRecent weather.judgeWeathers
@@ -129,8 +131,8 @@ unfolding figures.figures figures.scan figures.fieldAt figures.numberText figure
     temperatures.readTemperatures temperatures.readQnh temperatures.showTemperatures temperatures.showQnh temperatures.judgeTemperatures temperatures.judgeQnh
     metar-row.row metar-row.stopWords
     metar-read.groupsRead
-    metar-write.judgeHead metar-write.judgeBody metar-write.judgeOf metar-write.canonicalOf
-    taf-row.readPeriod taf-row.showPeriod taf-row.readForecast taf-row.row taf-row.changeWords
+    metar-write.judgeHead metar-write.judgeObservation metar-write.judgeOf metar-write.canonicalOf
+    taf-row.readPeriod taf-row.showPeriod taf-row.row taf-row.changeWords
     taf-read.openedBy taf-read.groupsRead
     taf-write.judgePart taf-write.judgeChange taf-write.judgeChanges taf-write.foreignBlank taf-write.judgeOf taf-write.showChange taf-write.groupsOf taf-write.canonicalOf
     report-read.nameOf report-read.readOf

@@ -141,22 +141,22 @@ abbrev pub observedNumbers : Table → Metar → List Number
 observedNumbers land r = []
 observedNumbers sea r = []
 observedNumbers base r = []
-observedNumbers visibility r = viewMetres (r .visibility .is) ∷ []
+observedNumbers visibility r = viewMetres (r .body .visibility .is) ∷ []
 observedNumbers runway r = map (λ (w : Runway). w .range) (r .runways .items)
-observedNumbers cloud r = skyHeights (r .sky)
+observedNumbers cloud r = skyHeights (r .body .sky)
 
 -- each change's heights, one change after the other
 abbrev pub changesHeights : List Change → List Number
 changesHeights [] = []
-changesHeights (c ∷ cs) = skyHeights (c .sky) ++ changesHeights cs
+changesHeights (c ∷ cs) = skyHeights (c .body .sky) ++ changesHeights cs
 
 abbrev pub forecastNumbers : Table → Taf → List Number
 forecastNumbers land t = []
 forecastNumbers sea t = []
 forecastNumbers base t = []
-forecastNumbers visibility t = viewMetres (t .leg .visibility .is) ∷ map (λ (c : Change). viewMetres (c .visibility .is)) (t .changes .items)
+forecastNumbers visibility t = viewMetres (t .leg .body .visibility .is) ∷ map (λ (c : Change). viewMetres (c .body .visibility .is)) (t .changes .items)
 forecastNumbers runway t = []
-forecastNumbers cloud t = skyHeights (t .leg .sky) ++ changesHeights (t .changes .items)
+forecastNumbers cloud t = skyHeights (t .leg .body .sky) ++ changesHeights (t .changes .items)
 
 abbrev pub numbersBy : Kind → Table → Report → List Number
 numbersBy kind.Missing t r = []
@@ -235,20 +235,20 @@ sky-is : (s : Sky) → skyHeights (classSky s) ≡ map (classOn cloud) (skyHeigh
 sky-is s =
     rw (vertical-is (s .cover), map-square (λ (l : Layer). l .height) classLayer (classOn cloud) (λ l. refl) (s .layers))
 
-change-view : (c : Change) → viewMetres (classChange c .visibility .is) ≡ classOn visibility (viewMetres (c .visibility .is))
+change-view : (c : Change) → viewMetres (classChange c .body .visibility .is) ≡ classOn visibility (viewMetres (c .body .visibility .is))
 unfolding classChange row
-change-view c = view-is (c .visibility .is)
+change-view c = view-is (c .body .visibility .is)
 
-change-sky : (c : Change) → skyHeights (classChange c .sky) ≡ map (classOn cloud) (skyHeights (c .sky))
+change-sky : (c : Change) → skyHeights (classChange c .body .sky) ≡ map (classOn cloud) (skyHeights (c .body .sky))
 unfolding classChange row
-change-sky c = sky-is (c .sky)
+change-sky c = sky-is (c .body .sky)
 
 changes-is : (cs : List Change) → changesHeights (map classChange cs) ≡ map (classOn cloud) (changesHeights cs)
 changes-is [] = refl
 changes-is (c ∷ cs) =
     ap (λ (l : List Number). l ++ changesHeights (map classChange cs)) (change-sky c)
-    ∙ ap (λ (l : List Number). map (classOn cloud) (skyHeights (c .sky)) ++ l) (changes-is cs)
-    ∙ sym (map-append (classOn cloud) (skyHeights (c .sky)) (changesHeights cs))
+    ∙ ap (λ (l : List Number). map (classOn cloud) (skyHeights (c .body .sky)) ++ l) (changes-is cs)
+    ∙ sym (map-append (classOn cloud) (skyHeights (c .body .sky)) (changesHeights cs))
 
 pub surface-numbers : (t : Table) (s q : Surface) → q .indicators .sight ≡ classSight (s .indicators .sight) → q .indicators .base ≡ classBase (s .indicators .base)
     → surfaceNumbers t q ≡ map (classOn t) (surfaceNumbers t s)
@@ -259,30 +259,30 @@ surface-numbers visibility s q e f = refl
 surface-numbers runway s q e f = refl
 surface-numbers cloud s q e f = refl
 
-pub observed-numbers : (t : Table) (r q : Metar) → q .visibility .is ≡ classView (r .visibility .is) → q .runways .items ≡ map classRunway (r .runways .items)
-    → q .sky ≡ classSky (r .sky) → observedNumbers t q ≡ map (classOn t) (observedNumbers t r)
+pub observed-numbers : (t : Table) (r q : Metar) → q .body .visibility .is ≡ classView (r .body .visibility .is) → q .runways .items ≡ map classRunway (r .runways .items)
+    → q .body .sky ≡ classSky (r .body .sky) → observedNumbers t q ≡ map (classOn t) (observedNumbers t r)
 observed-numbers land r q e f g = refl
 observed-numbers sea r q e f g = refl
 observed-numbers base r q e f g = refl
-observed-numbers visibility r q e f g = rw (e, view-is (r .visibility .is))
+observed-numbers visibility r q e f g = rw (e, view-is (r .body .visibility .is))
 observed-numbers runway r q e f g =
     rw (f, map-square (λ (w : Runway). w .range) classRunway (classOn runway) (λ w. refl) (r .runways .items))
-observed-numbers cloud r q e f g = rw (g, sky-is (r .sky))
+observed-numbers cloud r q e f g = rw (g, sky-is (r .body .sky))
 
-pub forecast-numbers : (t : Table) (r q : Taf) → q .leg .visibility .is ≡ classView (r .leg .visibility .is) → q .leg .sky ≡ classSky (r .leg .sky)
+pub forecast-numbers : (t : Table) (r q : Taf) → q .leg .body .visibility .is ≡ classView (r .leg .body .visibility .is) → q .leg .body .sky ≡ classSky (r .leg .body .sky)
     → q .changes .items ≡ map classChange (r .changes .items) → forecastNumbers t q ≡ map (classOn t) (forecastNumbers t r)
 forecast-numbers land r q e f g = refl
 forecast-numbers sea r q e f g = refl
 forecast-numbers base r q e f g = refl
 forecast-numbers visibility r q e f g =
-    rw (e, g, view-is (r .leg .visibility .is), map-square (λ (c : Change). viewMetres (c .visibility .is)) classChange (classOn visibility) change-view (r .changes .items))
+    rw (e, g, view-is (r .leg .body .visibility .is), map-square (λ (c : Change). viewMetres (c .body .visibility .is)) classChange (classOn visibility) change-view (r .changes .items))
 forecast-numbers runway r q e f g = refl
 forecast-numbers cloud r q e f g =
     ap (λ (y : Sky). skyHeights y ++ changesHeights (q .changes .items)) f
-    ∙ ap (λ (cs : List Change). skyHeights (classSky (r .leg .sky)) ++ changesHeights cs) g
-    ∙ ap (λ (l : List Number). l ++ changesHeights (map classChange (r .changes .items))) (sky-is (r .leg .sky))
-    ∙ ap (λ (l : List Number). map (classOn cloud) (skyHeights (r .leg .sky)) ++ l) (changes-is (r .changes .items))
-    ∙ sym (map-append (classOn cloud) (skyHeights (r .leg .sky)) (changesHeights (r .changes .items)))
+    ∙ ap (λ (cs : List Change). skyHeights (classSky (r .leg .body .sky)) ++ changesHeights cs) g
+    ∙ ap (λ (l : List Number). l ++ changesHeights (map classChange (r .changes .items))) (sky-is (r .leg .body .sky))
+    ∙ ap (λ (l : List Number). map (classOn cloud) (skyHeights (r .leg .body .sky)) ++ l) (changes-is (r .changes .items))
+    ∙ sym (map-append (classOn cloud) (skyHeights (r .leg .body .sky)) (changesHeights (r .changes .items)))
 
 pub amount-is : (f : Fall) → amountOf (classFall f) ≡ map roundedRain (amountOf f)
 amount-is fall.Missing = refl

@@ -20,7 +20,7 @@ use Rattle.text.specs.Groups.{Piece, groupsIn, groupsFrom, join, spaced, parted
 use Rattle.record.specs.declared.values.Number.the-variants as number
 use Rattle.record.specs.declared.aerodrome.Metar.{Metar}
 use Rattle.record.specs.Metar.{setStation, setTime, setNil, blankMetar}
-use Rattle.record.specs.SilentAerodrome.{noBody}
+use Rattle.record.specs.SilentAerodrome.{isBlankBody, noObservation}
 use Rattle.elements.specs.Wind.{showWind, showVariation}
 use Rattle.elements.specs.Visibility.{showVisibility}
 use Rattle.elements.specs.Weather.{showWeathers, showRecents}
@@ -58,12 +58,12 @@ abbrev otherText : List ℕ
 otherText = bytes "METAR LEMG 011200Z NIL="
 
 fair-one : Fair one
-unfolding nilOf metar.judgeOf noBody metar.judgeHead judgeStation judgeTime
-fair-one = observed (nilOf (bytes "LEMD")) (record { letters = refl; runways = refl; weathers = refl; layers = refl; recents = refl }) refl
+unfolding nilOf metar.judgeOf isBlankBody noObservation metar.judgeHead judgeStation judgeTime
+fair-one = observed (nilOf (bytes "LEMD")) (record { letters = refl; body = record { weathers = refl; layers = refl }; runways = refl; recents = refl }) refl
 
 fair-other : Fair other
-unfolding nilOf metar.judgeOf noBody metar.judgeHead judgeStation judgeTime
-fair-other = observed (nilOf (bytes "LEMG")) (record { letters = refl; runways = refl; weathers = refl; layers = refl; recents = refl }) refl
+unfolding nilOf metar.judgeOf isBlankBody noObservation metar.judgeHead judgeStation judgeTime
+fair-other = observed (nilOf (bytes "LEMG")) (record { letters = refl; body = record { weathers = refl; layers = refl }; runways = refl; recents = refl }) refl
 
 text-one : canonicalOf one ≡ oneText
 unfolding nilOf canonicalOf metar.canonicalOf row join spaced parted showTime showWind showVariation showVisibility showRunways showWeathers showSky showTemperatures showQnh showRecents numberText figures fieldText

@@ -41,7 +41,7 @@ use Rattle.report_record.specs.declared.kinds.Report.{Report}
 use Rattle.report_record.specs.Record.{surfaceReport, observedReport, forecastReport, accepted}
 use Rattle.record.specs.Arrays.{MetarArrays, TafArrays}
 use Rattle.record.specs.SilentSurface.{noSurface, isBlankSynop}
-use Rattle.record.specs.SilentAerodrome.{noBody, noElements, isBlankMetar, isBlankTaf}
+use Rattle.record.specs.SilentAerodrome.{isBlankBody, noObservation, isBlankMetar, isBlankTaf}
 use Rattle.record.proofs.SurfaceBlanks.{synop-blank}
 use Rattle.record.proofs.AerodromeBlanks.{metar-blank, taf-blank}
 use Rattle.report.specs.Read.{readOf}
@@ -145,11 +145,11 @@ comes-back (forecast t arrays e) = read-forecast (forecast-text t arrays e)
 -- ---- and written again
 
 blank-metar : isBlankMetar blankMetar ≡ true
-unfolding isBlankMetar noBody
+unfolding isBlankMetar noObservation isBlankBody
 blank-metar = refl
 
 blank-taf : isBlankTaf blankTaf ≡ true
-unfolding isBlankTaf noElements
+unfolding isBlankTaf isBlankBody
 blank-taf = refl
 
 blank-synop : isBlankSynop blankSynop ≡ true

@@ -7,4 +7,3 @@ pub mod Prints
 pub mod Exact
 pub mod Filled
 pub mod Shapes
-pub mod Examples

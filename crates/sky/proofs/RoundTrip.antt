@@ -25,7 +25,7 @@ use Rattle.record.specs.declared.aerodrome.Layer.{Layer}
 use Rattle.record.specs.declared.aerodrome.Cover.{Cover}
 use Rattle.record.specs.declared.aerodrome.Cover.the-variants as cover
 use Rattle.record.specs.declared.aerodrome.Sky.{Sky}
-use Rattle.record.specs.Metar.{blankLayer, blankSky}
+use Rattle.record.specs.Body.{blankLayer, blankSky}
 use Rattle.elements.specs.Parts.{then}
 use Rattle.elements.specs.Judge.{metresFit}
 use Rattle.elements.proofs.Classed.{cover-classed}

@@ -1,7 +1,7 @@
-// A sky group read into the sky that the groups before it gave.
+// A sky group read beside the sky that the groups before it gave.
 use elements::kinds::CoverRead;
 use elements::kinds::LayerRead;
-use elements::kinds::SkyRead;
+use elements::kinds::Said;
 use figures::field;
 use figures::kinds::Field;
 use record::aerodrome::Amount;
@@ -20,16 +20,14 @@ use shapes::scan::figures_or;
 use shapes::scan::nothing;
 use shapes::scan::scanned;
 use shapes::scan::word_or;
-use text::kinds::Judged;
 use text::kinds::Refusal;
 ghost use mathlib.Core.Path.{_≡_};
 ghost use lib.ListN.{getD, take};
 ghost use Rattle.shapes.specs.Pattern.{hasAny};
 ghost use Rattle.shapes.specs.Shape.{hasShape, scanOf, blankValue};
-ghost use Rattle.places.specs.Engine.{Bad};
-ghost use Rattle.elements.specs.Parts.{then};
-ghost use Rattle.elements.specs.Answers.{asLayer, asCover, asSky};
-ghost use Rattle.elements.specs.Sky.{layerShape, aloneShapes, hasSky, heightOf, amountOf, convectiveOf, layerBy, readAlone, notAbove, rises, addLayer, withLayer, withAlone, readSky};
+ghost use Rattle.places.specs.Engine.{Good};
+ghost use Rattle.elements.specs.Answers.{asLayer, asCover, layerSaid, aloneSaid, skySaid};
+ghost use Rattle.elements.specs.Sky.{layerShape, aloneShapes, hasSky, heightOf, amountOf, convectiveOf, layerBy, readAlone, notAbove, rises, addLayer};
 ghost use Rattle.sky.specs.Answers.{asHeight, verticalBy};
 
 // A height that may be missing, or the group's refusal.
@@ -218,18 +216,8 @@ fn rises(layers: [Layer; 4], k: usize, h: Number) -> bool
     true
 }
 
-// The sky as it was, beside a refusal.
-fn refused(s: Sky, refusal: Refusal) -> SkyRead
-    ensures { λ r. ⌜ r ≡ asSky s (Bad refusal) ⌝ }
-{
-    SkyRead {
-        judged: Judged::Refused(refusal),
-        sky: s,
-    }
-}
-
 // One more layer where k stand; past the fourth there is no room.
-fn add_layer(k: usize, s: Sky, l: Layer) -> Sky
+pub fn add_layer(k: usize, s: Sky, l: Layer) -> Sky
     ensures { λ r. ⌜ r ≡ addLayer k s l ⌝ }
 {
     if k < 4 {
@@ -245,70 +233,56 @@ fn add_layer(k: usize, s: Sky, l: Layer) -> Sky
     }
 }
 
-// CAVOK stands for the clouds, what stands alone for the layers, and heights rise.
-fn with_layer(cavok: bool, k: usize, s: Sky, l: Layer) -> SkyRead
-    ensures { λ r. ⌜ r ≡ asSky s (withLayer cavok k s l) ⌝ }
+// A layer, where it agrees with what stands already: CAVOK stands for the clouds, what stands alone for the layers, and heights rise.
+fn say_layer(cavok: bool, k: usize, s: Sky, l: Layer) -> Said
+    ensures { λ r. ⌜ r ≡ layerSaid cavok k s (Good l) ⌝ }
 {
     let c = s.cover;
     let layers = s.layers;
     let h = l.height;
     if !cavok & c.is_layers() & rises(layers, k, h) {
-        SkyRead {
-            judged: Judged::Fine,
-            sky: add_layer(k, s, l),
-        }
+        Said::Layer(l)
     } else {
-        refused(s, Refusal::Disagreement)
+        Said::Refused(Refusal::Disagreement)
     }
 }
 
-fn with_alone(cavok: bool, k: usize, s: Sky, c: Cover) -> SkyRead
-    ensures { λ r. ⌜ r ≡ asSky s (withAlone cavok k s c) ⌝ }
-{
-    let layers = s.layers;
-    if !cavok & (k == 0) {
-        SkyRead {
-            judged: Judged::Fine,
-            sky: Sky {
-                cover: c,
-                layers,
-                count: 0,
-            },
-        }
-    } else {
-        refused(s, Refusal::Disagreement)
-    }
-}
-
-fn read_as_layer(forecast: bool, cavok: bool, k: usize, scanned: Scan, s: Sky) -> SkyRead
-    ensures { λ r. ⌜ r ≡ asSky s (then (layerBy forecast (getD (scanned .values) 0 blankValue) (getD (scanned .values) 1 blankValue) (getD (scanned .values) 2 blankValue)) (withLayer cavok k s)) ⌝ }
+fn read_as_layer(forecast: bool, cavok: bool, k: usize, scanned: Scan, s: Sky) -> Said
+    ensures { λ r. ⌜ r ≡ layerSaid cavok k s (layerBy forecast (getD (scanned .values) 0 blankValue) (getD (scanned .values) 1 blankValue) (getD (scanned .values) 2 blankValue)) ⌝ }
 {
     let values = scanned.values;
     let read = read_layer(forecast, values);
     match read {
-        LayerRead::Good(l) => with_layer(cavok, k, s, l),
-        LayerRead::Bad(refusal) => refused(s, refusal),
+        LayerRead::Good(l) => say_layer(cavok, k, s, l),
+        LayerRead::Bad(refusal) => Said::Refused(refusal),
     }
 }
 
-fn read_as_alone(forecast: bool, cavok: bool, k: usize, g: &[u8], s: Sky) -> SkyRead
-    ensures { λ r. ⌜ r ≡ asSky s (then (readAlone forecast (now (g .entry))) (withAlone cavok k s)) ⌝ }
+// What stands alone, where nothing stands already.
+fn read_as_alone(forecast: bool, cavok: bool, k: usize, g: &[u8]) -> Said
+    ensures { λ r. ⌜ r ≡ aloneSaid cavok k (readAlone forecast (now (g .entry))) ⌝ }
 {
     let read = read_alone(forecast, g);
     match read {
-        CoverRead::Good(c) => with_alone(cavok, k, s, c),
-        CoverRead::Bad(refusal) => refused(s, refusal),
+        CoverRead::Good(c) => {
+            if !cavok & (k == 0) {
+                Said::Cover(c)
+            } else {
+                Said::Refused(Refusal::Disagreement)
+            }
+        }
+        CoverRead::Bad(refusal) => Said::Refused(refusal),
     }
 }
 
-// The sky with what the group says, k groups standing before it, or as it was beside the group's refusal.
-pub fn read_sky(forecast: bool, cavok: bool, k: usize, g: &[u8], s: Sky) -> SkyRead
-    ensures { λ r. ⌜ r ≡ asSky s (readSky forecast cavok k (now (g .entry)) s) ⌝ }
+// What the group says beside the sky that the groups before it gave, k of them.
+pub fn read_sky(forecast: bool, cavok: bool, k: usize, g: &[u8], s: Sky) -> Said
+    ensures { λ r. ⌜ r ≡ skySaid forecast cavok k (now (g .entry)) s ⌝ }
 {
     let scanned = scan_layer(g);
     if scanned.fits {
         read_as_layer(forecast, cavok, k, scanned, s)
     } else {
-        read_as_alone(forecast, cavok, k, g, s)
+        read_as_alone(forecast, cavok, k, g)
     }
 }

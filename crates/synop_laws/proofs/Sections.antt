@@ -1,10 +1,10 @@
--- Section 1 after Nddff, as a whole: the row's places are told apart, and what is written of a surface that is judged fine is read back as its class.
+-- Section 1 after Nddff, as a whole: what is written of a surface that is judged fine is read back as its class.
 -- Assumes nothing.
 use Prim.Native.Nat.{ℕ, _<_}
 use Prim.Native.String.{String}
 use native.Mathlib.Omega.{arith}
 use mathlib.Core.Path.{_≡_, refl, sym, ap, _∙_}
-use mathlib.Core.Bool.{Bool, true, false, not, _&&_, or-true, false≢true}
+use mathlib.Core.Bool.{Bool, true, false, not, _&&_, false≢true}
 use mathlib.Core.List.{List, [], _∷_}
 use mathlib.Core.Logic.{⊎-elim}
 use lib.ListN.{length, replicate}
@@ -13,9 +13,9 @@ use Rattle.figures.specs.Quote.{bytes}
 use Rattle.text.specs.declared.kinds.Tail.the-variants.{Clear}
 use Rattle.text.specs.Groups.{Piece}
 use Rattle.text.proofs.Judging.{and-then}
-use Rattle.shapes.specs.Pattern.{Pattern, low, high, hasPattern, hasAny, clash, clashEach, allApart}
+use Rattle.shapes.specs.Pattern.{Pattern, low, high, hasPattern, hasAny}
 use Rattle.places.specs.Engine.{Group, Good, Done, Place, written, putAll}
-use Rattle.places.proofs.ReadBack.{All, one-pattern, sound, Covered, Served, groupsOf, read-back}
+use Rattle.places.proofs.ReadBack.{All, one-pattern, Served, groupsOf, read-back}
 use Rattle.places.proofs.Sizes.{measured, sized-each, Sizes}
 use Rattle.places.proofs.Kept.{Kept, KeptRow, done, more, kept-spoken, kept-served, kept-sizes}
 use Rattle.scales.proofs.Laws.{reached}
@@ -35,20 +35,9 @@ use Rattle.synop_groups.specs.Classes.{speedInTwo, windInTwo}
 use Rattle.synop_groups.proofs.RoundTrip.{Back, none, one, Each, back-shaped, meantSpeed, speed-back, air-back, moisture-back, moisture-covered, pressure-back, level-back, tendency-back, rainfall-back, weather-back, clouds-back, clock-back, rainfall-again, rainfall-classed}
 use Rattle.synop_row.specs.declared.kinds.Needs.{Needs}
 use Rattle.synop_row.specs.Row.{needsOf, setSpeed, withSaid, placeFor, row, stopWords}
+use Rattle.synop_row.proofs.Sound.{row-sound, row-covered}
 use Rattle.synop_section.specs.Answer.{section}
 use Rattle.synop.specs.Write.{judgeSection}
-
--- ---- the row
-
--- WHAT THE ROW WRITES IS TOLD APART, whatever iR, ix and ff require.
-pub row-sound : (n : Needs) → sound stopWords (row n) ≡ true
-unfolding row stopWords low high clash clashEach allApart
-row-sound n = rw (or-true (n .speed && true), or-true (n .rain && true), or-true (n .weather && true))
-
-pub row-covered : (n : Needs) → Covered (row n)
-unfolding row
-row-covered n =
-    (one-pattern _, (one-pattern _, (one-pattern _, (one-pattern _, (one-pattern _, (one-pattern _, (one-pattern _, (one-pattern _, (one-pattern _, (one-pattern _, tt))))))))))
 
 -- ---- what the row owes, place by place
 

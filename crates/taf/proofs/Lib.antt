@@ -1,4 +1,3 @@
--- The test that tells the groups apart, and the laws of reading.
-pub mod Sound
+-- The laws of reading.
 pub mod Steps
 pub mod Turns

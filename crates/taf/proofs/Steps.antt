@@ -1,75 +1,45 @@
--- The laws of one group of a TAF: what it adds to its part, and how it is held to the part's row.
+-- The laws of one group of a TAF's part: what it says goes into the part as its place reads it, and where reading stands past it.
 -- Assumes nothing.
-use Prim.Native.Nat.{ℕ, zero, suc, _+_, _≤_, _<_}
-use native.Mathlib.Omega.{arith}
+use Prim.Native.Nat.{ℕ, zero, suc, _≤_}
 use mathlib.Core.Path.{_≡_, refl, sym, ap, _∙_}
-use mathlib.Core.Bool.{Bool, true, false, not, cond, _&&_, _||_, or-false}
+use mathlib.Core.Bool.{Bool, true, false, not, cond, _||_, or-false, false≢true}
 use mathlib.Core.List.{List, [], _∷_, _++_}
-use lib.ListN.{length, getD, replicate, List·getD-eq-default, List·getD-map}
-use lib.Dec.{leb, eqb}
-use borrow.Author.Tests.{leb-true}
+use lib.ListN.{getD, replicate, List·getD-eq-default, List·getD-map}
+use lib.Dec.{eqb}
 use types.Run.{OneOf, miss}
 use denote.Enum.Declared.{tagOf}
 use Rattle.text.specs.declared.kinds.Refusal.{Refusal}
 use Rattle.text.specs.declared.kinds.Refusal.the-variants as refusal
-use Rattle.text.specs.declared.kinds.Judged.the-variants as fine
-use Rattle.figures.proofs.Impossible.{impossible}
-use Rattle.shapes.specs.Pattern.{hasAny}
-use Rattle.shapes.proofs.Patterns.{both}
-use Rattle.places.specs.declared.kinds.Found.{Found}
-use Rattle.places.specs.declared.kinds.Found.the-variants.{Take, Skips, Full, Earlier, Unknown}
-use Rattle.places.specs.Seek.{findOf, refusalOf}
-use Rattle.places.specs.Engine.{Group, Read, Good, Bad, Place, nowhere, placeAt, standsOf, taken, judged, onward, On, Stop}
-use Rattle.places.proofs.Rows.{taken-open, only-at}
-use Rattle.places.proofs.Going.{step-past, step-word, step-by}
-use Rattle.places.proofs.kinds.Found as found
-use Rattle.record.specs.declared.aerodrome.Period.{Period}
-use Rattle.record.specs.declared.aerodrome.Weather.{Weather}
+use Rattle.places.specs.Engine.{Group, Read, Good, Bad, then, Place, nowhere, placeAt, onward}
+use Rattle.places.proofs.Rows.{only-at}
+use Rattle.places.proofs.Loop.{atMost}
+use Rattle.record.specs.declared.aerodrome.Body.{Body}
 use Rattle.record.specs.declared.aerodrome.Leg.{Leg}
-use Rattle.elements.specs.Parts.{agreeing}
-use Rattle.elements.specs.Visibility.{isCavok}
+use Rattle.record.specs.Taf.{setTime, setPeriod, setBody}
+use Rattle.elements.specs.declared.kinds.Said.{Said}
+use Rattle.elements.specs.declared.kinds.Said.the-variants as said
+use Rattle.elements.proofs.kinds.Said as says
+use Rattle.elements.specs.Answers.{asSaid}
+use Rattle.elements.proofs.Answers.{said-put}
+use Rattle.elements.specs.Body.{bodyRow}
+use Rattle.aerodrome_groups.specs.Head.{readTime}
+use Rattle.body.specs.Said.{unlessRefused, putSaid, withSaid, isOfBody}
+use Rattle.body.specs.Said.{Says as BodySays}
+use Rattle.body.proofs.Says.{said-fine, not-refused, unless-then, tag-in}
 use Rattle.taf_row.specs.declared.kinds.Part.{Part}
 use Rattle.taf_row.specs.declared.kinds.Part.the-variants as part
 use Rattle.taf_row.proofs.Rows.{row-length}
-use Rattle.taf.specs.declared.kinds.PeriodRead.{PeriodRead}
-use Rattle.taf.specs.declared.kinds.PeriodRead.the-variants as period
-use Rattle.taf.specs.declared.kinds.Told.{Told}
-use Rattle.taf.specs.declared.kinds.Turn.the-variants as turn
-use Rattle.taf_row.specs.Row.{onto, besideOthers, row, changeWords}
-use Rattle.taf.specs.Step.{asPeriod, toldOf, Turns}
+use Rattle.taf_row.specs.Row.{isMain, isWhole, forecastIn, correctionOf, readPeriod, row}
+use Rattle.taf.specs.Said.{ontoBody, partSaid, Says}
 
--- ---- what a group adds
+-- ---- the row
 
--- what a group is read as goes into the part
-pub took : {A : Type 0} (r : Leg) (f : A → Leg → Leg) {x y : Read A} → x ≡ y → toldOf r (onto y f r) ≡ toldOf r (onto x f r)
-took r f e = rw e
-
-abbrev fromPeriod : PeriodRead → Read Period
-fromPeriod (period.Good x) = Good x
-fromPeriod (period.Bad f) = Bad f
-
-pub period-is : {e : PeriodRead} (x : Read Period) → e ≡ asPeriod x → x ≡ fromPeriod e
-period-is (Good y) p = rw p
-period-is (Bad f) p = rw p
-
--- weather beside CAVOK or NSW, or beside neither
-pub beside : (r : Leg) (f : Weather → Leg → Leg) (w : Weather) {x : Read Weather} {cavok : Bool} (b : Bool) → x ≡ Good w → cavok ≡ isCavok (r .visibility)
-    → (not cavok && not (r .nsw)) ≡ b → toldOf r (onto (agreeing b (Good w)) f r) ≡ toldOf r (onto (besideOthers r x) f r)
-beside r f w b e c is = rw (e, ← c, is)
-
-pub beside-bad : (r : Leg) (f : Weather → Leg → Leg) {x y : Read Weather} → x ≡ y → toldOf r (onto (besideOthers r y) f r) ≡ toldOf r (onto (besideOthers r x) f r)
-beside-bad r f e = rw e
-
--- ---- a group at its place
-
--- a place by its number
-pub read-place : (w : Part) (r : Leg) (g : Group) (k : ℕ) {i : ℕ} (j : ℕ) {t : Told} → i ≡ j → t ≡ toldOf r (placeAt (row w) j .read k g r)
-    → t ≡ toldOf r (placeAt (row w) i .read k g r)
-read-place w r g k j p e = rw p e
-
--- past the row no group is taken
-pub read-nowhere : (w : Part) (r : Leg) (g : Group) (k i : ℕ) → 11 ≤ i → toldOf r (Bad refusal.Shape) ≡ toldOf r (placeAt (row w) i .read k g r)
-read-nowhere w r g k i h = ap (λ (p : Place Leg). toldOf r (p .read k g r)) (sym (List·getD-eq-default (row w) nowhere (rw (row-length w) h)))
+-- no place has more than four groups
+pub row-few : (w : Part) → atMost 4 (row w) ≡ true
+unfolding row
+row-few part.Main = refl
+row-few part.Changing = refl
+row-few part.From = refl
 
 -- NIL and CNL end the report: where either of two lists of tests holds
 abbrev either : List Bool → List Bool → List Bool
@@ -95,62 +65,116 @@ ends-by w i =
 pub past-end : (w : Part) (i : ℕ) (b : Bool) → (eqb i 4 || eqb i 6) ≡ b → cond b 11 i ≡ onward (row w) i
 past-end w i b e = rw (row-length w, ← ends-by w i, e)
 
--- ---- one group
+-- ---- what a group says
 
-abbrev allFew : List (Place Leg) → Bool
-allFew [] = true
-allFew (p ∷ ps) = leb (p .most) 4 && allFew ps
+-- a place by its number
+pub says-at : (w : Part) (j k : ℕ) (g : Group) (b : Body) {i : ℕ} {x y : Said} → i ≡ j → x ≡ y → Says w j k g b y → Says w i k g b x
+says-at w j k g b p q s = rw (p, q) s
 
-row-few : (ps : List (Place Leg)) → allFew ps ≡ true → (i : ℕ) → placeAt ps i .most ≤ 4
-row-few [] e i = omega arith
-row-few (p ∷ ps) e zero = leb-true (p .most) 4 (both (leb (p .most) 4) (allFew ps) e .0)
-row-few (p ∷ ps) e (suc i) = row-few ps (both (leb (p .most) 4) (allFew ps) e .1) i
+-- what is none of the head is of the body
+abbrev elsewhere : List ℕ
+elsewhere = 0 ∷ 1 ∷ 6 ∷ 9 ∷ 10 ∷ 11 ∷ 12 ∷ 13 ∷ 14 ∷ 15 ∷ 16 ∷ 17 ∷ 18 ∷ 19 ∷ 20 ∷ 21 ∷ []
 
-all-few : (w : Part) → allFew (row w) ≡ true
-unfolding row
-all-few part.Main = refl
-all-few part.Changing = refl
-all-few part.From = refl
+pub others : (k : ℕ) (g : Group) (x : Said) → OneOf elsewhere (tagOf says.the-type x) → (r : Leg) → ontoBody k x r ≡ partSaid k g x r
+unfolding partSaid
+others k g (said.Special x) told r = refl
+others k g said.Corrected told r = refl
+others k g (said.Correction x) told r = absurd (miss elsewhere 2 tt told)
+others k g said.Station told r = absurd (miss elsewhere 3 tt told)
+others k g (said.Time x) told r = absurd (miss elsewhere 4 tt told)
+others k g said.Nil told r = absurd (miss elsewhere 5 tt told)
+others k g said.Automatic told r = refl
+others k g (said.Period x) told r = absurd (miss elsewhere 7 tt told)
+others k g said.Cancelled told r = absurd (miss elsewhere 8 tt told)
+others k g (said.Wind x) told r = refl
+others k g (said.Variation x) told r = refl
+others k g (said.Visibility x) told r = refl
+others k g (said.Runway x) told r = refl
+others k g (said.Weather x) told r = refl
+others k g said.Nsw told r = refl
+others k g (said.Layer x) told r = refl
+others k g (said.Cover x) told r = refl
+others k g (said.Temperatures x) told r = refl
+others k g (said.Qnh x) told r = refl
+others k g (said.Recent x) told r = refl
+others k g said.Nothing told r = refl
+others k g (said.Refused f) told r = refl
 
-room-left : (w : Part) (g : Group) (c k i j : ℕ) → Take i j ≡ findOf (standsOf (row w) g) c k → j < 4
-room-left w g c k i j e = let o = taken-open (row w) g c k i j (sym e) in omega (arith, o .room, row-few (row w) (all-few w) i)
+-- what a group of the body says
+by-same : (F : Body → Type 0) {b d : Body} → d ≡ b → F b → F d
+by-same F q h = rw q h
 
-untaken : (w : Part) (x : Leg) (g : Group) (f : Found) → OneOf (1 ∷ 2 ∷ 3 ∷ 4 ∷ []) (tagOf found.the-type f) → Stop (refusalOf f) ≡ judged (row w) x g f
-untaken w x g (Take i k) told = absurd (miss (1 ∷ 2 ∷ 3 ∷ 4 ∷ []) 0 tt told)
-untaken w x g Skips told = refl
-untaken w x g Full told = refl
-untaken w x g Earlier told = refl
-untaken w x g Unknown told = refl
+of-body : (k : ℕ) (g : Group) (x : Said) (r : Leg) → isOfBody x ≡ true → unlessRefused x (partSaid k g x r) ≡ then (withSaid k x (r .body)) (λ b. Good (setBody b r))
+of-body k g x r own = rw (← others k g x (tag-in elsewhere tt tt tt tt tt tt tt x own) r) (unless-then (λ b. setBody b r) (putSaid k x (r .body)) x)
 
--- a group's turn
-module _ (w : Part) (c k : ℕ) (g : Group) where
-  pub turn-beyond : 11 ≤ c → Turns w c k g (turn.Refused refusal.Shape)
-  turn-beyond h = record { says = λ r. step-past (row w) changeWords c k r g (rw (row-length w) h); room = λ i j e. impossible (cc) }
+-- whether NSW may stand, as the code asked it
+pub body-says : (w : Part) {m : Bool} {j k : ℕ} {g : Group} {b : Body} {x : Said} → m ≡ isMain w → BodySays true (not m) false j k g b x → BodySays true (not (isMain w)) false j k g b x
+body-says w e s = rw (← e) s
 
-  module _ (here : c < 11) where
-    inside : c < length (row w)
-    inside = rw (row-length w) here
+-- place by place
+module _ (w : Part) (k : ℕ) (g : Group) (b : Body) where
+  says-body : (i j : ℕ) {x : Said} → BodySays true (not (isMain w)) false j k g b x
+      → ((r : Leg) → placeAt (row w) i .read k g r ≡ then (placeAt (bodyRow (forecastIn w)) j .read k g (r .body)) (λ b. Good (setBody b r))) → Says w i k g b x
+  says-body i j {x} s reads r at =
+      let e = by-same (λ b. withSaid k x b ≡ placeAt (bodyRow (forecastIn w)) j .read k g b) at (s .puts (isWhole w) false) in
+      of-body k g x r (s .own) ∙ ap (λ (y : Read Body). then y (λ b. Good (setBody b r))) e ∙ sym (reads r)
 
-    pub turn-halts : hasAny changeWords g ≡ true → Turns w c k g turn.Halt
-    turn-halts h = record { says = λ r. step-word (row w) changeWords c k r g inside h; room = λ i j e. impossible (cc) }
+  pub says-name : Says w 0 k g b said.Nothing
+  unfolding row partSaid putSaid
+  says-name r at = refl
 
-    module _ (h : hasAny changeWords g ≡ false) {f : Found} (asked : f ≡ findOf (standsOf (row w) g) c k) where
-      pub turn-takes : (i j : ℕ) → f ≡ Take i j → Turns w c k g (turn.At i j)
-      turn-takes i j is =
-          record {
-            says = λ r. step-by (row w) changeWords c k r g inside h asked ∙ rw is;
-            room = λ m n e. let same : j ≡ n = cc in rw (← same) (room-left w g c k i j (sym is ∙ asked));
-          }
+  pub says-correction : Says w 1 k g b (said.Correction (correctionOf g))
+  unfolding row partSaid
+  says-correction r at = refl
 
-      pub turn-refused : {x : Refusal} → x ≡ refusalOf f → OneOf (1 ∷ 2 ∷ 3 ∷ 4 ∷ []) (tagOf found.the-type f) → Turns w c k g (turn.Refused x)
-      turn-refused e told =
-          record { says = λ r. step-by (row w) changeWords c k r g inside h asked ∙ sym (rw e (untaken w r g f told)); room = λ i j z. impossible (cc) }
+  pub says-station : Says w 2 k g b said.Station
+  unfolding row partSaid
+  says-station r at = refl
 
--- what is told at a place, and how reading goes on from there
-pub told-on : (r : Leg) (m n : ℕ) (y : Read Leg) → toldOf r y .judged ≡ fine.Fine → taken m n y ≡ On m n (toldOf r y .leg)
-told-on r m n (Good x) e = refl
-told-on r m n (Bad f) e = impossible (cc)
+  pub says-time : Says w 3 k g b (asSaid said.Time (readTime g))
+  unfolding row partSaid
+  says-time r at = said-put said.Time (λ y. unlessRefused y (partSaid k g y r)) (λ a. setTime a r) (λ a. refl) (λ f. refl) (readTime g)
 
-pub told-off : (r : Leg) (m n : ℕ) (y : Read Leg) (f : Refusal) → toldOf r y .judged ≡ fine.Refused f → taken m n y ≡ Stop f
-told-off r m n (Good x) f e = impossible (cc)
-told-off r m n (Bad h) f e = let same : h ≡ f = cc in rw same
+  pub says-nil : Says w 4 k g b said.Nil
+  unfolding row partSaid
+  says-nil r at = refl
+
+  pub says-period : Says w 5 k g b (asSaid said.Period (readPeriod g))
+  unfolding row partSaid
+  says-period r at = said-put said.Period (λ y. unlessRefused y (partSaid k g y r)) (λ a. setPeriod a r) (λ a. refl) (λ f. refl) (readPeriod g)
+
+  pub says-cancelled : Says w 6 k g b said.Cancelled
+  unfolding row partSaid
+  says-cancelled r at = refl
+
+  pub says-wind : {x : Said} → BodySays true (not (isMain w)) false 0 k g b x → Says w 7 k g b x
+  unfolding row
+  says-wind s = says-body 7 0 s (λ r. refl)
+
+  pub says-visibility : {x : Said} → BodySays true (not (isMain w)) false 1 k g b x → Says w 8 k g b x
+  unfolding row
+  says-visibility s = says-body 8 1 s (λ r. refl)
+
+  pub says-weather : {x : Said} → BodySays true (not (isMain w)) false 2 k g b x → Says w 9 k g b x
+  unfolding row
+  says-weather s = says-body 9 2 s (λ r. refl)
+
+  pub says-sky : {x : Said} → BodySays true (not (isMain w)) false 3 k g b x → Says w 10 k g b x
+  unfolding row
+  says-sky s = says-body 10 3 s (λ r. refl)
+
+  -- past the row no group is taken
+  pub says-nothing : (i : ℕ) → 11 ≤ i → Says w i k g b (said.Refused refusal.Shape)
+  says-nothing i h r at = ap (λ (p : Place Leg). p .read k g r) (sym (List·getD-eq-default (row w) nowhere (rw (row-length w) h)))
+
+-- what is said at a place is what the place reads: a refusal, or the part with it
+pub said-bad : (w : Part) (i k : ℕ) (g : Group) (r : Leg) {x : Said} {f : Refusal} → Says w i k g (r .body) x → x ≡ said.Refused f → placeAt (row w) i .read k g r ≡ Bad f
+said-bad w i k g r s is = sym (rw is at (s r refl))
+
+pub said-good : (w : Part) (i k : ℕ) (g : Group) (r : Leg) (x : Said) {a : Leg} → Says w i k g (r .body) x → OneOf said-fine (tagOf says.the-type x) → a ≡ partSaid k g x r
+    → placeAt (row w) i .read k g r ≡ Good a
+said-good w i k g r x s fine is = rw is (sym (s r refl) ∙ not-refused (partSaid k g x r) x fine)
+
+-- by what the group was found to say
+pub put-by : (k : ℕ) (g : Group) (r : Leg) {x y : Said} → x ≡ y → partSaid k g y r ≡ partSaid k g x r
+put-by k g r q = rw q

@@ -11,7 +11,6 @@ use lib.Seq.{sets, set-comm}
 use borrow.Author.Tests.{lt-ltb}
 use Rattle.text.specs.declared.kinds.Refusal.{Refusal}
 use Rattle.text.specs.declared.kinds.Refusal.the-variants as refusal
-use Rattle.text.specs.declared.kinds.Judged.the-variants as fine
 use Rattle.text.specs.declared.kinds.Tail.{Tail}
 use Rattle.text.specs.declared.kinds.Tail.the-variants.{Clear, Junk}
 use Rattle.text.specs.declared.kinds.Verdict.{Verdict}
@@ -22,7 +21,11 @@ use Rattle.figures.specs.Quote.{bytes}
 use Rattle.figures.proofs.Impossible.{impossible}
 use Rattle.shapes.specs.Pattern.{low, high, fits, hasAny, clash, clashEach}
 use Rattle.shapes.proofs.Patterns.{excluded-each}
-use Rattle.places.specs.Engine.{Group, placeAt, onward, taken, On, step, Outcome}
+use Rattle.places.specs.Engine.{Group, Good, Bad, placeAt, onward, taken, On, step, Outcome}
+use Rattle.places.specs.declared.kinds.Turn.{Turn}
+use Rattle.places.specs.declared.kinds.Turn.the-variants as turn
+use Rattle.places.specs.Turn.{turnAt}
+use Rattle.places.proofs.Loop.{turnStep, turn-steps}
 use Rattle.places.specs.Parts.{runTo, stepBy, ended, further, reportOf}
 use Rattle.places.proofs.Going.{step-first}
 use Rattle.places.proofs.Turns.{comes, within, within-over, within-on, within-fault, within-halt}
@@ -35,9 +38,6 @@ use Rattle.record.specs.declared.aerodrome.Taf.{Taf}
 use Rattle.record.specs.Taf.{blankPeriod, blankLeg, blankTaf, setPeriod}
 use Rattle.taf_row.specs.declared.kinds.Part.{Part}
 use Rattle.taf_row.specs.declared.kinds.Part.the-variants as part
-use Rattle.taf.specs.declared.kinds.Told.{Told}
-use Rattle.taf.specs.declared.kinds.Turn.{Turn}
-use Rattle.taf.specs.declared.kinds.Turn.the-variants as turn
 use Rattle.taf.specs.declared.kinds.Opened.{Opened}
 use Rattle.taf.specs.declared.kinds.Opened.the-variants as opened
 use Rattle.taf.specs.declared.kinds.Next.the-variants as next
@@ -47,8 +47,7 @@ use Rattle.taf.specs.declared.kinds.Reading.{Reading}
 use Rattle.taf_row.specs.Row.{word, row, changeWords}
 use Rattle.taf_row.specs.Tests.{joins, lacks}
 use Rattle.taf.specs.Read.{probableGroup, fromGroup, openedBy, afterProbable, partOf, changeOf, partIn, changePart, changes, groupsRead, behindName, answer}
-use Rattle.taf.specs.Step.{toldOf, turned, Turns, begunBy, Begins, partBy, changeFrom, bodyFrom, refusedAt, atEnd, outcomeOf, afterPart, MetWord, PartDone, noneAhead, ReadAhead}
-use Rattle.taf.proofs.Steps.{told-on, told-off}
+use Rattle.taf.specs.Step.{begunBy, Begins, partBy, changeFrom, bodyFrom, refusedAt, atEnd, outcomeOf, afterPart, MetWord, PartDone, noneAhead, ReadAhead}
 
 -- ---- what a change word opens
 
@@ -150,13 +149,12 @@ module _ {text : List ℕ} {w : Part} {n first : ℕ} {r₀ : Leg} {start c k : 
         ahead = λ o q to z. absurd (end-stays (tailOf text) (length text) (lacks w c k r) o q to (rw e at z));
       }
 
-  module _ {from to : ℕ} {g : Group} {u : Turn} (follows : Follows text at from to) (cut : g ≡ bytesOf text from to) (turns : Turns w c k g u) where
+  module _ {from to : ℕ} {g : Group} {u : Turn} (follows : Follows text at from to) (cut : g ≡ bytesOf text from to) (turns : u ≡ turnAt (row w) (hasAny changeWords) c k g) where
     groups : groupsFrom text at ≡ record { start = from; bytes = g } ∷ groupsFrom text to
     groups = rw cut (follows .groups)
 
-    steps : stepBy (row w) (hasAny changeWords) c k r g ≡ turned w r g u
-    unfolding step
-    steps = turns .says r
+    steps : stepBy (row w) (hasAny changeWords) c k r g ≡ turnStep (row w) r g u
+    steps = rw turns (turn-steps (row w) (hasAny changeWords) c k g r)
 
     pub part-word : {x : PartRead} → u ≡ turn.Halt → (x .leg ≡ r) × MetWord g from to n (lacks w c k r) (x .next) → done x
     unfolding goes-on comes
@@ -179,31 +177,25 @@ module _ {text : List ℕ} {w : Part} {n first : ℕ} {r₀ : Leg} {start c k : 
           ahead = λ o q at′ z. impossible (let y = rw e at z in cc);
         }
 
-    module _ (i j : ℕ) (o : u ≡ turn.At i j) {x : Told} (told : x ≡ toldOf r (placeAt (row w) i .read j g r)) where
+    module _ {i j : ℕ} (o : u ≡ turn.At i j) where
       goes : stepBy (row w) (hasAny changeWords) c k r g ≡ taken (onward (row w) i) (j + 1) (placeAt (row w) i .read j g r)
       goes = steps ∙ rw o
 
-      pub part-on : {c′ : ℕ} → c′ ≡ onward (row w) i → x .judged ≡ fine.Fine → Reached text w n first r₀ start c′ (j + 1) (x .leg) to
+      pub part-on : {c′ : ℕ} {r′ : Leg} → placeAt (row w) i .read j g r ≡ Good r′ → c′ ≡ onward (row w) i → Reached text w n first r₀ start c′ (j + 1) r′ to
       unfolding goes-on
-      part-on is good =
-          let y = placeAt (row w) i .read j g r in
+      part-on {r′ = r′} good is =
           record {
             same = λ takes.
                 reached .same takes
-                ∙ rw (is, told)
-                (within-on changes text (partIn w takes) (16 - n) c k r at from to g groups (onward (row w) i) (j + 1) (toldOf r y .leg) (goes ∙ told-on r (onward (row w) i) (j + 1) y (rw told at good)));
+                ∙ rw is (within-on changes text (partIn w takes) (16 - n) c k r at from to g groups (onward (row w) i) (j + 1) r′ (goes ∙ rw good));
             later = omega (arith, reached .later, follows .after, follows .some);
           }
 
-      pub part-bad : {f : Refusal} {z : PartRead} → x .judged ≡ fine.Refused f → z ≡ record { next = refusedAt f from; leg = r } → done z
+      pub part-bad : {f : Refusal} {z : PartRead} → placeAt (row w) i .read j g r ≡ Bad f → z ≡ record { next = refusedAt f from; leg = r } → done z
       unfolding goes-on
       part-bad {f} bad e =
-          let y = placeAt (row w) i .read j g r in
           record {
-            reads = λ takes.
-                reached .same takes
-                ∙ within-fault changes text (partIn w takes) (16 - n) c k r at from to g groups f (goes ∙ told-off r (onward (row w) i) (j + 1) y f (rw told at bad))
-                ∙ rw e;
+            reads = λ takes. reached .same takes ∙ within-fault changes text (partIn w takes) (16 - n) c k r at from to g groups f (goes ∙ rw bad) ∙ rw e;
             ahead = λ o q at′ v. impossible (let s = rw e at v in cc);
           }
 

@@ -28,7 +28,8 @@ use Rattle.taf_row.specs.declared.kinds.Part.{Part}
 use Rattle.taf_row.specs.declared.kinds.Part.the-variants as part
 use Rattle.taf.specs.declared.kinds.Reading.{Reading}
 use Rattle.taf_row.specs.Row.{isMain, word, row, changeWords}
-use Rattle.taf_row.specs.Tests.{joins, hasElement}
+use Rattle.taf_row.specs.Tests.{joins}
+use Rattle.elements.specs.Body.{hasElement}
 
 -- ---- what a change word opens: "BECMG, TEMPO, PROB30, PROB40, .. or FMYYGGgg"
 
@@ -76,7 +77,7 @@ partOf opening.From = part.From
 -- ---- the report with a part that is whole
 
 abbrev pub changeOf : Opening → Leg → Change
-changeOf o r = record { opening = o; period = r .period; wind = r .wind; visibility = r .visibility; weathers = r .weathers; nsw = r .nsw; sky = r .sky }
+changeOf o r = record { opening = o; period = r .period; body = r .body }
 
 -- one more change; past the sixteenth there is no room
 abbrev pub withChange : Changes → Change → Changes
@@ -90,7 +91,7 @@ partIn w takes =
     record {
       row = row w;
       halts = hasAny changeWords;
-      lacks = λ r. not (isMain w) && not (hasElement r);
+      lacks = λ r. not (isMain w) && not (hasElement (r .body));
       takes = takes;
       word = λ t g. Opens (openedBy g);
     }

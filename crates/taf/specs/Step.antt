@@ -1,4 +1,4 @@
--- What the functions that read a TAF answer, in terms of its parts: one group, what a change word opens, a part, and what is read from a change on.
+-- What the functions that read a TAF answer, in terms of its parts: what a change word opens, a part, and what is read from a change on.
 -- Assumes nothing: these are definitions.
 use Prim.Native.Nat.{ℕ, _+_, _-_, _≤_, _<_}
 use mathlib.Core.Path.{_≡_}
@@ -8,14 +8,13 @@ use lib.ListN.{length}
 use lib.Seq.{sets}
 use Rattle.text.specs.declared.kinds.Refusal.{Refusal}
 use Rattle.text.specs.declared.kinds.Refusal.the-variants as refusal
-use Rattle.text.specs.declared.kinds.Judged.the-variants as judged
 use Rattle.text.specs.declared.kinds.Tail.{Tail}
 use Rattle.text.specs.declared.kinds.Tail.the-variants.{Clear, Junk}
 use Rattle.text.specs.declared.kinds.Verdict.{Verdict}
 use Rattle.text.specs.declared.kinds.Verdict.the-variants as verdict
 use Rattle.text.specs.Groups.{groupsFrom}
 use Rattle.text.specs.Text.{tailOf}
-use Rattle.places.specs.Engine.{Group, Read, Good, Bad, placeAt, Step, Halt, Stop, step, taken, onward, Outcome, Done, Fault}
+use Rattle.places.specs.Engine.{Group, Read, Good, Bad, onward, Outcome, Done, Fault}
 use Rattle.places.specs.Parts.{Begun, Further, unless, partFrom, begins, further}
 use Rattle.record.specs.declared.aerodrome.Period.{Period}
 use Rattle.record.specs.declared.aerodrome.Leg.{Leg}
@@ -26,11 +25,6 @@ use Rattle.record.specs.declared.aerodrome.Taf.{Taf}
 use Rattle.record.specs.declared.values.Number.the-variants as number
 use Rattle.record.specs.Taf.{blankInstant, blankLeg, blankTaf, setPeriod}
 use Rattle.taf_row.specs.declared.kinds.Part.{Part}
-use Rattle.taf.specs.declared.kinds.PeriodRead.{PeriodRead}
-use Rattle.taf.specs.declared.kinds.PeriodRead.the-variants as period
-use Rattle.taf.specs.declared.kinds.Told.{Told}
-use Rattle.taf.specs.declared.kinds.Turn.{Turn}
-use Rattle.taf.specs.declared.kinds.Turn.the-variants as turn
 use Rattle.taf.specs.declared.kinds.Opened.{Opened}
 use Rattle.taf.specs.declared.kinds.Opened.the-variants as opened
 use Rattle.taf.specs.declared.kinds.Start.{Start}
@@ -38,38 +32,14 @@ use Rattle.taf.specs.declared.kinds.Next.{Next}
 use Rattle.taf.specs.declared.kinds.Next.the-variants as next
 use Rattle.taf.specs.declared.kinds.PartRead.{PartRead}
 use Rattle.taf.specs.declared.kinds.Ahead.{Ahead}
-use Rattle.taf_row.specs.Row.{row, changeWords}
+use Rattle.taf_row.specs.Row.{row}
 use Rattle.taf.specs.Read.{openedBy, partIn, changePart, changes}
 
 -- ---- one group
 
-abbrev pub asPeriod : Read Period → PeriodRead
-asPeriod (Good x) = period.Good x
-asPeriod (Bad f) = period.Bad f
-
--- the part with what the group says, or as it was beside the group's refusal
-abbrev pub toldOf : Leg → Read Leg → Told
-toldOf r (Good x) = record { judged = judged.Fine; leg = x }
-toldOf r (Bad f) = record { judged = judged.Refused f; leg = r }
-
--- the group at place i of the head, in any part, however many stand there
-abbrev pub ToldAt : ℕ → Group → Leg → Told → Type 0
-ToldAt i g r t = (w : Part) (k : ℕ) → t ≡ toldOf r (placeAt (row w) i .read k g r)
-
 -- where reading stands past place i, in any part
 abbrev pub Onward : ℕ → ℕ → Type 0
 Onward i j = (w : Part) → j ≡ onward (row w) i
-
--- what a group's turn comes to with what was read before it
-abbrev pub turned : Part → Leg → Group → Turn → Step Leg
-turned w r g (turn.At i k) = taken (onward (row w) i) (k + 1) (placeAt (row w) i .read k g r)
-turned w r g turn.Halt = Halt
-turned w r g (turn.Refused f) = Stop f
-
--- a group's turn, where k groups stand at place c: it says what a step of the row says, whatever was read before; no place has more than four groups
-pub record Turns (w : Part) (c k : ℕ) (g : Group) (t : Turn) : Type 0 where
-  pub says : (r : Leg) → step (row w) changeWords c k r g ≡ turned w r g t
-  pub room : (i j : ℕ) → t ≡ turn.At i j → j < 4
 
 -- ---- what a change word opens
 

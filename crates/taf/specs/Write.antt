@@ -18,46 +18,25 @@ use Rattle.record.specs.declared.aerodrome.Instant.{Instant}
 use Rattle.record.specs.declared.aerodrome.Period.{Period}
 use Rattle.record.specs.declared.aerodrome.Opening.{Opening}
 use Rattle.record.specs.declared.aerodrome.Opening.the-variants as opening
+use Rattle.record.specs.declared.aerodrome.Body.{Body}
 use Rattle.record.specs.declared.aerodrome.Leg.{Leg}
 use Rattle.record.specs.declared.aerodrome.Change.{Change}
 use Rattle.record.specs.declared.aerodrome.Changes.{Changes}
 use Rattle.record.specs.declared.aerodrome.Taf.{Taf}
-use Rattle.record.specs.Taf.{blankInstant, blankLeg}
+use Rattle.record.specs.Taf.{blankInstant, blankLeg, setPeriod, setBody}
 use Rattle.record.specs.Missing.{isMissing, present}
-use Rattle.record.specs.SilentAerodrome.{isBlankWind, noView, noInstant, noPeriod, noPart, isBlankChange, noChanges}
-use Rattle.elements.specs.Wind.{judgeWind}
-use Rattle.elements.specs.Visibility.{isCavok, judgeVisibility}
-use Rattle.elements.specs.Weather.{judgeWeather, threeFit, judgeWeathers}
-use Rattle.elements.specs.Sky.{judgeSky}
+use Rattle.record.specs.SilentAerodrome.{isBlankBody, noInstant, noPeriod, isBlankChange, noChanges}
+use Rattle.elements.specs.Body.{judgeBody, hasElement}
 use Rattle.aerodrome_groups.specs.Head.{fieldOf, isDay, isHour, isMinute, judgeStation, judgeTime}
 use Rattle.taf_row.specs.declared.kinds.Part.{Part}
 use Rattle.taf_row.specs.declared.kinds.Part.the-variants as part
-use Rattle.taf_row.specs.Row.{isMain, isWhole, isEndHour, row}
-use Rattle.taf_row.specs.Tests.{hasElement}
+use Rattle.taf_row.specs.Row.{isMain, forecastIn, isEndHour, row}
 use Rattle.taf.specs.Read.{partOf, changeOf}
 
--- ---- a part: wind, visibility, weather, sky, in written order
+-- ---- a part: its body in written order; "A change body needs one element, under FM wind and visibility."
 
--- a wind or visibility that a change group may leave out
-abbrev pub unlessAbsent : Part → Bool → Judged → Judged
-unlessAbsent w absent j = cond (not (isWhole w) && absent) judged.Fine j
-
--- NSW "only in change bodies", and not beside CAVOK
-abbrev pub nswAgrees : Part → Leg → Bool
-nswAgrees w r = not (r .nsw) || (not (isMain w) && not (isCavok (r .visibility)))
-
--- the count, NSW, then each weather group
-abbrev pub judgeForecast : Part → Leg → Judged
-judgeForecast w r =
-    cond (nswAgrees w r) (judgeWeathers (judgeWeather true false (isCavok (r .visibility) || r .nsw)) (r .weathers)) (judge (threeFit (r .weathers)) false)
-
--- "A change body needs one element, under FM wind and visibility."
-unfoldable pub judgePart : Part → Leg → Judged
-judgePart w r =
-    andThen (unlessAbsent w (isBlankWind (r .wind)) (judgeWind true (r .wind)))
-    (andThen (unlessAbsent w (noView (r .visibility .is)) (judgeVisibility true (r .visibility)))
-    (andThen (judgeForecast w r)
-    (andThen (judgeSky true (isCavok (r .visibility)) (r .sky)) (judge (isMain w || hasElement r) true))))
+unfoldable pub judgePart : Part → Body → Judged
+judgePart w b = andThen (judgeBody (forecastIn w) b) (judge (isMain w || hasElement b) true)
 
 -- ---- periods and what opens a change
 
@@ -84,23 +63,10 @@ openingFits opening.From p = instantFits (p .from) && noInstant (p .to)
 
 -- a change group's part as a leg, its head blank
 abbrev pub legOf : Change → Leg
-legOf c =
-    record {
-      correction = blankLeg .correction;
-      station = blankLeg .station;
-      time = blankLeg .time;
-      nil = false;
-      period = c .period;
-      cancelled = false;
-      wind = c .wind;
-      visibility = c .visibility;
-      weathers = c .weathers;
-      nsw = c .nsw;
-      sky = c .sky;
-    }
+legOf c = setBody (c .body) (setPeriod (c .period) blankLeg)
 
 unfoldable pub judgeChange : Change → Judged
-judgeChange c = andThen (judge (openingFits (c .opening) (c .period)) true) (judgePart (partOf (c .opening)) (legOf c))
+judgeChange c = andThen (judge (openingFits (c .opening) (c .period)) true) (judgePart (partOf (c .opening)) (c .body))
 
 abbrev pub judgeEach : List Change → Judged
 judgeEach [] = judged.Fine
@@ -114,7 +80,7 @@ judgeChanges cs = andThen (judge (leb (cs .count) 16 && every isBlankChange (dro
 unfoldable pub foreignBlank : Taf → Bool
 foreignBlank t =
     (not (t .leg .nil) || (noPeriod (t .leg .period) && not (t .leg .cancelled)))
-    && (not (t .leg .nil || t .leg .cancelled) || (noPart (t .leg) && noChanges (t .changes)))
+    && (not (t .leg .nil || t .leg .cancelled) || (isBlankBody (t .leg .body) && noChanges (t .changes)))
 
 -- ---- "The writer judges foreign fields first, then the others in written order, 11 before 7 at each"
 
@@ -125,7 +91,7 @@ judgeOf t =
     (andThen (judgeTime (t .leg .time))
     (cond (t .leg .nil) judged.Fine
     (andThen (judge (periodFits (t .leg .period)) true)
-    (cond (t .leg .cancelled) judged.Fine (andThen (judgePart part.Main (t .leg)) (judgeChanges (t .changes))))))))
+    (cond (t .leg .cancelled) judged.Fine (andThen (judgePart part.Main (t .leg .body)) (judgeChanges (t .changes))))))))
 
 -- ---- the canonical text
 
@@ -165,20 +131,7 @@ openedLeg opening.Becoming p = blankLeg
 openedLeg opening.Temporary p = blankLeg
 openedLeg (opening.Probable n) p = blankLeg
 openedLeg (opening.ProbablyTemporary n) p = blankLeg
-openedLeg opening.From p =
-    record {
-      correction = blankLeg .correction;
-      station = blankLeg .station;
-      time = blankLeg .time;
-      nil = false;
-      period = record { from = p .from; to = blankInstant };
-      cancelled = false;
-      wind = blankLeg .wind;
-      visibility = blankLeg .visibility;
-      weathers = blankLeg .weathers;
-      nsw = false;
-      sky = blankLeg .sky;
-    }
+openedLeg opening.From p = setPeriod (record { from = p .from; to = blankInstant }) blankLeg
 
 unfoldable pub classChange : Change → Change
 classChange c = changeOf (c .opening) (putAll (row (partOf (c .opening))) (legOf c) (openedLeg (c .opening) (c .period)))

@@ -1,62 +1,47 @@
-// One group of a part: where it goes in the row of places, which what was read before has no part in, and what it adds to the part there.
-use crate::kinds::Told;
-use crate::kinds::Turn;
-use crate::take;
-use places::kinds::Found;
+// One group of a part: where it goes in the row of places, which what was read before has no part in, what it says there, and the part with it.
+use aerodrome_groups::read::read_time;
+use aerodrome_groups::read::station_of;
+use body::read::put;
+use body::read::say;
+use elements::kinds::Said;
+use figures::field;
+use figures::kinds::Field;
+use places::kinds::Turn;
+use places::turn_by;
+use record::aerodrome::Body;
+use record::aerodrome::Correction;
+use record::aerodrome::Instant;
 use record::aerodrome::Leg;
+use record::aerodrome::Period;
+use record::values::Number;
+use shapes::has_pattern;
 use taf_row::kinds::Part;
 use taf_row::row::find;
 use taf_row::row::is_change_word;
 use taf_row::row::is_main;
 use text::kinds::Refusal;
 ghost use mathlib.Core.Path.{_≡_};
-ghost use Prim.Native.Nat.{_<_, _≤_};
-ghost use Rattle.places.specs.Engine.{placeAt};
-ghost use Rattle.taf_row.specs.Row.{row};
-ghost use Rattle.taf.specs.Step.{toldOf, ToldAt, Onward, Turns};
+ghost use Rattle.shapes.specs.Pattern.{hasAny};
+ghost use Rattle.places.specs.Turn.{turnAt};
+ghost use Rattle.record.specs.Taf.{setCorrection};
+ghost use Rattle.elements.specs.Answers.{asPeriod};
+ghost use Rattle.taf_row.specs.Row.{correctionOf, hourOf, readPeriod, row, changeWords};
+ghost use Rattle.taf.specs.Said.{partSaid, Says};
+ghost use Rattle.taf.specs.Step.{Onward};
 
-// ---- a group at its place
+// ---- its place
 
-// The group at a place through CNL, in any part.
-fn read_head(place: usize, g: &[u8], r: Leg) -> Told
-    requires { ⌜ place < 7 ⌝ }
-    ensures { λ t. ⌜ ToldAt place (now (g .entry)) r t ⌝ }
+// The group's turn, where `count` groups stand at `place`.
+pub fn decide(part: Part, place: usize, count: usize, g: &[u8]) -> Turn
+    ensures { λ t. ⌜ t ≡ turnAt (row part) (hasAny changeWords) place count (now (g .entry)) ⌝ }
 {
-    match place {
-        0 => take::keep(r),
-        1 => take::take_correction(g, r),
-        2 => take::take_station(g, r),
-        3 => take::take_time(g, r),
-        4 => take::take_nil(r),
-        5 => take::take_period(g, r),
-        _ => take::take_cancelled(r),
+    if 11 <= place {
+        return Turn::Refused(Refusal::Shape);
     }
-}
-
-// The group at a later place, where `count` groups stand.
-fn read_element(part: Part, place: usize, count: usize, g: &[u8], r: Leg) -> Told
-    requires { ⌜ 7 ≤ place ⌝ }
-    ensures { λ t. ⌜ t ≡ toldOf r (placeAt (row part) place .read count (now (g .entry)) r) ⌝ }
-{
-    let main = is_main(part);
-    match place {
-        7 => take::take_wind(g, r),
-        8 => take::take_visibility(g, r),
-        9 => take::take_forecast(main, count, g, r),
-        10 => take::take_sky(count, g, r),
-        _ => take::refuse(Refusal::Shape, r),
+    if is_change_word(g) {
+        return Turn::Halt;
     }
-}
-
-// The group at its place.
-pub fn read_at(part: Part, place: usize, count: usize, g: &[u8], r: Leg) -> Told
-    ensures { λ t. ⌜ t ≡ toldOf r (placeAt (row part) place .read count (now (g .entry)) r) ⌝ }
-{
-    if place < 7 {
-        read_head(place, g, r)
-    } else {
-        read_element(part, place, count, g, r)
-    }
+    turn_by(find(part, place, count, g))
 }
 
 // Past NIL and past CNL reading is past the row.
@@ -70,27 +55,106 @@ pub fn go_past(place: usize) -> usize
     }
 }
 
-// ---- its place
+// ---- what it says
 
-// The group's turn, where `count` groups stand at `place`.
-pub fn decide(part: Part, place: usize, count: usize, g: &[u8]) -> Turn
-    ensures { λ t. ⌜ Turns part place count (now (g .entry)) t ⌝ }
+// AMD or COR
+fn correction_of(g: &[u8]) -> Correction
+    ensures { λ r. ⌜ r ≡ correctionOf (now (g .entry)) ⌝ }
 {
-    if 11 <= place {
-        return Turn::Refused(Refusal::Shape);
+    if has_pattern(g, b"AMD") {
+        Correction::Amended
+    } else {
+        Correction::Corrected
     }
-    if is_change_word(g) {
-        return Turn::Halt;
+}
+
+fn hour_of(day: u32, hour: u32) -> Instant
+    ensures { λ r. ⌜ r ≡ hourOf day hour ⌝ }
+{
+    Instant {
+        day: Number::Is(day),
+        hour: Number::Is(hour),
+        minute: Number::Missing,
     }
-    let found = find(part, place, count, g);
-    match found {
-        Found::Take {
-            place: there,
-            count: standing,
-        } => Turn::At {
-            place: there,
-            count: standing,
-        },
-        _ => Turn::Refused(places::refusal_of(found)),
+}
+
+// YYGG/YYGG
+fn read_period(g: &[u8]) -> Said
+    ensures { λ r. ⌜ r ≡ asPeriod (readPeriod (now (g .entry))) ⌝ }
+{
+    let Field::Number(day) = field(g, 0, 2) else {
+        return Said::Refused(Refusal::Figure);
+    };
+    let Field::Number(hour) = field(g, 2, 2) else {
+        return Said::Refused(Refusal::Figure);
+    };
+    let Field::Number(last) = field(g, 5, 2) else {
+        return Said::Refused(Refusal::Figure);
+    };
+    let Field::Number(end) = field(g, 7, 2) else {
+        return Said::Refused(Refusal::Figure);
+    };
+    if (1 <= day) & (day <= 31) & (hour <= 23) & ((1 <= last) & (last <= 31)) & (end <= 24) {
+        let from = hour_of(day, hour);
+        let to = hour_of(last, end);
+        Said::Period(Period { from, to })
+    } else {
+        Said::Refused(Refusal::Figure)
     }
+}
+
+// What the group says at its place, where `count` groups stand; the body is that of the part so far.
+pub fn say_at(part: Part, place: usize, count: usize, g: &[u8], b: Body) -> Said
+    ensures { λ x. ⌜ Says part place count (now (g .entry)) b x ⌝ }
+{
+    let change = !is_main(part);
+    match place {
+        0 => Said::Nothing,
+        1 => Said::Correction(correction_of(g)),
+        2 => Said::Station,
+        3 => read_time(g),
+        4 => Said::Nil,
+        5 => read_period(g),
+        6 => Said::Cancelled,
+        7 => say(0, true, change, false, count, g, b),
+        8 => say(1, true, change, false, count, g, b),
+        9 => say(2, true, change, false, count, g, b),
+        10 => say(3, true, change, false, count, g, b),
+        _ => Said::Refused(Refusal::Shape),
+    }
+}
+
+fn with_correction(correction: Correction, r: Leg) -> Leg
+    ensures { λ a. ⌜ a ≡ setCorrection correction r ⌝ }
+{
+    let station = r.station;
+    let time = r.time;
+    let period = r.period;
+    let body = r.body;
+    Leg {
+        correction,
+        station,
+        time,
+        nil: r.nil,
+        period,
+        cancelled: r.cancelled,
+        body,
+    }
+}
+
+// The part with what the group says, where `count` groups stand at its place.
+pub fn with_said(said: Said, count: usize, g: &[u8], r: Leg) -> Leg
+    ensures { λ a. ⌜ a ≡ partSaid count (now (g .entry)) said r ⌝ }
+{
+    let mut a = r;
+    match said {
+        Said::Correction(x) => a = with_correction(x, r),
+        Said::Station => a.station = station_of(g),
+        Said::Time(x) => a.time = x,
+        Said::Nil => a.nil = true,
+        Said::Period(x) => a.period = x,
+        Said::Cancelled => a.cancelled = true,
+        _ => a.body = put(said, count, r.body),
+    }
+    a
 }

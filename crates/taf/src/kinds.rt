@@ -4,28 +4,8 @@ use record::aerodrome::Leg;
 use record::aerodrome::Opening;
 use record::aerodrome::Period;
 use record::aerodrome::Taf;
-use text::kinds::Judged;
 use text::kinds::Refusal;
 use text::kinds::Verdict;
-
-// What YYGG/YYGG is read as.
-pub enum PeriodRead {
-    Good(Period),
-    Bad(Refusal),
-}
-
-// A part with what a group says, or as it was beside the group's refusal.
-pub struct Told {
-    pub judged: Judged,
-    pub leg: Leg,
-}
-
-// A group's turn by its part's row, before it is read: it goes to a place, where so many groups stand, it is a change word, or it is refused.
-pub enum Turn {
-    At { place: usize, count: usize },
-    Halt,
-    Refused(Refusal),
-}
 
 // What a change word opens, with the period that FMYYGGgg gives, or the word's refusal.
 pub enum Opened {

@@ -4,5 +4,4 @@ pub mod group;
 pub mod kinds;
 pub mod part;
 pub mod read;
-pub mod take;
 pub mod word;

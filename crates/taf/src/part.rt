@@ -1,12 +1,14 @@
 // The groups of one part, the main part too, up to the change word that opens the next one or up to the end of the text.
 use crate::group::decide;
 use crate::group::go_past;
-use crate::group::read_at;
+use crate::group::say_at;
+use crate::group::with_said;
 use crate::kinds::Next;
 use crate::kinds::Opened;
 use crate::kinds::PartRead;
-use crate::kinds::Turn;
 use crate::word::open_change;
+use elements::kinds::Said;
+use places::kinds::Turn;
 use record::aerodrome::Leg;
 use record::aerodrome::Period;
 use record::blank_aerodrome::blank_leg;
@@ -14,7 +16,6 @@ use taf_row::kinds::Part;
 use taf_row::tests::is_full;
 use taf_row::tests::lacks;
 use text::kinds::Cut;
-use text::kinds::Judged;
 use text::kinds::Refusal;
 use text::kinds::Tail;
 use text::kinds::Verdict;
@@ -121,12 +122,11 @@ pub fn read_part(text: &[u8], at: usize, part: Part, n: usize, k: usize, period:
             Turn::Halt => return meet_word(g, start, end, n, part, here, standing, leg),
             Turn::Refused(refusal) => return refuse_part(refusal, start, leg),
             Turn::At { place, count } => {
-                let told = read_at(part, place, count, g, leg);
-                let judged = told.judged;
-                if let Judged::Refused(refusal) = judged {
+                let said = say_at(part, place, count, g, leg.body);
+                if let Said::Refused(refusal) = said {
                     return refuse_part(refusal, start, leg);
                 }
-                leg = told.leg;
+                leg = with_said(said, count, g, leg);
                 here = go_past(place);
                 standing = count + 1;
                 from = end;

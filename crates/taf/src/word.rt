@@ -151,17 +151,10 @@ pub fn change_of(opening: Opening, r: Leg) -> Change
     ensures { λ c. ⌜ c ≡ changeOf opening r ⌝ }
 {
     let period = r.period;
-    let wind = r.wind;
-    let visibility = r.visibility;
-    let weathers = r.weathers;
-    let sky = r.sky;
+    let body = r.body;
     Change {
         opening,
         period,
-        wind,
-        visibility,
-        weathers,
-        nsw: r.nsw,
-        sky,
+        body,
     }
 }

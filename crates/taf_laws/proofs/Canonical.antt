@@ -79,7 +79,7 @@ pub over-classed : (t : Taf) → TafArrays t → Fair t → (t .leg .nil || t .l
 unfolding row classedOf
 over-classed t arrays f o =
     let b = over-bare t arrays f o in
-    rw (b .wind, b .visibility, b .sky, none-over t f o)
+    rw (b, none-over t f o)
 
 module _ (t : Taf) (l : Listed t) where
   abbrev its : List Change
@@ -98,14 +98,14 @@ module _ (t : Taf) (l : Listed t) where
 live-again : (t : Taf) → Fair t → Listed t → t .leg .nil ≡ false → t .leg .cancelled ≡ false → groupsOf (classedOf t) ≡ groupsOf t
 unfolding groupsOf classedOf
 live-again t f l n c =
-    rw (main-classed (t .leg), written-classed part.Main (t .leg) (fair-part part.Main (t .leg) (f .part n c)), taken t l, each-again (its t l) (l .fine))
+    rw (main-classed (t .leg), written-classed part.Main (t .leg) (fair-part part.Main (t .leg .body) (f .part n c)), taken t l, each-again (its t l) (l .fine))
 
 live-judged : (t : Taf) → Fair t → Listed t → t .leg .nil ≡ false → t .leg .cancelled ≡ false → judgeOf (classedOf t) ≡ judged.Fine
 unfolding judgeOf judgeChanges foreignBlank classedOf
 live-judged t f l n c =
     rw (
       main-classed (t .leg),
-      part-judged part.Main (t .leg) (fair-part part.Main (t .leg) (f .part n c)),
+      part-judged part.Main (t .leg .body) (fair-part part.Main (t .leg .body) (f .part n c)),
       f .station,
       f .time,
       f .period n,

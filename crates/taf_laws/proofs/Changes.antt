@@ -33,7 +33,7 @@ use Rattle.taf.specs.Read.{partOf}
 use Rattle.taf.specs.Write.{periodFits, instantFits, isChance, openingFits, legOf, judgeChange, judgeEach, judgeChanges, showChance, showFrom, showOpening, showChange, showEach}
 use Rattle.record.specs.SilentAerodrome.{noInstant, isBlankChange, noChanges}
 use Rattle.figures.specs.Figures.{every}
-use Rattle.record.specs.Arrays.{PartArrays, EachArrays, TafArrays}
+use Rattle.record.specs.Arrays.{BodyArrays, EachArrays, TafArrays}
 use Rattle.record.proofs.AerodromeBlanks.{change-blank}
 use Rattle.taf_laws.proofs.Periods.{chance-shaped, from-shaped}
 use Rattle.taf_laws.proofs.Parts.{FairChange, fair-change, Fair, foreign-over, sizes, kept-change}
@@ -147,7 +147,7 @@ pub main-room : rowRoom sizes (row part.Main) ≤ 129
 unfolding row
 main-room = omega arith
 
-change-sizes : (c : Change) → PartArrays (c .weathers) (c .sky) → FairChange c → Sizes 113 (showChange c)
+change-sizes : (c : Change) → BodyArrays (c .body) → FairChange c → Sizes 113 (showChange c)
 unfolding showChange
 change-sizes c arrays f =
     sizes-append (showOpening (c .opening) (c .period)) (written (row (partOf (c .opening))) (legOf c))

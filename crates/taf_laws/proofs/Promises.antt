@@ -9,51 +9,33 @@ use lib.ListN.{length, take, drop, replicate}
 use Rattle.text.specs.declared.kinds.Judged.the-variants as judged
 use Rattle.text.specs.Groups.{groupsFrom}
 use Rattle.text.specs.Text.{tailOf}
-use Rattle.places.specs.Engine.{Done}
-use Rattle.text.proofs.Judging.{fine, and-then}
+use Rattle.text.proofs.Judging.{and-then}
 use Rattle.shapes.proofs.Patterns.{neither}
-use Rattle.record.specs.declared.aerodrome.Wind.{Wind}
-use Rattle.record.specs.declared.aerodrome.Visibility.{Visibility}
-use Rattle.record.specs.declared.aerodrome.Leg.{Leg}
+use Rattle.places.specs.Engine.{Done}
+use Rattle.record.specs.declared.aerodrome.Body.{Body}
 use Rattle.record.specs.declared.aerodrome.Change.{Change}
 use Rattle.record.specs.declared.aerodrome.Taf.{Taf}
 use Rattle.record.specs.Taf.{blankChange}
-use Rattle.elements.specs.Wind.{judgeWind, classWind}
-use Rattle.record.specs.SilentAerodrome.{isBlankWind, noView}
-use Rattle.record.proofs.AerodromeBlanks.{wind-blank, LegBare, visibility-blank}
 use Rattle.record.specs.Arrays.{TafArrays}
-use Rattle.elements.specs.Visibility.{viewFits, judgeVisibility, classView}
-use Rattle.record.proofs.Near.{DirectionNear, no-direction}
-use Rattle.wind.proofs.Promises.{wind-near, ViewRead, visibility-read}
-use Rattle.sky.proofs.Promises.{SkyBack, sky-read}
+use Rattle.elements.specs.Body.{classBody}
+use Rattle.body.proofs.Promises.{BodyRead, body-read, blank-read}
 use Rattle.taf_row.specs.declared.kinds.Part.{Part}
 use Rattle.taf_row.specs.declared.kinds.Part.the-variants as part
-use Rattle.taf_row.specs.Row.{row}
-use Rattle.taf.specs.Read.{groupsRead}
-use Rattle.taf.specs.Write.{unlessAbsent, legOf, judgeChange, judgeEach, judgeOf, canonicalOf, classChange, classedOf}
-use Rattle.taf_laws.proofs.Places.{there-judged}
+use Rattle.taf_row.specs.Row.{forecastIn, row}
+use Rattle.taf.specs.Read.{partOf, groupsRead}
+use Rattle.taf.specs.Write.{judgeChange, judgeEach, judgeOf, canonicalOf, classChange, classedOf}
+use Rattle.taf_laws.proofs.Places.{live}
 use Rattle.taf_laws.proofs.Parts.{FairPart, fair-part, FairChange, fair-change, Fair, fair, over-bare}
 use Rattle.taf_laws.proofs.Changes.{listed}
-use Rattle.taf_laws.proofs.Classes.{classPart, change-is}
+use Rattle.taf_laws.proofs.Classes.{change-is}
 use Rattle.taf_laws.proofs.Canonical.{read-canonical, taken, dropped}
 
 -- ---- the record that is read back
 
--- "The numbers scaled here are the rounded ones; all else in a record, missing, calm, variable and trace too, is carried exactly."
-pub record PartRead (r q : Leg) : Type 0 where
-  pub direction : DirectionNear (r .wind .direction) (q .wind .direction)
-  pub speed : q .wind .speed ≡ r .wind .speed
-  pub gust : q .wind .gust ≡ r .wind .gust
-  pub unit : q .wind .unit ≡ r .wind .unit
-  pub visibility : ViewRead (r .visibility .is) (q .visibility .is)
-  pub weathers : q .weathers ≡ r .weathers
-  pub nsw : q .nsw ≡ r .nsw
-  pub sky : SkyBack (r .sky) (q .sky)
-
 pub record ChangeRead (c d : Change) : Type 0 where
   pub opening : d .opening ≡ c .opening
   pub period : d .period ≡ c .period
-  pub part : PartRead (legOf c) (legOf d)
+  pub body : BodyRead (c .body) (d .body)
 
 pub data EachRead : List Change → List Change → Type 0 where
   none : EachRead [] []
@@ -67,53 +49,29 @@ pub record RecordRead (t q : Taf) : Type 0 where
   pub nil : q .leg .nil ≡ t .leg .nil
   pub period : q .leg .period ≡ t .leg .period
   pub cancelled : q .leg .cancelled ≡ t .leg .cancelled
-  pub part : PartRead (t .leg) (q .leg)
+  pub body : BodyRead (t .leg .body) (q .leg .body)
   pub count : q .changes .count ≡ t .changes .count
   pub changes : EachRead (take (t .changes .count) (t .changes .items)) (take (t .changes .count) (q .changes .items))
   pub past : drop (t .changes .count) (q .changes .items) ≡ drop (t .changes .count) (t .changes .items)
 
 -- ---- a part
 
--- a wind and a visibility that are judged fine, or not there
-wind-kept : (w : Part) (x : Wind) → unlessAbsent w (isBlankWind x) (judgeWind true x) ≡ judged.Fine → DirectionNear (x .direction) (classWind x .direction)
-wind-kept w x e = go (isBlankWind x) refl
-  where
-    go : (b : Bool) → isBlankWind x ≡ b → DirectionNear (x .direction) (classWind x .direction)
-    go true z = rw (wind-blank x z) no-direction
-    go false z = wind-near true x (there-judged w (judgeWind true x) (rw z at e))
+part-read : (w : Part) (b : Body) → FairPart w b → BodyRead b (classBody b)
+part-read w b f = body-read (forecastIn w) (live w) b (f .body)
 
-view-kept : (w : Part) (x : Visibility) → unlessAbsent w (noView (x .is)) (judgeVisibility true x) ≡ judged.Fine → ViewRead (x .is) (classView (x .is))
-unfolding judgeVisibility
-view-kept w x e = go (noView (x .is)) refl
-  where
-    go : (b : Bool) → noView (x .is) ≡ b → ViewRead (x .is) (classView (x .is))
-    go true z = visibility-read false (x .is) (rw (visibility-blank x z))
-    go false z = visibility-read true (x .is) (fine (viewFits true (x .is)) true (there-judged w (judgeVisibility true x) (rw z at e)) .0)
-
-part-of : (r : Leg) → DirectionNear (r .wind .direction) (classWind (r .wind) .direction) → ViewRead (r .visibility .is) (classView (r .visibility .is))
-    → PartRead r (classPart r)
-part-of r d v =
-    record { direction = d; speed = refl; gust = refl; unit = refl; visibility = v; weathers = refl; nsw = refl; sky = sky-read (r .sky) }
-
-part-read : (w : Part) (r : Leg) → FairPart w r → PartRead r (classPart r)
-part-read w r f = part-of r (wind-kept w (r .wind) (f .wind)) (view-kept w (r .visibility) (f .visibility))
-
-bare-read : (r : Leg) → LegBare r → PartRead r (classPart r)
-bare-read r b = part-of r (rw (b .wind) no-direction) (visibility-read false (r .visibility .is) (rw (b .visibility)))
-
-main-read : (t : Taf) → TafArrays t → Fair t → PartRead (t .leg) (classPart (t .leg))
+main-read : (t : Taf) → TafArrays t → Fair t → BodyRead (t .leg .body) (classBody (t .leg .body))
 main-read t arrays f = go (t .leg .nil || t .leg .cancelled) refl
   where
-    go : (b : Bool) → (t .leg .nil || t .leg .cancelled) ≡ b → PartRead (t .leg) (classPart (t .leg))
-    go true o = bare-read (t .leg) (over-bare t arrays f o)
+    go : (b : Bool) → (t .leg .nil || t .leg .cancelled) ≡ b → BodyRead (t .leg .body) (classBody (t .leg .body))
+    go true o = blank-read (t .leg .body) (over-bare t arrays f o)
     go false o =
         let n = neither (t .leg .nil) (t .leg .cancelled) (rw o) in
-        part-read part.Main (t .leg) (fair-part part.Main (t .leg) (f .part (n .0) (n .1)))
+        part-read part.Main (t .leg .body) (fair-part part.Main (t .leg .body) (f .part (n .0) (n .1)))
 
 -- ---- the changes
 
 change-read : (c : Change) → FairChange c → ChangeRead c (classChange c)
-change-read c f = rw (change-is c (f .opens)) (record { opening = refl; period = refl; part = part-read _ (legOf c) (f .part) })
+change-read c f = rw (change-is c (f .opens)) (record { opening = refl; period = refl; body = part-read (partOf (c .opening)) (c .body) (f .part) })
 
 each-read : (cs : List Change) → judgeEach cs ≡ judged.Fine → EachRead cs (map classChange cs)
 each-read [] e = none
@@ -131,7 +89,7 @@ record-read t arrays e =
       nil = refl;
       period = refl;
       cancelled = refl;
-      part = main-read t arrays f;
+      body = main-read t arrays f;
       count = refl;
       changes = rw (taken t l) (each-read (take (t .changes .count) (t .changes .items)) (l .fine));
       past = dropped t l;

@@ -34,15 +34,15 @@ use Rattle.record.specs.Taf.{blankLeg, blankChange, blankTaf}
 use Rattle.taf_row.specs.declared.kinds.Part.{Part as Kind}
 use Rattle.taf_row.specs.declared.kinds.Part.the-variants as part
 use Rattle.taf_row.specs.Row.{word, row, changeWords}
-use Rattle.taf_row.specs.Tests.{hasElement, isProbable}
+use Rattle.taf_row.specs.Tests.{isProbable}
+use Rattle.elements.specs.Body.{hasElement}
 use Rattle.taf.specs.Read.{openedBy, partOf, mainPart, changePart, changes, groupsRead}
 use Rattle.record.specs.SilentAerodrome.{noInstant}
 use Rattle.taf.specs.Write.{periodFits, instantFits, isChance, openingFits, legOf, judgeChange, judgeEach, judgeOf, showChance, showFrom, showOpening, showChange, showEach, groupsOf, openedLeg, classChange, classedOf}
-use Rattle.taf.proofs.Sound.{row-sound}
-use Rattle.taf_laws.proofs.Rows.{row-covered}
+use Rattle.taf_row.proofs.Sound.{row-sound, row-covered}
 use Rattle.taf_laws.proofs.Periods.{chance-shaped, chance-opened, from-shaped, from-opened}
-use Rattle.record.specs.Arrays.{PartArrays, EachArrays, TafArrays}
-use Rattle.taf_laws.proofs.Parts.{FairChange, fair-change, Fair, fair, sizes, kept-main, main-goes-on, kept-change, change-goes-on, element-classed}
+use Rattle.record.specs.Arrays.{BodyArrays, EachArrays, TafArrays}
+use Rattle.taf_laws.proofs.Parts.{FairChange, fair-change, Fair, fair, sizes, kept-main, main-goes-on, kept-change, change-goes-on, element-back}
 use Rattle.taf_laws.proofs.Changes.{Listed, listed, none-over, part-change}
 
 some-place : (w : Kind) → 0 < length (row w)
@@ -57,14 +57,14 @@ changeWord t g = Opens (openedBy g)
 abbrev saying : Change → Saying Leg Opening
 saying c = record { words = showOpening (c .opening) (c .period); kind = c .opening; start = openedLeg (c .opening) (c .period); said = legOf c }
 
-module _ (c : Change) (arrays : PartArrays (c .weathers) (c .sky)) (f : FairChange c) where
+module _ (c : Change) (arrays : BodyArrays (c .body)) (f : FairChange c) where
   others : All (λ g. hasAny changeWords g ≡ false) (written (row (partOf (c .opening))) (legOf c))
   others = plain changeWords (row (partOf (c .opening))) (legOf c) (row-sound (partOf (c .opening))) (kept-spoken (kept-change c arrays f))
 
   change-kept : (t : Taf) → KeptPart (changePart t (c .opening)) (legOf c) (openedLeg (c .opening) (c .period))
   change-kept t =
       let w = partOf (c .opening) in
-      let e : hasElement (legOf c) ≡ true = rw (part-change (c .opening)) at (f .part .element) in
+      let e : hasElement (c .body) ≡ true = rw (part-change (c .opening)) at (f .part .element) in
       record {
         words = changeWords;
         sizes = sizes;
@@ -73,7 +73,7 @@ module _ (c : Change) (arrays : PartArrays (c .weathers) (c .sky)) (f : FairChan
         covered = row-covered w;
         kept = kept-change c arrays f;
         plain = others;
-        whole = rw (element-classed w (legOf c) (openedLeg (c .opening) (c .period)), part-change (c .opening), e);
+        whole = rw (element-back w (legOf c) (openedLeg (c .opening) (c .period)), part-change (c .opening), e);
       }
 
 -- ---- its words

@@ -13,7 +13,8 @@ use Rattle.record.specs.declared.aerodrome.Leg.{Leg}
 use Rattle.taf_row.specs.declared.kinds.Part.{Part}
 use Rattle.taf_row.specs.declared.kinds.Part.the-variants as part
 use Rattle.taf_row.specs.Row.{isMain, isWhole, hasPeriod, row, changeWords}
-use Rattle.taf_row.specs.Tests.{hasElement, lacks}
+use Rattle.elements.specs.Body.{hasElement}
+use Rattle.taf_row.specs.Tests.{lacks}
 
 -- ---- the row
 
@@ -50,6 +51,6 @@ change-word g {a} {b} {c} {d} p q r s = rw (← p, ← q, ← r, ← s) (any-of 
 
 -- ---- what a part lacks
 
-pub lacks-by : (w : Part) (c k : ℕ) (r : Leg) {us : List Bool} {o m e : Bool} → us ≡ mustsOf (row w) → o ≡ owed k (drop c us) → m ≡ isMain w → e ≡ hasElement r
+pub lacks-by : (w : Part) (c k : ℕ) (r : Leg) {us : List Bool} {o m e : Bool} → us ≡ mustsOf (row w) → o ≡ owed k (drop c us) → m ≡ isMain w → e ≡ hasElement (r .body)
     → (o || (not m && not e)) ≡ lacks w c k r
 lacks-by w c k r p q m e = rw (q, p, m, e)

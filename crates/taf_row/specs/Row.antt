@@ -5,28 +5,23 @@ use Prim.Native.Nat.{ℕ}
 use Prim.Native.String.{String}
 use mathlib.Core.Bool.{Bool, true, false, not, _&&_, _||_, cond}
 use mathlib.Core.List.{List, [], _∷_, _++_}
-use lib.Dec.{leb, eqb}
+use lib.Dec.{leb}
 use Rattle.figures.specs.Quote.{bytes}
 use Rattle.figures.specs.Figures.{fieldAt, fieldText}
-use Rattle.shapes.specs.Pattern.{Pattern, hasPattern, hasAny}
-use Rattle.shapes.specs.Shape.{hasShape, partsOf, spellings}
-use Rattle.places.specs.Engine.{Group, Read, Good, Bad, Place}
+use Rattle.shapes.specs.Pattern.{Pattern, hasPattern}
+use Rattle.places.specs.Engine.{Group, Read, Good, Place}
+use Rattle.places.specs.Lift.{lift}
 use Rattle.record.specs.declared.values.Number.the-variants as number
 use Rattle.record.specs.declared.aerodrome.Correction.{Correction}
 use Rattle.record.specs.declared.aerodrome.Correction.the-variants as correction
 use Rattle.record.specs.declared.aerodrome.Instant.{Instant}
 use Rattle.record.specs.declared.aerodrome.Period.{Period}
-use Rattle.record.specs.declared.aerodrome.Visibility.{Visibility}
-use Rattle.record.specs.declared.aerodrome.Weather.{Weather}
+use Rattle.record.specs.declared.aerodrome.Body.{Body}
 use Rattle.record.specs.declared.aerodrome.Leg.{Leg}
-use Rattle.record.specs.Taf.{setCorrection, setStation, setTime, setNil, setPeriod, setCancelled, setWind, setVisibility, setWeathers, setNsw, setSky}
-use Rattle.elements.specs.Parts.{figured, provided, agreeing, then}
-use Rattle.elements.specs.Wind.{windShape, readWind, showWind, classWind}
-use Rattle.record.specs.SilentAerodrome.{isBlankWind, noView}
-use Rattle.elements.specs.Visibility.{visibilityShapes, readVisibility, isCavok, showVisibility, classVisibility}
-use Rattle.elements.specs.Weather.{weatherCover, weatherSpoken, hasWeather, readWeather, withWeather, showWeathers}
-use Rattle.elements.specs.Sky.{layerShape, aloneShapes, hasSky, readSky, showSky, classSky}
-use Rattle.aerodrome_groups.specs.Head.{stationShape, stationOf, timeShape, readTime, showTime, fieldOf, isDay, isHour}
+use Rattle.record.specs.Taf.{setCorrection, setStation, setTime, setNil, setPeriod, setCancelled, setBody}
+use Rattle.elements.specs.Parts.{figured, provided, then}
+use Rattle.elements.specs.Body.{Terms, windPlace, visibilityPlace, weatherPlace, skyPlace}
+use Rattle.aerodrome_groups.specs.Head.{wordPlace, stationPlace, timePlace, fieldOf, isDay, isHour}
 use Rattle.taf_row.specs.declared.kinds.Part.{Part}
 use Rattle.taf_row.specs.declared.kinds.Part.the-variants as part
 
@@ -49,18 +44,34 @@ hasPeriod part.Main = true
 hasPeriod part.Changing = true
 hasPeriod part.From = false
 
+-- the body of a forecast: no missing forms, no UP, wind and visibility required in the main part and under FM, NSW "only in change bodies"
+abbrev pub forecastIn : Part → Terms
+forecastIn w = record { forecast = true; required = isWhole w; nsw = not (isMain w); automatic = false; silent = false }
+
 -- ---- places
 
--- its shape, the patterns that cover it and those of what is written there, how many may or must stand, whether it ends the report; how a group is read,
--- how it is written and what it is read back as
-abbrev pub placeFor : (Group → Bool) → List Pattern → List Pattern → ℕ → Bool → Bool → (ℕ → Group → Leg → Read Leg) → (Leg → List Group) → (Leg → Leg → Leg) → Place Leg
-placeFor has cover spoken most must ends read show put =
-    record { has = has; cover = cover; spoken = spoken; most = most; must = must; ends = ends; read = read; show = show; put = put }
+-- a place that is open in some parts only: elsewhere its groups are known and never taken
+abbrev pub openIn : Bool → Place Leg → Place Leg
+openIn is p =
+    record {
+      has = p .has;
+      cover = p .cover;
+      spoken = p .spoken;
+      most = cond is (p .most) 0;
+      must = is && p .must;
+      ends = p .ends;
+      read = p .read;
+      show = λ r. cond is (p .show r) [];
+      put = λ r acc. cond is (p .put r acc) acc;
+    }
 
--- a place for one group that is open in some parts only
-abbrev pub openIn : Bool → (Group → Bool) → List Pattern → Bool → Bool → (Group → Leg → Read Leg) → (Leg → List Group) → (Leg → Leg → Leg) → Place Leg
-openIn is has cover must ends read show put =
-    placeFor has cover cover (cond is 1 0) (is && must) ends (λ k g r. read g r) (λ r. cond is (show r) []) (λ r acc. cond is (put r acc) acc)
+-- for one group: its shape and the patterns that cover it, whether it must stand; how it is read, how it is written and what it is read back as
+abbrev pub placeFor : (Group → Bool) → List Pattern → Bool → (Group → Leg → Read Leg) → (Leg → List Group) → (Leg → Leg → Leg) → Place Leg
+placeFor has cover must read show put =
+    record { has = has; cover = cover; spoken = cover; most = 1; must = must; ends = false; read = λ k g r. read g r; show = show; put = put }
+
+abbrev pub ofBody : Place Body → Place Leg
+ofBody p = lift (λ (r : Leg). r .body) setBody p
 
 abbrev pub word : String → Group → Bool
 word w g = hasPattern g (bytes w)
@@ -106,58 +117,23 @@ showHour t = fieldText 2 (fieldOf (t .day)) ++ fieldText 2 (fieldOf (t .hour))
 unfoldable pub showPeriod : Period → Group
 showPeriod p = showHour (p .from) ++ bytes "/" ++ showHour (p .to)
 
--- ---- weather: "NSW, the sole weather, only in change bodies (else 7)."
-
-abbrev pub hasForecast : Group → Bool
-hasForecast g = hasWeather g || word "NSW" g
-
-abbrev pub forecastCover : List Pattern
-forecastCover = bytes "NSW" ∷ weatherCover
-
-abbrev pub forecastSpoken : List Pattern
-forecastSpoken = bytes "NSW" ∷ weatherSpoken
-
-abbrev pub besideOthers : Leg → Read Weather → Read Weather
-besideOthers r (Good w) = agreeing (not (isCavok (r .visibility)) && not (r .nsw)) (Good w)
-besideOthers r (Bad f) = Bad f
-
--- in a change body, before any weather, not beside CAVOK
-abbrev pub nswStands : Bool → ℕ → Visibility → Bool
-nswStands main k v = not main && eqb k 0 && not (isCavok v)
-
-unfoldable pub readForecast : Bool → ℕ → Group → Leg → Read Leg
-readForecast main k g r =
-    cond (word "NSW" g) (agreeing (nswStands main k (r .visibility)) (Good (setNsw true r)))
-    (onto (besideOthers r (readWeather true false g)) (λ w r. setWeathers (withWeather k (r .weathers) w) r) r)
-
-abbrev pub showForecast : Leg → List Group
-showForecast r = cond (r .nsw) (bytes "NSW" ∷ []) [] ++ showWeathers (r .weathers)
-
 -- ---- the rows
 
 unfoldable pub row : Part → List (Place Leg)
 row w =
-    openIn (isMain w) (word "TAF") (bytes "TAF" ∷ []) true false (λ g r. Good r) (λ r. bytes "TAF" ∷ []) (λ r acc. acc)
-    ∷ openIn (isMain w) isCorrection (bytes "AMD" ∷ bytes "COR" ∷ []) false false (λ g r. Good (setCorrection (correctionOf g) r))
-    (λ r. showCorrection (r .correction)) (λ r acc. setCorrection (r .correction) acc)
-    ∷ openIn (isMain w) (λ g. hasPattern g stationShape) (stationShape ∷ []) true false (λ g r. Good (setStation (stationOf g) r)) (λ r. r .station .letters ∷ [])
-    (λ r acc. setStation (r .station) acc)
-    ∷ openIn (isMain w) (λ g. hasPattern g timeShape) (timeShape ∷ []) true false (λ g r. onto (readTime g) setTime r) (λ r. showTime (r .time) ∷ [])
-    (λ r acc. setTime (r .time) acc)
-    ∷ openIn (isMain w) (word "NIL") (bytes "NIL" ∷ []) false true (λ g r. Good (setNil true r)) (λ r. cond (r .nil) (bytes "NIL" ∷ []) [])
-    (λ r acc. setNil (r .nil) acc)
-    ∷ openIn (hasPeriod w) (λ g. hasPattern g periodShape) (periodShape ∷ []) true false (λ g r. onto (readPeriod g) setPeriod r)
-    (λ r. cond (r .nil) [] (showPeriod (r .period) ∷ [])) (λ r acc. setPeriod (r .period) acc)
-    ∷ openIn (isMain w) (word "CNL") (bytes "CNL" ∷ []) false true (λ g r. Good (setCancelled true r)) (λ r. cond (r .cancelled) (bytes "CNL" ∷ []) [])
-    (λ r acc. setCancelled (r .cancelled) acc)
-    ∷ placeFor (hasShape windShape) (spellings (partsOf windShape)) (spellings (partsOf windShape)) 1 (isWhole w) false (λ k g r. onto (readWind true g) setWind r)
-    (λ r. cond (isBlankWind (r .wind)) [] (showWind (r .wind) ∷ [])) (λ r acc. setWind (classWind (r .wind)) acc)
-    ∷ placeFor (hasAny visibilityShapes) visibilityShapes visibilityShapes 1 (isWhole w) false (λ k g r. onto (readVisibility true g) setVisibility r)
-    (λ r. cond (noView (r .visibility .is)) [] (showVisibility (r .visibility) ∷ [])) (λ r acc. setVisibility (classVisibility (r .visibility)) acc)
-    ∷ placeFor hasForecast forecastCover forecastSpoken 3 false false (λ k g r. readForecast (isMain w) k g r) showForecast
-    (λ r acc. setNsw (r .nsw) (setWeathers (r .weathers) acc))
-    ∷ placeFor hasSky (spellings (partsOf layerShape) ++ aloneShapes) (spellings (partsOf layerShape) ++ aloneShapes) 4 false false
-    (λ k g r. onto (readSky true (isCavok (r .visibility)) k g (r .sky)) setSky r) (λ r. showSky (r .sky)) (λ r acc. setSky (classSky (r .sky)) acc)
+    openIn (isMain w) (placeFor (word "TAF") (bytes "TAF" ∷ []) true (λ g r. Good r) (λ r. bytes "TAF" ∷ []) (λ r acc. acc))
+    ∷ openIn (isMain w) (placeFor isCorrection (bytes "AMD" ∷ bytes "COR" ∷ []) false (λ g r. Good (setCorrection (correctionOf g) r))
+    (λ r. showCorrection (r .correction)) (λ r acc. setCorrection (r .correction) acc))
+    ∷ openIn (isMain w) (lift (λ (r : Leg). r .station) setStation stationPlace)
+    ∷ openIn (isMain w) (lift (λ (r : Leg). r .time) setTime timePlace)
+    ∷ openIn (isMain w) (lift (λ (r : Leg). r .nil) setNil (wordPlace "NIL" true))
+    ∷ openIn (hasPeriod w) (placeFor (λ g. hasPattern g periodShape) (periodShape ∷ []) true (λ g r. onto (readPeriod g) setPeriod r)
+    (λ r. cond (r .nil) [] (showPeriod (r .period) ∷ [])) (λ r acc. setPeriod (r .period) acc))
+    ∷ openIn (isMain w) (lift (λ (r : Leg). r .cancelled) setCancelled (wordPlace "CNL" true))
+    ∷ ofBody (windPlace (forecastIn w))
+    ∷ ofBody (visibilityPlace (forecastIn w))
+    ∷ ofBody (weatherPlace (forecastIn w))
+    ∷ ofBody (skyPlace (forecastIn w))
     ∷ []
 
 -- "BECMG, TEMPO, PROB30, PROB40, PROB TEMPO, each with YYGG/YYGG, or FMYYGGgg. A change group opens a body and a body runs to the next change group."

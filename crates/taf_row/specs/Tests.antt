@@ -4,14 +4,13 @@ use Prim.Native.Nat.{ℕ}
 use mathlib.Core.Path.{_≡_}
 use mathlib.Core.Bool.{Bool, true, false, not, _&&_, _||_}
 use lib.ListN.{drop}
-use lib.Dec.{leb, ltb}
+use lib.Dec.{leb}
 use Rattle.places.specs.Seek.{owed}
 use Rattle.places.specs.Engine.{Group, placeAt, mustsOf}
 use Rattle.record.specs.declared.aerodrome.Opening.{Opening}
 use Rattle.record.specs.declared.aerodrome.Opening.the-variants as opening
 use Rattle.record.specs.declared.aerodrome.Leg.{Leg}
-use Rattle.elements.specs.Wind.{hasUnit}
-use Rattle.record.specs.SilentAerodrome.{noView, isLayers}
+use Rattle.elements.specs.Body.{hasElement}
 use Rattle.taf_row.specs.declared.kinds.Part.{Part}
 use Rattle.taf_row.specs.Row.{isMain, word, row}
 
@@ -36,12 +35,9 @@ joins o g = isProbable o && word "TEMPO" g
 
 -- ---- the end of a body: a required group is absent, or a change body has no element
 
-abbrev pub hasElement : Leg → Bool
-hasElement r = hasUnit (r .wind .unit) || not (noView (r .visibility .is)) || ltb 0 (r .weathers .count) || r .nsw || not (isLayers (r .sky .cover)) || ltb 0 (r .sky .count)
-
 -- "A change body needs one element, under FM wind and visibility."
 abbrev pub lacks : Part → ℕ → ℕ → Leg → Bool
-lacks w c k r = owed k (drop c (mustsOf (row w))) || (not (isMain w) && not (hasElement r))
+lacks w c k r = owed k (drop c (mustsOf (row w))) || (not (isMain w) && not (hasElement (r .body)))
 
 -- ---- "up to .. 16 change groups": there is no room for one more
 

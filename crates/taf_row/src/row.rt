@@ -15,7 +15,9 @@ ghost use lib.ListN.{drop};
 ghost use Rattle.shapes.specs.Pattern.{hasAny};
 ghost use Rattle.places.specs.Seek.{answers, fitFrom, findOf};
 ghost use Rattle.places.specs.Engine.{placeAt, standsOf, mustsOf, mostsOf};
-ghost use Rattle.taf_row.specs.Row.{isMain, isWhole, hasPeriod, isCorrection, hasForecast, row, changeWords};
+ghost use Rattle.taf_row.specs.Row.{isMain, isWhole, hasPeriod, isCorrection, forecastIn, row, changeWords};
+ghost use Rattle.taf_row.specs.declared.kinds.Part.the-variants as part;
+ghost use Rattle.elements.specs.Body.{hasForecast};
 ghost use Rattle.taf_row.specs.Tests.{HasAt};
 
 pub fn is_main(part: Part) -> bool
@@ -50,11 +52,11 @@ fn has_period(part: Part) -> bool
 }
 
 fn has_forecast(g: &[u8]) -> bool
-    ensures { λ r. ⌜ r ≡ hasForecast (now (g .entry)) ⌝ }
+    ensures { λ r. ⌜ r ≡ hasForecast (forecastIn part.Main) (now (g .entry)) ⌝ }
 {
-    let weather = has_weather(g);
     let nsw = has_pattern(g, b"NSW");
-    weather | nsw
+    let weather = has_weather(g);
+    nsw | weather
 }
 
 fn is_correction(g: &[u8]) -> bool

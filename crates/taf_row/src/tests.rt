@@ -1,16 +1,13 @@
-// What decides at a group or at a part's end: whether TEMPO belongs to PROB, whether NSW may stand, whether a part is whole, whether there is room for
-// one change more.
+// What decides at a group or at a part's end: whether TEMPO belongs to PROB, whether a part is whole, whether there is room for one change more.
 use crate::kinds::Part;
 use crate::row::is_main;
 use crate::row::musts;
+use body::judge::has_element;
 use record::aerodrome::Leg;
 use record::aerodrome::Opening;
-use record::aerodrome::Visibility;
 use shapes::has_pattern;
-use wind::read::is_cavok;
 ghost use mathlib.Core.Path.{_≡_};
-ghost use Rattle.taf_row.specs.Row.{nswStands};
-ghost use Rattle.taf_row.specs.Tests.{isProbable, joins, hasElement, lacks, isFull};
+ghost use Rattle.taf_row.specs.Tests.{isProbable, joins, lacks, isFull};
 
 // ---- at a group
 
@@ -36,30 +33,7 @@ pub fn does_join(opening: Opening, g: &[u8]) -> bool
     probable & joining
 }
 
-// NSW disagrees with the main part, with weather before it and with CAVOK.
-pub fn nsw_stands(main: bool, count: usize, visibility: Visibility) -> bool
-    ensures { λ r. ⌜ r ≡ nswStands main count visibility ⌝ }
-{
-    let cavok = is_cavok(visibility);
-    !main & (count == 0) & !cavok
-}
-
 // ---- at a part's end
-
-pub fn has_element(r: Leg) -> bool
-    ensures { λ b. ⌜ b ≡ hasElement r ⌝ }
-{
-    let wind = r.wind;
-    let unit = wind.unit;
-    let visibility = r.visibility;
-    let view = visibility.is;
-    let sky = r.sky;
-    let cover = sky.cover;
-    let blown = !unit.is_missing();
-    let unseen = view.is_missing();
-    let layers = cover.is_layers();
-    blown | !unseen | (0 < r.weathers.count) | r.nsw | !layers | (0 < sky.count)
-}
 
 // Is a required group absent, or has a change body no element?
 pub fn lacks(part: Part, place: usize, count: usize, r: Leg) -> bool
@@ -68,7 +42,8 @@ pub fn lacks(part: Part, place: usize, count: usize, r: Leg) -> bool
     let must = musts(part);
     let owed = places::is_owed(&must, place, count);
     let main = is_main(part);
-    let some = has_element(r);
+    let body = r.body;
+    let some = has_element(body);
     owed | (!main & !some)
 }
 

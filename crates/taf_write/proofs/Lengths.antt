@@ -19,10 +19,8 @@ changing = Struct (shape the-type)
 pub each-arrays : (cs : List Change) (us : List Val) → shadow (each (changing .Denot) (changing .own) (map (the-type .to) cs) us) → EachArrays cs
 each-arrays [] us s = tt
 each-arrays (c ∷ cs) [] s = absurd s
-each-arrays (c ∷ cs) (u ∷ us) s = (
-  record {
-    weathers = simp length-map at (s .0 .1 .1 .1 .1 .1 .1 .0 .1 .1 .0 .1 .0 .1);
-    layers = simp length-map at (s .0 .1 .1 .1 .1 .1 .1 .1 .1 .0 .1 .1 .1 .0 .1 .0 .1);
-  },
-  each-arrays cs us (s .1),
-)
+each-arrays (c ∷ cs) (u ∷ us) s =
+    let body = s .0 .1 .1 .1 .1 .0 .1 .1 .1 .1 in (
+      record { weathers = simp length-map at (body .0 .1 .1 .0 .1 .0 .1); layers = simp length-map at (body .1 .1 .0 .1 .1 .1 .0 .1 .0 .1) },
+      each-arrays cs us (s .1),
+    )

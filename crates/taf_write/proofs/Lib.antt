@@ -1,3 +1,4 @@
 -- Laws that the proofs of the writer use.
+pub mod Judgings
 pub mod Lengths
 pub mod Writing

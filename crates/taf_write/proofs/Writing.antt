@@ -25,16 +25,21 @@ use Rattle.places.proofs.Sizes.{Sizes}
 use Rattle.record.specs.declared.aerodrome.Leg.{Leg}
 use Rattle.record.specs.declared.aerodrome.Change.{Change}
 use Rattle.record.specs.declared.aerodrome.Taf.{Taf}
+use Rattle.elements.specs.Body.{bodyRow}
 use Rattle.taf_row.specs.declared.kinds.Part.{Part}
 use Rattle.taf_row.specs.declared.kinds.Part.the-variants as part
-use Rattle.taf_row.specs.Row.{showPeriod, row}
+use Rattle.taf_row.specs.Row.{forecastIn, showPeriod, row}
 use Rattle.taf.specs.Write.{judgeOf, showChange, showEach, groupsOf, canonicalOf, writtenOf, bufferOf}
 
--- ---- a row in two parts: the first seven places and then the others
+-- ---- a row in two parts: the first seven places, and the body
+
+body-groups : (w : Part) (r : Leg) → groupsAt (drop 7 (row w)) r ≡ groupsAt (bodyRow (forecastIn w)) (r .body)
+unfolding row
+body-groups w r = refl
 
 pub put-parts : {b l m : List ℕ} {at i n : ℕ} (w : Part) (r : Leg) → Put b at (written at (groupsAt (take 7 (row w)) r)) i l
-    → Put l i (written i (groupsAt (drop 7 (row w)) r)) n m → Put b at (written at (groupsAt (row w) r)) n m
-put-parts w r p q = rw (groups-split r 7 (row w)) (write-groups (groupsAt (take 7 (row w)) r) (groupsAt (drop 7 (row w)) r) p q)
+    → Put l i (written i (groupsAt (bodyRow (forecastIn w)) (r .body))) n m → Put b at (written at (groupsAt (row w) r)) n m
+put-parts w r p q = rw (groups-split r 7 (row w), body-groups w r) (write-groups (groupsAt (take 7 (row w)) r) (groupsAt (bodyRow (forecastIn w)) (r .body)) p q)
 
 -- of the first seven a change group's part has the period alone, and none under FM
 pub under-change : {b l : List ℕ} {at i : ℕ} (r : Leg) → Put b at (written at (cond (r .nil) [] (showPeriod (r .period) ∷ []))) i l

@@ -1,2 +1,3 @@
-// The writer of TAF: a record written as its canonical text.
+// The writer of TAF: a record judged, and written as its canonical text.
+pub mod judge;
 pub mod write;

@@ -1,7 +1,9 @@
 // A TAF written as its canonical text, over a lent buffer: all of it, or nothing.
+use crate::judge::judge;
 use aerodrome_groups::write::put_station;
 use aerodrome_groups::write::put_time;
 use aerodrome_groups::write::put_two;
+use body::write::put_body;
 use figures::put::put_byte;
 use figures::put::put_number;
 use figures::put::put_text;
@@ -12,12 +14,9 @@ use record::aerodrome::Leg;
 use record::aerodrome::Opening;
 use record::aerodrome::Period;
 use record::aerodrome::Taf;
-use record::aerodrome::Visibility;
-use record::aerodrome::Wind;
-use sky::write::put_sky;
+use record::blank_aerodrome::blank_instant;
+use record::blank_aerodrome::blank_station;
 use taf::word::part_of;
-use taf_judge::judge::judge;
-use taf_judge::judge::leg_of;
 use taf_row::kinds::Part;
 use text::kinds::Judged;
 use text::kinds::Written;
@@ -26,25 +25,19 @@ use text::write::deliver;
 use text::write::open_group;
 use text::write::put_group;
 use text::write::put_if;
-use weather_write::write::put_weathers;
-use wind::write::put_visibility;
-use wind::write::put_wind;
 ghost use mathlib.Core.Path.{_≡_};
 ghost use mathlib.Core.Bool.{cond};
 ghost use mathlib.Core.List.{_∷_, [], _++_};
 ghost use Prim.Native.Nat.{min};
-ghost use lib.ListN.{length, take, drop};
+ghost use lib.ListN.{length, take};
 ghost use Rattle.figures.specs.Put.{Put};
 ghost use Rattle.figures.specs.Quote.{bytes};
 ghost use Rattle.text.specs.declared.kinds.Judged.the-variants as judged;
 ghost use Rattle.text.specs.Groups.{written};
 ghost use Rattle.places.specs.Engine.{written as groupsAt};
-ghost use Rattle.elements.specs.Wind.{showWind};
-ghost use Rattle.record.specs.SilentAerodrome.{isBlankWind, noView};
-ghost use Rattle.elements.specs.Visibility.{showVisibility};
 ghost use Rattle.taf_row.specs.declared.kinds.Part.the-variants as part;
-ghost use Rattle.taf_row.specs.Row.{showCorrection, showHour, showPeriod, showForecast, row};
-ghost use Rattle.taf.specs.Write.{judgeOf, showChance, showFrom, showOpening, showChange, showEach, groupsOf, writtenOf, bufferOf};
+ghost use Rattle.taf_row.specs.Row.{showCorrection, showHour, showPeriod, row};
+ghost use Rattle.taf.specs.Write.{judgeOf, showChance, showFrom, legOf, showOpening, showChange, showEach, groupsOf, writtenOf, bufferOf};
 
 // ---- the head
 
@@ -119,58 +112,15 @@ fn put_head(out: &mut [u8], at: usize, w: Part, r: Leg) -> usize
     }
 }
 
-// ---- a part: a wind or a visibility that is left out is not written
-
-fn put_any_wind(out: &mut [u8], at: usize, w: Wind) -> usize
-    ensures { λ n. ⌜ Put (now (out .entry)) at (written at (cond (isBlankWind w) [] (showWind w ∷ []))) n (now (out .exit)) ⌝ }
-{
-    if w.is_blank() {
-        at
-    } else {
-        put_wind(out, at, w)
-    }
-}
-
-fn put_any_visibility(out: &mut [u8], at: usize, v: Visibility) -> usize
-    ensures { λ n. ⌜ Put (now (out .entry)) at (written at (cond (noView (v .is)) [] (showVisibility v ∷ []))) n (now (out .exit)) ⌝ }
-{
-    let view = v.is;
-    if view.is_missing() {
-        at
-    } else {
-        put_visibility(out, at, v)
-    }
-}
-
-// NSW, and the weathers.
-fn put_forecast(out: &mut [u8], at: usize, r: Leg) -> usize
-    ensures { λ n. ⌜ Put (now (out .entry)) at (written at (showForecast r)) n (now (out .exit)) ⌝ }
-{
-    let nsw = r.nsw;
-    let weathers = r.weathers;
-    let cleared = put_if(out, at, nsw, b"NSW");
-    put_weathers(out, cleared, weathers)
-}
-
-// Wind, visibility, weather and sky: the last four places.
-fn put_body(out: &mut [u8], at: usize, w: Part, r: Leg) -> usize
-    ensures { λ n. ⌜ Put (now (out .entry)) at (written at (groupsAt (drop 7 (row w)) r)) n (now (out .exit)) ⌝ }
-{
-    let wind = r.wind;
-    let visibility = r.visibility;
-    let sky = r.sky;
-    let blown = put_any_wind(out, at, wind);
-    let seen = put_any_visibility(out, blown, visibility);
-    let weathered = put_forecast(out, seen, r);
-    put_sky(out, weathered, sky)
-}
+// ---- a part
 
 // The head and then the body.
 fn put_part(out: &mut [u8], at: usize, w: Part, r: Leg) -> usize
     ensures { λ n. ⌜ Put (now (out .entry)) at (written at (groupsAt (row w) r)) n (now (out .exit)) ⌝ }
 {
+    let body = r.body;
     let headed = put_head(out, at, w, r);
-    put_body(out, headed, w, r)
+    put_body(out, headed, body)
 }
 
 // ---- changes
@@ -217,6 +167,26 @@ fn put_opening(out: &mut [u8], at: usize, o: Opening, p: Period) -> usize
         Opening::Probable(chance) => put_chance(out, at, chance),
         Opening::ProbablyTemporary(chance) => put_chances(out, at, chance),
         Opening::From => put_from(out, at, from),
+    }
+}
+
+// A change group's part, its head blank.
+fn leg_of(c: Change) -> Leg
+    ensures { λ r. ⌜ r ≡ legOf c ⌝ }
+{
+    let correction = Correction::None;
+    let period = c.period;
+    let body = c.body;
+    let station = blank_station();
+    let time = blank_instant();
+    Leg {
+        correction,
+        station,
+        time,
+        nil: false,
+        period,
+        cancelled: false,
+        body,
     }
 }
 

@@ -18,7 +18,7 @@ use Rattle.places.specs.Engine.{Group, Read, Good}
 use Rattle.places.proofs.ReadBack.{All}
 use Rattle.record.specs.declared.aerodrome.Weather.{Weather}
 use Rattle.record.specs.declared.aerodrome.Weathers.{Weathers}
-use Rattle.record.specs.Metar.{blankWeather, blankWeathers}
+use Rattle.record.specs.Body.{blankWeather, blankWeathers}
 use Rattle.elements.specs.Parts.{then}
 use Rattle.elements.specs.Weather.{judgeEach, judgeWeathers, withWeather}
 use Rattle.record.specs.SilentAerodrome.{isBlankWeather}

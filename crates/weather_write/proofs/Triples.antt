@@ -15,7 +15,7 @@ use Rattle.text.specs.Judge.{andThen}
 use Rattle.figures.specs.Quote.{bytes}
 use Rattle.places.specs.Engine.{Group}
 use Rattle.record.specs.declared.aerodrome.Weather.{Weather}
-use Rattle.record.specs.Metar.{blankWeather}
+use Rattle.record.specs.Body.{blankWeather}
 use Rattle.elements.specs.Weather.{judgeEach, phenomenaText, showWeather, showRecent}
 use Rattle.weather_write.specs.Three.{shownAs}
 

@@ -5,4 +5,3 @@ pub mod RoundTripWind
 pub mod RoundTripVariation
 pub mod RoundTripVisibility
 pub mod Promises
-pub mod Examples

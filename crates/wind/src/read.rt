@@ -5,9 +5,7 @@ use crate::directions::is_tens;
 use crate::kinds::DirectionRead;
 use crate::kinds::FiguresRead;
 use crate::kinds::SpeedRead;
-use elements::kinds::VariationRead;
-use elements::kinds::VisibilityRead;
-use elements::kinds::WindRead;
+use elements::kinds::Said;
 use figures::field;
 use figures::kinds::Field;
 use record::aerodrome::Extremes;
@@ -157,32 +155,32 @@ fn is_no_wind(d: Value, s: Value, g: Value) -> bool
 }
 
 // A wind whose parts agree.
-fn wind_with(unit: Unit, direction: Direction, mean: u32, gust: Speed) -> WindRead
+fn wind_with(unit: Unit, direction: Direction, mean: u32, gust: Speed) -> Said
     ensures { λ r. ⌜ r ≡ asWind (agreeing (windAgrees direction mean gust) (Good (windWith unit direction mean gust))) ⌝ }
 {
     if wind_agrees(direction, mean, gust) {
         let speed = Speed::Is(mean);
-        WindRead::Good(Wind {
+        Said::Wind(Wind {
             direction,
             speed,
             gust,
             unit,
         })
     } else {
-        WindRead::Bad(Refusal::Disagreement)
+        Said::Refused(Refusal::Disagreement)
     }
 }
 
 // The wind that the parts read make, or the first refusal among them.
-fn wind_of(unit: Unit, d: DirectionRead, s: FiguresRead, g: SpeedRead) -> WindRead
+fn wind_of(unit: Unit, d: DirectionRead, s: FiguresRead, g: SpeedRead) -> Said
     ensures { λ r. ⌜ r ≡ asWind (windOf unit d s g) ⌝ }
 {
     match d {
-        DirectionRead::Bad(f) => WindRead::Bad(f),
+        DirectionRead::Bad(f) => Said::Refused(f),
         DirectionRead::Good(direction) => match s {
-            FiguresRead::Bad(f) => WindRead::Bad(f),
+            FiguresRead::Bad(f) => Said::Refused(f),
             FiguresRead::Good(mean) => match g {
-                SpeedRead::Bad(f) => WindRead::Bad(f),
+                SpeedRead::Bad(f) => Said::Refused(f),
                 SpeedRead::Good(gust) => wind_with(unit, direction, mean, gust),
             },
         },
@@ -190,15 +188,15 @@ fn wind_of(unit: Unit, d: DirectionRead, s: FiguresRead, g: SpeedRead) -> WindRe
 }
 
 // What the four parts of the group say together.
-fn wind_by(forecast: bool, d: Value, s: Value, g: Value, u: Value) -> WindRead
+fn wind_by(forecast: bool, d: Value, s: Value, g: Value, u: Value) -> Said
     ensures { λ r. ⌜ r ≡ asWind (windBy forecast d s g u) ⌝ }
 {
     let unit = unit_of(u.which);
     if is_no_wind(d, s, g) {
         if forecast {
-            return WindRead::Bad(Refusal::Figure);
+            return Said::Refused(Refusal::Figure);
         }
-        return WindRead::Good(Wind {
+        return Said::Wind(Wind {
             direction: Direction::Missing,
             speed: Speed::Missing,
             gust: Speed::Missing,
@@ -211,7 +209,7 @@ fn wind_by(forecast: bool, d: Value, s: Value, g: Value, u: Value) -> WindRead
     wind_of(unit, direction, mean, gust)
 }
 
-pub fn read_wind(forecast: bool, g: &[u8]) -> WindRead
+pub fn read_wind(forecast: bool, g: &[u8]) -> Said
     ensures { λ r. ⌜ r ≡ asWind (readWind forecast (now (g .entry))) ⌝ }
 {
     let s = scan_wind(g);
@@ -232,27 +230,27 @@ pub fn has_variation(g: &[u8]) -> bool
 }
 
 // dddVddd
-pub fn read_variation(g: &[u8]) -> VariationRead
+pub fn read_variation(g: &[u8]) -> Said
     ensures { λ r. ⌜ r ≡ asVariation (readVariation (now (g .entry))) ⌝ }
 {
     let Field::Number(a) = field(g, 0, 3) else {
-        return VariationRead::Bad(Refusal::Figure);
+        return Said::Refused(Refusal::Figure);
     };
     let Field::Number(b) = field(g, 4, 3) else {
-        return VariationRead::Bad(Refusal::Figure);
+        return Said::Refused(Refusal::Figure);
     };
     if is_tens(a) & is_tens(b) {
         if a == b {
-            VariationRead::Bad(Refusal::Disagreement)
+            Said::Refused(Refusal::Disagreement)
         } else {
             let from = a % 360;
             let to = b % 360;
-            VariationRead::Good(Variation {
+            Said::Variation(Variation {
                 is: Extremes::Between { from, to },
             })
         }
     } else {
-        VariationRead::Bad(Refusal::Figure)
+        Said::Refused(Refusal::Figure)
     }
 }
 
@@ -276,40 +274,40 @@ pub fn is_cavok(v: Visibility) -> bool
 }
 
 // VVVV, by its scale.
-fn seen_at(figure: u32) -> VisibilityRead
+fn seen_at(figure: u32) -> Said
     ensures { λ r. ⌜ r ≡ asVisibility (seenBy (metresReading visibility figure)) ⌝ }
 {
     let r = scales::metres::visibility_reading(figure);
     match r {
-        Reading::Is(m) => VisibilityRead::Good(Visibility {
+        Reading::Is(m) => Said::Visibility(Visibility {
             is: View::Metres(m),
         }),
-        Reading::Unused => VisibilityRead::Bad(Refusal::Figure),
+        Reading::Unused => Said::Refused(Refusal::Figure),
     }
 }
 
 // //// is not written in a TAF.
-fn unseen(forecast: bool) -> VisibilityRead
+fn unseen(forecast: bool) -> Said
     ensures { λ r. ⌜ r ≡ asVisibility (unseen forecast) ⌝ }
 {
     if forecast {
-        VisibilityRead::Bad(Refusal::Figure)
+        Said::Refused(Refusal::Figure)
     } else {
-        VisibilityRead::Good(Visibility { is: View::Missing })
+        Said::Visibility(Visibility { is: View::Missing })
     }
 }
 
-pub fn read_visibility(forecast: bool, g: &[u8]) -> VisibilityRead
+pub fn read_visibility(forecast: bool, g: &[u8]) -> Said
     ensures { λ r. ⌜ r ≡ asVisibility (readVisibility forecast (now (g .entry))) ⌝ }
 {
     if has_pattern(g, b"CAVOK") {
-        return VisibilityRead::Good(Visibility { is: View::Cavok });
+        return Said::Visibility(Visibility { is: View::Cavok });
     }
     let f = field(g, 0, 4);
     match f {
         Field::Number(n) => seen_at(n),
         Field::Missing => unseen(forecast),
-        Field::Mixed => VisibilityRead::Bad(Refusal::Figure),
-        Field::Other => VisibilityRead::Bad(Refusal::Figure),
+        Field::Mixed => Said::Refused(Refusal::Figure),
+        Field::Other => Said::Refused(Refusal::Figure),
     }
 }

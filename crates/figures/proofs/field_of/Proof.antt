@@ -44,16 +44,13 @@ pub field-of-spec : {M : Type 1} → statement M
 field-of-spec =
     tie.close
     (tie.spec Inv μ
-    (λ c. search needs)
-    (λ c. search needs)
+    (λ c. search needs) (λ c. search needs)
     (λ c. on-low _ _ _ _ _ (turn (c .before .before)) (c .if1 .taken))
     (λ c. on-high _ _ _ _ _ (turn (c .before .before .before)) (c .if2 .taken))
     (λ c. omega (arith, small (c .before .before .before .before .before .loop .inv .1) (omega arith)))
-    (λ c. search needs)
-    (λ c. search needs)
+    (λ c. search needs) (λ c. search needs)
     (λ c. omega (arith, small (c .before .before .before .before .before .loop .inv .1) (omega arith)))
-    (λ c. search needs)
-    (λ c. search needs)
+    (λ c. search needs) (λ c. search needs)
     again
     (λ c. unfold scan in rw (c .before .if4 .taken, c .if5 .taken) at (done (c .before .before)))
     (λ c. unfold scan in rw (c .before .if4 .taken, c .if5 .left) at (done (c .before .before)))

@@ -12,9 +12,7 @@ pub found-at-spec : {M : Type 1} → statement M
 found-at-spec =
     tie.close
     (tie.spec
-    (λ c κs. search needs)
-    (λ c κs. search needs)
-    (λ c κs. search needs)
+    (λ c κs. search needs) (λ c κs. search needs) (λ c κs. search needs)
     (λ c.
     let a = c .before .before .before .before .before .before .before .args in
     found-room (a .most .now) (a .must .now) (a .place) (a .count) (a .fit) (c .before .before .before .before .standing-at .ensures) (c .before .before .before .most-at .ensures) true (omega arith) (sym (c .before .is-owed-before .ensures) ∙ c .if2 .taken))

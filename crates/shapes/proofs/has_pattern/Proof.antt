@@ -30,14 +30,10 @@ pub has-pattern-spec : {M : Type 1} → statement M
 has-pattern-spec =
     tie.close
     (tie.spec Inv μ
-    (λ c. search needs)
-    (λ c. search needs)
+    (λ c. search needs) (λ c. search needs)
     (λ c. on-star _ _ _ (c .before .before .before .loop .inv .2) (omega arith) (c .if1 .taken))
     (λ c. on-spent _ _ _ (c .before .before .before .before .loop .inv .2) (omega arith) (c .before .if1 .left) (omega arith))
-    (λ c. search needs)
-    (λ c κs. search needs)
-    (λ c. search needs)
-    (λ c. search needs)
+    (λ c. search needs) (λ c κs. search needs) (λ c. search needs) (λ c. search needs)
     (λ c. (omega arith, omega arith, rw (← c .before .fits-at .ensures, c .if3 .taken) at (turn (c .before .before .before))))
     (λ c. rw (← c .before .fits-at .ensures, c .if3 .left) at (turn (c .before .before .before)))
     (λ c. on-end _ _ _ (c .before .loop .inv .2) (omega arith) (omega arith)))

@@ -23,10 +23,7 @@ are-allowed-spec =
     tie.close
     (tie.spec Inv μ
     (λ c. refl)
-    (λ c. search needs)
-    (λ c κs. search needs)
-    (λ c. search needs)
-    (λ c. search needs)
+    (λ c. search needs) (λ c κs. search needs) (λ c. search needs) (λ c. search needs)
     (λ c.
     let d = c .before .before .before in
     let t = d .before .before .args .text .now in

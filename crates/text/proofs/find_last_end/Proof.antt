@@ -22,11 +22,7 @@ find-last-end-spec =
     Inv-loop
     μ-loop
     (λ c. (search needs, last-whole (c .before .args .text .now)))
-    (λ c. search needs)
-    (λ c. search needs)
-    (λ c κs. search needs)
-    (λ c. search needs)
-    (λ c. search needs)
+    (λ c. search needs) (λ c. search needs) (λ c κs. search needs) (λ c. search needs) (λ c. search needs)
     (λ c.
     let d = c .before .before .before in
     (search needs, last-back (d .before .before .before .args .text .now) (d .before .loop .end) (d .loop-test .taken) (d .before .loop .inv .0) (sym (c .before .is-parting .ensures) ∙ c .if1 .taken) ∙ d .before .loop .inv .1))

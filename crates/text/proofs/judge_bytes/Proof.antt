@@ -16,8 +16,7 @@ judge-bytes-spec =
     (tie.spec
     (λ c. sym (bytes-none (c .before .before .args .text .now) (c .if1 .taken)))
     (λ c. sym (bytes-long (c .before .before .before .args .text .now) (c .if2 .taken)))
-    (λ c κs. search needs)
-    (λ c κs. search needs)
+    (λ c κs. search needs) (λ c κs. search needs)
     (λ c.
     let d = c .before .before in
     let t = d .before .before .before .args .text .now in

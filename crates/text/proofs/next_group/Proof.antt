@@ -16,9 +16,7 @@ next-group-spec =
     (λ c.
     let a = c .before .before .before .before .args in
     sym (next-end (a .text .now) (a .at) _ (c .before .before .if1 .left) (c .before .reach .ensures) (c .if2 .taken)))
-    (λ c. search needs)
-    (λ c κs. search needs)
-    (λ c κs. search needs)
+    (λ c. search needs) (λ c κs. search needs) (λ c κs. search needs)
     (λ c.
     let d = c .before .before .before .before in
     let a = d .before .before .before .before .args in

@@ -9,7 +9,5 @@ pub no-part-spec : {M : Type 1} → statement M
 no-part-spec =
     tie.close
     (tie.spec
-    (λ c. search needs)
-    (λ c. search needs)
-    (λ c. search needs)
+    (λ c. search needs) (λ c. search needs) (λ c. search needs)
     (λ c. rw (drop-length, take-nil)))

@@ -11,8 +11,7 @@ pub part-spec : {M : Type 1} → statement M
 part-spec =
     tie.close
     (tie.spec
-    (λ c. search needs)
-    (λ c. search needs)
+    (λ c. search needs) (λ c. search needs)
     (λ c. sym (part-is _ _ _ (c .before .before .if1 .taken) (c .before .if2 .taken)))
     (λ c κs. search needs)
     (λ c.

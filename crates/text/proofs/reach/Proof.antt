@@ -22,11 +22,7 @@ reach-spec =
     (tie.spec
     Inv-loop
     μ-loop
-    (λ c. search needs)
-    (λ c. search needs)
-    (λ c κs. search needs)
-    (λ c. search needs)
-    (λ c. search needs)
+    (λ c. search needs) (λ c. search needs) (λ c κs. search needs) (λ c. search needs) (λ c. search needs)
     (λ c.
     let d = c .before .before .before in
     omega (arith, lead-yes (passes (d .before .before .before .args .run)) (d .before .before .before .args .text .now) (d .before .loop .i) (d .loop-test .taken) (sym (c .before .passes .ensures) ∙ c .if1 .taken)))

@@ -15,8 +15,7 @@ tail-spec =
     (tie.spec
     (λ c κs. search needs)
     (λ c. sym (tail-none (c .before .before .before .args .text .now) _ (c .before .reach .ensures ∙ zero-add _) (c .if1 .taken)))
-    (λ c. search needs)
-    (λ c κs. search needs)
+    (λ c. search needs) (λ c κs. search needs)
     (λ c.
     let d = c .before .before in
     sym (tail-junk (d .before .before .before .args .text .now) _ (d .before .reach .ensures ∙ zero-add _) _ (d .if1 .left) (c .before .reach2 .ensures) (c .if2 .taken)))

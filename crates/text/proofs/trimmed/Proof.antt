@@ -14,17 +14,12 @@ unfolding equalsAt
 trimmed-spec =
     tie.close
     (tie.spec
-    (λ c κs. search needs)
-    (λ c κs. search needs)
-    (λ c κs. search needs)
+    (λ c κs. search needs) (λ c κs. search needs) (λ c κs. search needs)
     (λ c.
     let d = c .before .before in
     c .no-part .ensures
     ∙ sym (trimmed-none (d .before .before .before .args .text .now) _ (d .reach2 .ensures ∙ zero-add _) _ (d .before .reach .ensures ∙ zero-add _) (c .before .if1 .taken)))
-    (λ c. search needs)
-    (λ c κs. search needs)
-    (λ c κs. search needs)
-    (λ c κs. search needs)
+    (λ c. search needs) (λ c κs. search needs) (λ c κs. search needs) (λ c κs. search needs)
     (λ c.
     let d = c .before .before .before in
     c .part .ensures

@@ -10,9 +10,6 @@ pub bytes-at-spec : {M : Type 1} → statement M
 bytes-at-spec =
     tie.close
     (tie.spec
-    (λ c. search needs)
-    (λ c κs. search needs)
-    (λ c. search needs)
-    (λ c κs. search needs)
+    (λ c. search needs) (λ c κs. search needs) (λ c. search needs) (λ c κs. search needs)
     (λ c. rw (c .before .before .cut .given .1) (c .part .ensures))
     (λ c. rw (c .before .before .cut2 .given .1) (c .part2 .ensures ∙ part-nothing _ _)))

@@ -2,7 +2,7 @@
 -- Assumes nothing.
 use borrow.Author.Needs.{needs}
 use Rattle.aerodrome_groups.specs.Head.{readTime}
-use Rattle.aerodrome_groups.specs.Answers.{asInstant}
+use Rattle.elements.specs.Answers.{asInstant}
 use Rattle.aerodrome_groups.proofs.Readings.{no-figure}
 use Rattle.aerodrome_groups.proofs.read.read_time.Statement.{statement}
 use Rattle.aerodrome_groups.proofs.read.read_time.Tie as tie

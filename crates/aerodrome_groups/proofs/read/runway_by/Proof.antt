@@ -2,7 +2,7 @@
 -- Assumes nothing.
 use mathlib.Core.Path.{sym, _∙_, refl}
 use borrow.Author.Needs.{needs}
-use Rattle.aerodrome_groups.specs.Answers.{asRunway}
+use Rattle.elements.specs.Answers.{asRunway}
 use Rattle.aerodrome_groups.specs.Runway.{readRange}
 use Rattle.aerodrome_groups.proofs.Readings.{no-figure, range-good, range-bad}
 use Rattle.aerodrome_groups.proofs.read.runway_by.Statement.{statement}

@@ -12,10 +12,7 @@ pub figures-spec : {M : Type 1} → statement M
 figures-spec =
     tie.close
     (tie.spec
-    (λ c. search needs)
-    (λ c κs. search needs)
-    (λ c. search needs)
+    (λ c. search needs) (λ c κs. search needs) (λ c. search needs)
     (λ c. sym (length-take-le _ _ (omega (arith, length-put (c .before .before .before .put-number .ensures)))))
-    (λ c κs. search needs)
-    (λ c. search needs)
+    (λ c κs. search needs) (λ c. search needs)
     (λ c. search needs))

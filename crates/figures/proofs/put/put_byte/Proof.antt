@@ -13,9 +13,7 @@ pub put-byte-spec : {M : Type 1} → statement M
 put-byte-spec =
     tie.close
     (tie.spec
-    (λ c. search needs)
-    (λ c. search needs)
-    (λ c. search needs)
+    (λ c. search needs) (λ c. search needs) (λ c. search needs)
     (λ c. record { next = unfold after in omega arith; text = unfold splice in refl })
     (λ c.
     let a = c .before .args in

@@ -10,13 +10,7 @@ pub put-field-spec : {M : Type 1} → statement M
 put-field-spec =
     tie.close
     (tie.spec
-    (λ c. search needs)
-    (λ c κs. search needs)
-    (λ c. search needs)
-    (λ c κs. search needs)
-    (λ c. search needs)
-    (λ c. search needs)
-    (λ c. search needs)
+    (λ c. search needs) (λ c κs. search needs) (λ c. search needs) (λ c κs. search needs) (λ c. search needs) (λ c. search needs) (λ c. search needs)
     (λ c. unfold fieldText in rw (c .before .before .before .before .before .f .given .1) (c .before .before .put-number .ensures))
     (λ c. search needs)
     (λ c. unfold fieldText in rw (c .before .before .before .before .enum-told .given .1) (c .before .before .put-slashes .ensures))

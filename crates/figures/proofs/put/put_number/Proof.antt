@@ -11,7 +11,6 @@ pub put-number-spec : {M : Type 1} → statement M
 put-number-spec =
     tie.close
     (tie.spec
-    (λ c κs. search needs)
-    (λ c. search needs)
+    (λ c κs. search needs) (λ c. search needs)
     (λ c. unfold numberText in rw (le-leb _ _ (c .before .before .before .before .if1 .taken)) (c .before .before .put-figures .ensures))
     (λ c. unfold numberText in rw (lt-leb _ _ (c .if1 .left)) (put-none _ _)))

@@ -23,8 +23,7 @@ put-slashes-spec =
     (tie.spec
     (λ c. search needs)
     (λ c. sym (ap length (first _ 5 47 (c .before .before .if1 .taken)) ∙ length-replicate _ 47))
-    (λ c κs. search needs)
-    (λ c. search needs)
+    (λ c κs. search needs) (λ c. search needs)
     (λ c.
     let fits = c .before .before .before .before .before .if1 .taken in
     unfold slashes in rw (le-leb _ _ fits) (rw (first _ 5 47 fits) at (c .before .before .put-text .ensures)))

@@ -28,10 +28,7 @@ put-text-spec =
     tie.close
     (tie.spec Inv μ
     (λ c. (search needs, put-none _ _))
-    (λ c. search needs)
-    (λ c κs. search needs)
-    (λ c. search needs)
-    (λ c. search needs)
+    (λ c. search needs) (λ c κs. search needs) (λ c. search needs) (λ c. search needs)
     again
     (λ c. length-put (c .before .loop .inv .1))
     (λ c.

@@ -13,7 +13,7 @@ use Rattle.places.proofs.Going.{going}
 use Rattle.places.proofs.Loop.{turn-room, goes-on, reads-over, reads-on, reads-bad, reads-halt, reads-fault}
 use Rattle.metar_row.specs.Row.{row, stopWords}
 use Rattle.metar.specs.Read.{behindName, answer}
-use Rattle.metar.proofs.Steps.{row-few, told-good, told-bad}
+use Rattle.metar.proofs.Steps.{row-few, said-good, said-bad}
 use Rattle.metar.proofs.read.read_from.Statement.{statement}
 use Rattle.metar.proofs.read.read_from.Tie as tie
 
@@ -34,32 +34,21 @@ read-from-spec =
     (tie.spec Inv μ
     (λ c κs. search needs)
     (λ c. unfold behindName goes-on going in rw (c .blank-metar .ensures))
-    (λ c κs. search needs)
-    (λ c. search needs)
-    (λ c. search needs)
-    (λ c κs. search needs)
+    (λ c κs. search needs) (λ c. search needs) (λ c. search needs) (λ c κs. search needs)
     (λ c. c .finish .ensures ∙ sym (c .before .before .before .before .before .loop .inv ∙ reads-over answer row stopWords _ _ _ _ _ (when-end _ _ _ (sym (c .before .enum-told .given .1) ∙ c .before .before .before .next-group .ensures))))
-    (λ c κs. search needs)
-    (λ c κs. search needs)
-    (λ c. search needs)
-    (λ c κs. search needs)
+    (λ c κs. search needs) (λ c κs. search needs) (λ c. search needs) (λ c κs. search needs)
     (λ c. c .close .ensures ∙ sym (c .before .before .before .before .before .before .before .before .before .before .loop .inv ∙ reads-halt answer row stopWords _ _ _ _ _ (follows (c .before .before .before .before .before)) (c .before .before .before .before .part .ensures) (c .before .before .before .decide .ensures) (c .before .enum-told2 .given .1)))
-    (λ c. search needs)
-    (λ c κs. search needs)
+    (λ c. search needs) (λ c κs. search needs)
     (λ c. c .refuse .ensures ∙ sym (c .before .before .before .before .before .before .before .before .before .before .before .loop .inv ∙ reads-fault answer row stopWords _ _ _ _ _ (follows (c .before .before .before .before .before .before)) (c .before .before .before .before .before .part .ensures) (c .before .before .before .before .decide .ensures) (c .before .before .turn .given .1)))
-    (λ c. search needs)
-    (λ c κs. search needs)
-    (λ c. search needs)
-    (λ c κs. search needs)
+    (λ c. search needs) (λ c κs. search needs) (λ c. search needs) (λ c κs. search needs)
     (λ c.
     c .refuse2 .ensures
-    ∙ sym (c .before .before .before .before .before .before .before .before .before .before .before .before .before .before .before .loop .inv ∙ reads-bad answer row stopWords _ _ _ _ _ (follows (c .before .before .before .before .before .before .before .before .before .before)) (c .before .before .before .before .before .before .before .before .before .part .ensures) (c .before .before .before .before .before .before .before .before .decide .ensures) (c .before .before .before .before .before .before .turn2 .given .1) (told-bad _ _ (c .before .before .before .before .read-at .ensures) (c .before .before .judged .given .1))))
-    (λ c. search needs)
-    (λ c κs. search needs)
-    (λ c. omega (arith, turn-room row (hasAny stopWords) _ _ _ 4 row-few (c .before .before .before .before .before .before .before .before .decide .ensures) (c .before .before .before .before .before .before .turn2 .given .1)))
-    (λ c. omega (arith, follows (c .before .before .before .before .before .before .before .before .before .before)))
+    ∙ sym (c .before .before .before .before .before .before .before .before .before .before .before .before .before .before .before .loop .inv ∙ reads-bad answer row stopWords _ _ _ _ _ (follows (c .before .before .before .before .before .before .before .before .before .before)) (c .before .before .before .before .before .before .before .before .before .part .ensures) (c .before .before .before .before .before .before .before .before .decide .ensures) (c .before .before .before .before .before .before .turn2 .given .1) (said-bad _ _ _ _ (c .before .before .before .before .say-at .ensures) (c .before .before .said .given .1))))
+    (λ c κs. search needs) (λ c κs. search needs)
+    (λ c. omega (arith, turn-room row (hasAny stopWords) _ _ _ 4 row-few (c .before .before .before .before .before .before .before .decide .ensures) (c .before .before .before .before .before .turn2 .given .1)))
+    (λ c. omega (arith, follows (c .before .before .before .before .before .before .before .before .before)))
     (λ c.
-    c .before .before .before .before .before .before .before .before .before .before .before .before .before .before .before .loop .inv
-    ∙ reads-on answer row stopWords _ _ _ _ _ (follows (c .before .before .before .before .before .before .before .before .before .before)) (c .before .before .before .before .before .before .before .before .before .part .ensures) (c .before .before .before .before .before .before .before .before .decide .ensures) (c .before .before .before .before .before .before .turn2 .given .1) (told-good _ _ (c .before .before .before .before .read-at .ensures) (c .before .before .enum-told3 .given .1)) (c .go-past .ensures))
+    c .before .before .before .before .before .before .before .before .before .before .before .before .before .before .loop .inv
+    ∙ reads-on answer row stopWords _ _ _ _ _ (follows (c .before .before .before .before .before .before .before .before .before)) (c .before .before .before .before .before .before .before .before .part .ensures) (c .before .before .before .before .before .before .before .decide .ensures) (c .before .before .before .before .before .turn2 .given .1) (said-good _ _ _ _ (c .before .before .before .say-at .result) (c .before .before .before .say-at .ensures) (c .before .before .match3 .keys2) (c .before .with-said .ensures)) (c .go-past .ensures))
     (λ c κs. search needs)
     (λ c. c .finish2 .ensures ∙ sym (c .before .before .loop .inv ∙ reads-over answer row stopWords _ _ _ _ _ (from-end _ _ (c .before .loop-test .left)))))

@@ -17,6 +17,5 @@ decide-spec =
     (λ c. turn-past row (hasAny stopWords) _ _ _ (rw row-length (c .if1 .taken)))
     (λ c κs. search needs)
     (λ c. turn-halts row (hasAny stopWords) _ _ _ (rw row-length (omega (arith, c .before .before .if1 .left))) (sym (c .before .is-stop-word .ensures) ∙ c .if2 .taken))
-    (λ c κs. search needs)
-    (λ c κs. search needs)
+    (λ c κs. search needs) (λ c κs. search needs)
     (λ c. turn-found row (hasAny stopWords) _ _ _ (rw row-length (omega (arith, c .before .before .before .before .if1 .left))) (sym (c .before .before .before .is-stop-word .ensures) ∙ c .before .before .if2 .left) (c .before .find .ensures) (c .turn-by .ensures)))

@@ -8,7 +8,5 @@ pub judge-head-spec : {M : Type 1} → statement M
 judge-head-spec =
     tie.close
     (tie.spec
-    (λ c κs. tt)
-    (λ c κs. tt)
-    (λ c κs. tt)
+    (λ c κs. tt) (λ c κs. tt) (λ c κs. tt)
     (λ c. unfold judgeHead in rw (c .and-then .ensures, c .before .judge-time .ensures, c .before .before .judge-station .ensures)))

@@ -9,4 +9,4 @@ judge-rest-spec =
     (tie.spec
     (λ c κs. tt)
     (λ c. rw (c .if1 .taken))
-    (λ c. rw (c .before .if1 .left, c .judge-body .ensures)))
+    (λ c. rw (c .before .if1 .left, c .judge-observation .ensures)))

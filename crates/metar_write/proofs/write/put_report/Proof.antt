@@ -12,7 +12,7 @@ all c =
     (then
     (write-groups _ _ (c .before .before .before .before .before .before .before .before .before .before .before .before .before .before .before .before .before .before .before .before .before .before .put-head .ensures)
     (write-groups _ _ (c .before .before .before .before .before .before .before .before .before .before .before .before .before .before .before .before .before .before .put-seen .ensures)
-    (write-groups _ _ (c .before .before .before .before .before .before .before .before .before .before .before .before .before .before .put-weathers .ensures)
+    (write-groups _ _ (c .before .before .before .before .before .before .before .before .before .before .before .before .before .before .put-forecast .ensures)
     (write-groups _ _ (c .before .before .before .before .before .before .before .before .before .before .put-sky .ensures) (c .before .before .before .before .before .before .put-last .ensures)))))
     (c .before .before .close-report .ensures))
 
@@ -20,11 +20,6 @@ pub put-report-spec : {M : Type 1} → statement M
 put-report-spec =
     tie.close
     (tie.spec
-    (λ c κs. tt)
-    (λ c κs. tt)
-    (λ c κs. tt)
-    (λ c κs. tt)
-    (λ c κs. tt)
-    (λ c κs. tt)
+    (λ c κs. tt) (λ c κs. tt) (λ c κs. tt) (λ c κs. tt) (λ c κs. tt) (λ c κs. tt)
     (λ c. length-put (all c))
     all)

@@ -18,12 +18,13 @@ use Rattle.metar_write.proofs.write.write_fine.Tie as tie
 -- an array's length is part of its type
 arrays : (c : tie.Start) → MetarArrays (c .args .r)
 arrays c =
+    let body = c .good .0 .1 .1 .1 .1 .1 .1 .1 .1 .0 .1 .1 .1 .1 in
+    let runways = c .good .0 .1 .1 .1 .1 .1 .1 .1 .1 .1 .1 in
     record {
       letters = search needs;
-      runways = simp length-map at (c .good .0 .1 .1 .1 .1 .1 .1 .1 .1 .1 .1 .1 .0 .1 .1 .0 .1 .0 .1);
-      weathers = simp length-map at (c .good .0 .1 .1 .1 .1 .1 .1 .1 .1 .1 .1 .1 .1 .0 .1 .1 .0 .1 .0 .1);
-      layers = simp length-map at (c .good .0 .1 .1 .1 .1 .1 .1 .1 .1 .1 .1 .1 .1 .1 .0 .1 .1 .1 .0 .1 .0 .1);
-      recents = simp length-map at (c .good .0 .1 .1 .1 .1 .1 .1 .1 .1 .1 .1 .1 .1 .1 .1 .1 .1 .0 .1 .1 .0 .1 .0 .1);
+      body = record { weathers = simp length-map at (body .0 .1 .1 .0 .1 .0 .1); layers = simp length-map at (body .1 .1 .0 .1 .1 .1 .0 .1 .0 .1) };
+      runways = simp length-map at (runways .0 .1 .1 .0 .1 .0 .1);
+      recents = simp length-map at (runways .1 .1 .1 .0 .1 .1 .0 .1 .0 .1);
     }
 
 sizes : (c : tie.Start) → Sizes 256 (groupsAt row (c .args .r))
@@ -36,12 +37,10 @@ pub write-fine-spec : {M : Type 1} → statement M
 write-fine-spec =
     tie.close
     (tie.spec
-    (λ c. search needs)
-    (λ c κs. tt)
+    (λ c. search needs) (λ c κs. tt)
     (λ c. let d = c .before .before .before .before in report-within (d .args .r) (sizes d) (short d) (c .before .put-report .ensures))
     (λ c. let d = c .before .before .before .before .before in sym (length-take-le _ _ (report-within (d .args .r) (sizes d) (short d) (c .before .before .put-report .ensures))))
-    (λ c κs. tt)
-    (λ c. search needs)
+    (λ c κs. tt) (λ c. search needs)
     (λ c.
     let d = c .before .before .before .before .before .before .before .before .before in
     written-fine (d .args .r) (d .args .out .now) (d .pre) (report-text (d .args .r) (sizes d) (short d) (c .before .before .before .before .before .before .put-report .ensures))

@@ -5,10 +5,7 @@ use Rattle.record.proofs.blank_aerodrome.blank_change.Statement.{statem
 use Rattle.record.proofs.blank_aerodrome.blank_change.Tie as tie
 
 returns : tie.Need-returns
-returns c = rw (c .before .before .before .blank-period .ensures, c .before .before .blank-wind .ensures, c .before .blank-weathers .ensures, c .blank-sky .ensures)
+returns c = rw (c .blank-body .ensures, c .before .blank-period .ensures)
 
 pub blank-change-spec : {M : Type 1} → statement M
-blank-change-spec =
-    tie.close
-    (tie.spec
-    (λ c κs. search needs) (λ c κs. search needs) (λ c κs. search needs) (λ c κs. search needs) returns)
+blank-change-spec = tie.close (tie.spec (λ c κs. search needs) (λ c κs. search needs) returns)

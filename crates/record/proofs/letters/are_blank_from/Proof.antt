@@ -22,9 +22,7 @@ are-blank-from-spec =
     tie.close
     (tie.spec Inv μ
     (λ c. refl)
-    (λ c. search needs)
-    (λ c. search needs)
-    (λ c. search needs)
+    (λ c. search needs) (λ c. search needs) (λ c. search needs)
     (λ c.
     let d = c .before .before .before in
     d .loop .inv ∙ every-next (λ b. eqb b 0) (d .before .args .letters .now) (d .loop .i) 0 (search needs) (eq-eqb _ 0 (c .if1 .taken)))

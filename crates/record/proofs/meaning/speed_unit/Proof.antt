@@ -8,8 +8,7 @@ pub speed-unit-spec : {M : Type 1} → statement M
 speed-unit-spec =
     tie.close
     (tie.spec
-    (λ c. search needs)
-    (λ c. search needs)
+    (λ c. search needs) (λ c. search needs)
     (λ c. rw (c .before .before .iw .given .1, c .if1 .taken))
     (λ c. search needs)
     (λ c. rw (c .before .before .before .iw .given .1, c .before .if1 .left, c .if2 .taken))

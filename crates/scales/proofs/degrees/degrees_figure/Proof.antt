@@ -26,10 +26,7 @@ pub degrees-figure-spec : {M : Type 1} → statement M
 degrees-figure-spec =
     tie.close
     (tie.spec
-    (λ c κs. search needs)
-    (λ c κs. search needs)
-    (λ c. search needs)
-    (λ c. search needs)
+    (λ c κs. search needs) (λ c κs. search needs) (λ c. search needs) (λ c. search needs)
     (λ c.
     let f = c .before .before .before .before .fits .tenths in
     below-zero _ _ (size f (c .before .before .before .magnitude .ensures)) (sign f (c .before .before .is-negative .ensures) (c .before .if1 .taken)) (omega arith))

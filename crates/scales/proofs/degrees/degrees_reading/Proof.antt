@@ -11,8 +11,7 @@ pub degrees-reading-spec : {M : Type 1} → statement M
 degrees-reading-spec =
     tie.close
     (tie.spec
-    (λ c. search needs)
-    (λ c κs. search needs)
+    (λ c. search needs) (λ c κs. search needs)
     (λ c. too-great _ _ (omega arith))
     (λ c. minus-zero _ _ (omega arith) (c .if2 .taken))
     (λ c. c .tenths-of .ensures ∙ whole-read _ _ (omega arith) (c .before .if2 .left)))

@@ -11,8 +11,7 @@ pub signed-reading-spec : {M : Type 1} → statement M
 signed-reading-spec =
     tie.close
     (tie.spec
-    (λ c κs. search needs)
-    (λ c κs. search needs)
+    (λ c κs. search needs) (λ c κs. search needs)
     (λ c. many-figures _ _ (omega arith))
     (λ c. c .tenths-of .ensures ∙ plus-read _ _ (c .before .if2 .taken) (omega arith))
     (λ c. minus-none _ _ (c .before .if3 .taken) (c .if4 .taken))

@@ -34,8 +34,6 @@ pub tenths-of-spec : {M : Type 1} → statement M
 tenths-of-spec =
     tie.close
     (tie.spec
-    (λ c κs. search needs)
-    (λ c. search needs)
-    (λ c. search needs)
+    (λ c κs. search needs) (λ c. search needs) (λ c. search needs)
     (λ c. is _ _ (c .before .before .before .before .pre) (c .before .before .before .signed-of .ensures) _ (c .before .t .given .1))
     (λ c. never _ _ (c .before .before .before .pre) (c .before .before .signed-of .ensures) (c .enum-told .given .1)))

@@ -48,8 +48,7 @@ pub cloud-reading-spec : {M : Type 1} → statement M
 cloud-reading-spec =
     tie.close
     (tie.spec
-    (λ c. search needs)
-    (λ c. search needs)
+    (λ c. search needs) (λ c. search needs)
     (λ c. by-30 _ (omega arith))
     (λ c. by-300 _ (omega arith) (omega arith) (c .if3 .taken))
     (λ c. unused _ (omega arith) (λ e. omega arith) (inl (c .if3 .left)))

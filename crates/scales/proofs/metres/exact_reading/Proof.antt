@@ -64,9 +64,7 @@ pub exact-reading-spec : {M : Type 1} → statement M
 exact-reading-spec =
     tie.close
     (tie.spec
-    (λ c κs. search needs)
-    (λ c κs. search needs)
-    (λ c κs. search needs)
+    (λ c κs. search needs) (λ c κs. search needs) (λ c κs. search needs)
     (λ c. unused _ (inl (omega arith)))
     (λ c. c .multiple .ensures ∙ by-25 _ (omega arith) (omega arith))
     (λ c. c .multiple2 .ensures ∙ by-50 _ (omega arith) (omega arith))

@@ -55,8 +55,7 @@ pub land-figure-spec : {M : Type 1} → statement M
 land-figure-spec =
     tie.close
     (tie.spec
-    (λ c. search needs)
-    (λ c. search needs)
+    (λ c. search needs) (λ c. search needs)
     (λ c. by-100 _ (omega arith))
     (λ c. fifty _ (omega arith) (omega arith))
     (λ c. by-1000 _ (omega arith) (omega arith))

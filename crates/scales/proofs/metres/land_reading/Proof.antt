@@ -60,11 +60,7 @@ pub land-reading-spec : {M : Type 1} → statement M
 land-reading-spec =
     tie.close
     (tie.spec
-    (λ c. search needs)
-    (λ c. search needs)
-    (λ c. search needs)
-    (λ c. search needs)
-    (λ c. search needs)
+    (λ c. search needs) (λ c. search needs) (λ c. search needs) (λ c. search needs) (λ c. search needs)
     (λ c. by-100 _ (omega arith))
     (λ c. unused _ (omega arith) (inl (omega arith)))
     (λ c. by-1000 _ (omega arith) (omega arith))

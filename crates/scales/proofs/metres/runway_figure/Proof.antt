@@ -54,9 +54,7 @@ pub runway-figure-spec : {M : Type 1} → statement M
 runway-figure-spec =
     tie.close
     (tie.spec
-    (λ c. search needs)
-    (λ c. search needs)
-    (λ c. search needs)
+    (λ c. search needs) (λ c. search needs) (λ c. search needs)
     (λ c. below _ (omega arith))
     (λ c. by-25 _ (omega arith) (omega arith))
     (λ c. by-50 _ (omega arith) (omega arith))

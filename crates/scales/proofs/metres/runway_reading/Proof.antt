@@ -32,10 +32,7 @@ pub runway-reading-spec : {M : Type 1} → statement M
 runway-reading-spec =
     tie.close
     (tie.spec
-    (λ c. search needs)
-    (λ c. search needs)
-    (λ c κs. search needs)
-    (λ c. search needs)
+    (λ c. search needs) (λ c. search needs) (λ c κs. search needs) (λ c. search needs)
     (λ c. rw (c .before .before .range .given .1) (below _ (c .if1 .taken)))
     (λ c. rw (c .before .before .range .given .1) (not-below _ (c .if1 .left)))
     (λ c. rw (c .before .before .range2 .given .1) (c .exact-reading .ensures))

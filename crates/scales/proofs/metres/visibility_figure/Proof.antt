@@ -48,9 +48,7 @@ pub visibility-figure-spec : {M : Type 1} → statement M
 visibility-figure-spec =
     tie.close
     (tie.spec
-    (λ c. search needs)
-    (λ c. search needs)
-    (λ c. search needs)
+    (λ c. search needs) (λ c. search needs) (λ c. search needs)
     (λ c. by-50 _ (omega arith))
     (λ c. by-100 _ (omega arith) (omega arith))
     (λ c. by-1000 _ (omega arith) (omega arith))

@@ -68,9 +68,7 @@ pub visibility-reading-spec : {M : Type 1} → statement M
 visibility-reading-spec =
     tie.close
     (tie.spec
-    (λ c κs. search needs)
-    (λ c κs. search needs)
-    (λ c κs. search needs)
+    (λ c κs. search needs) (λ c κs. search needs) (λ c κs. search needs)
     (λ c. c .multiple .ensures ∙ by-50 _ (omega arith))
     (λ c. c .multiple2 .ensures ∙ by-100 _ (omega arith) (omega arith))
     (λ c. c .multiple3 .ensures ∙ by-1000 _ (omega arith) (omega arith))

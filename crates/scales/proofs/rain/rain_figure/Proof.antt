@@ -11,10 +11,7 @@ pub rain-figure-spec : {M : Type 1} → statement M
 rain-figure-spec =
     tie.close
     (tie.spec
-    (λ c. search needs)
-    (λ c. search needs)
-    (λ c. search needs)
-    (λ c. search needs)
+    (λ c. search needs) (λ c. search needs) (λ c. search needs) (λ c. search needs)
     (λ c. rw (c .enum-told .given .1) trace-written)
     (λ c. rw (c .before .before .rain .given .1) (none-written _ (inl (c .if1 .taken))))
     (λ c. rw (c .before .before .before .rain .given .1) (tenths-written _ (omega arith) (omega arith)))

@@ -11,8 +11,7 @@ pub rain-reading-spec : {M : Type 1} → statement M
 rain-reading-spec =
     tie.close
     (tie.spec
-    (λ c. search needs)
-    (λ c. search needs)
+    (λ c. search needs) (λ c. search needs)
     (λ c. none-read _ (inl (c .if1 .taken)))
     (λ c. whole-read _ (omega arith) (omega arith))
     (λ c. trace-read _ (c .if3 .taken))

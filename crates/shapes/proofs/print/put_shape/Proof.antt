@@ -54,25 +54,13 @@ put-shape-spec =
     tie.close
     (tie.spec Inv μ
     (λ c. (omega arith, omega arith, refl, unfold printOf in λ r e p. p))
-    (λ c. search needs)
-    (λ c. search needs)
-    (λ c. search needs)
-    (λ c κs. search needs)
-    (λ c. search needs)
-    (λ c. search needs)
-    (λ c. search needs)
-    (λ c. search needs)
-    (λ c. search needs)
-    (λ c. search needs)
-    (λ c κs. search needs)
-    (λ c κs. search needs)
+    (λ c. search needs) (λ c. search needs) (λ c. search needs) (λ c κs. search needs) (λ c. search needs) (λ c. search needs) (λ c. search needs)
+    (λ c. search needs) (λ c. search needs) (λ c. search needs) (λ c κs. search needs) (λ c κs. search needs)
     (λ c. length-put (put (c .before .before .before)) ∙ c .before .before .before .before .before .before .before .before .before .before .before .loop .inv .2)
     (λ c.
     c .before .before .before .before .before .before .before .before .before .before .before .loop .inv .3 _ _
     (rw (now-value (c .before .before .before), print-last _ _ _ (end (c .before .before .before .before .before .before .before .before)) (omega arith) (value (c .before .before .before)) (rest (c .before .before .before)) (omega arith)) (put (c .before .before .before))))
-    (λ c. search needs)
-    (λ c. search needs)
-    (λ c. search needs)
+    (λ c. search needs) (λ c. search needs) (λ c. search needs)
     (λ c. (
       omega arith,
       omega arith,

@@ -21,10 +21,7 @@ pub run-length-spec : {M : Type 1} → statement M
 run-length-spec =
     tie.close
     (tie.spec Inv μ
-    (λ c. search needs)
-    (λ c. search needs)
-    (λ c. search needs)
-    (λ c. search needs)
+    (λ c. search needs) (λ c. search needs) (λ c. search needs) (λ c. search needs)
     (λ c. (omega arith, lead-on _ _ _ (c .before .before .before .loop .inv .1) (omega arith) (eq-eqb _ _ (c .if1 .taken))))
     (λ c. (lead-stop _ _ _ (c .before .before .before .loop .inv .1) (omega arith) (ne-eqb _ _ (c .if1 .left)), omega arith))
     (λ c. (lead-end _ _ _ (c .before .loop .inv .1) (omega arith), omega arith)))

@@ -22,10 +22,8 @@ pub up-to-spec : {M : Type 1} → statement M
 up-to-spec =
     tie.close
     (tie.spec Inv μ
-    (λ c. search needs)
-    (λ c. search needs)
+    (λ c. search needs) (λ c. search needs)
     (λ c. (lead-stop _ _ _ (c .before .before .before .loop .inv .1) (omega arith) (ap not (eq-eqb _ _ (c .if1 .taken))), omega arith))
-    (λ c. search needs)
-    (λ c. search needs)
+    (λ c. search needs) (λ c. search needs)
     (λ c. (omega arith, lead-on _ _ _ (c .before .before .before .loop .inv .1) (omega arith) (ap not (ne-eqb _ _ (c .if1 .left)))))
     (λ c. (lead-end _ _ _ (c .before .loop .inv .1) (omega arith), omega arith)))

@@ -33,11 +33,7 @@ begins-with-spec =
     (tie.spec Inv μ
     (λ c. search needs)
     (λ c. begin-spent _ _ (c .before .before .loop .i) (c .before .before .loop .inv .2) (omega arith) (omega arith))
-    (λ c. search needs)
-    (λ c. search needs)
-    (λ c κs. search needs)
-    (λ c. search needs)
-    (λ c. search needs)
+    (λ c. search needs) (λ c. search needs) (λ c κs. search needs) (λ c. search needs) (λ c. search needs)
     (λ c. (omega arith, omega arith, rw (← c .before .fits-at .ensures, c .if2 .taken) at (turn (c .before .before .before .before))))
     (λ c. rw (← c .before .fits-at .ensures, c .if2 .left) at (turn (c .before .before .before .before)))
     (λ c. begin-end _ _ (c .before .loop .i) (c .before .loop .inv .2) (omega arith)))

@@ -10,9 +10,7 @@ pub figures-or-spec : {M : Type 1} → statement M
 figures-or-spec =
     tie.close
     (tie.spec
-    (λ c κs. search needs)
-    (λ c κs. search needs)
-    (λ c κs. search needs)
+    (λ c κs. search needs) (λ c κs. search needs) (λ c κs. search needs)
     (λ c.
     let a = c .before .before .before .before .before .before .args in
     omega (arith, begins-within (a .a .now) (a .g .now) (a .at) (rw (← c .before .before .before .rest-from .ensures, ← c .before .before .begins-with .ensures) (c .before .if1 .taken))))

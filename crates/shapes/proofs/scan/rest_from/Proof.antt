@@ -12,11 +12,7 @@ pub rest-from-spec : {M : Type 1} → statement M
 rest-from-spec =
     tie.close
     (tie.spec
-    (λ c. search needs)
-    (λ c. search needs)
-    (λ c. search needs)
+    (λ c. search needs) (λ c. search needs) (λ c. search needs)
     (λ c. all-from (c .before .before .args .g .now) (c .before .before .args .at))
-    (λ c. search needs)
-    (λ c. search needs)
-    (λ c. search needs)
+    (λ c. search needs) (λ c. search needs) (λ c. search needs)
     (λ c. rw (drop-length, take-nil) (sym (drop-of-length-le (c .before .before .args .g .now) {i = c .before .before .args .at} (c .before .if1 .left)))))

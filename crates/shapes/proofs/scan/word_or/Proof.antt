@@ -10,8 +10,7 @@ pub word-or-spec : {M : Type 1} → statement M
 word-or-spec =
     tie.close
     (tie.spec
-    (λ c κs. search needs)
-    (λ c κs. search needs)
+    (λ c κs. search needs) (λ c κs. search needs)
     (λ c.
     let a = c .before .before .before .before .before .args in
     omega (arith, begins-within (a .a .now) (a .g .now) (a .at) (rw (← c .before .before .rest-from .ensures, ← c .before .begins-with .ensures) (c .if1 .taken))))

@@ -7,7 +7,5 @@ pub judge-cover-spec : {M : Type 1} → statement M
 judge-cover-spec =
     tie.close
     (tie.spec
-    (λ c κs. tt)
-    (λ c κs. tt)
-    (λ c κs. tt)
+    (λ c κs. tt) (λ c κs. tt) (λ c κs. tt)
     (λ c. rw (c .judge .ensures, c .before .before .cover-fits .ensures, c .before .is-layers .ensures)))

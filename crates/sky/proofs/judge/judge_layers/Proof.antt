@@ -3,7 +3,7 @@
 use mathlib.Core.Logic.{inl, inr}
 use Prim.Native.Nat.{_≤_, _-_}
 use lib.ListN.{getD, take, drop}
-use Rattle.record.specs.Metar.{blankLayer}
+use Rattle.record.specs.Body.{blankLayer}
 use Rattle.sky.proofs.Readings.{next-of, past-all}
 use Rattle.sky.proofs.Judging.{Going, start, finish, halt, on}
 use borrow.Author.Needs.{needs}
@@ -22,20 +22,13 @@ judge-layers-spec =
     (tie.spec Inv μ
     (λ c. (search needs, start _ _ _))
     (λ c. finish _ _ (rw (past-all (c .before .before .before .args .t3) (c .before .before .before .args .count) (c .before .before .loop .i) (inl (c .if1 .taken))) at (c .before .before .loop .inv .1)))
-    (λ c. search needs)
-    (λ c. search needs)
-    (λ c κs. tt)
-    (λ c κs. tt)
-    (λ c. search needs)
+    (λ c. search needs) (λ c. search needs) (λ c κs. tt) (λ c κs. tt) (λ c. search needs)
     (λ c.
     let d = c .before .before .before .before .before .before .before .before in
     let e = d .before .args in
     let judgement = rw (c .before .before .before .before .written-height .ensures) at (c .before .before .before .judge-layer .ensures) in
     halt (e .forecast) (e .beside) (getD (e .t3) (d .loop .i) blankLayer) (rw (next-of (e .t3) (e .count) (d .loop .i) blankLayer (search needs) (search needs)) at (d .loop .inv .1)) judgement (c .before .judged .given .1))
-    (λ c. search needs)
-    (λ c κs. tt)
-    (λ c. search needs)
-    (λ c. search needs)
+    (λ c. search needs) (λ c κs. tt) (λ c. search needs) (λ c. search needs)
     (λ c.
     let d = c .before .before .before .before .before .before .before .before in
     let e = d .before .args in

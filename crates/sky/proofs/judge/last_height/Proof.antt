@@ -8,7 +8,5 @@ pub last-height-spec : {M : Type 1} → statement M
 last-height-spec =
     tie.close
     (tie.spec
-    (λ c. search needs)
-    (λ c. search needs)
-    (λ c. search needs)
+    (λ c. search needs) (λ c. search needs) (λ c. search needs)
     (λ c. rw (c .before .h .given .1)))

@@ -11,13 +11,7 @@ pub written-height-spec : {M : Type 1} → statement M
 written-height-spec =
     tie.close
     (tie.spec
-    (λ c. search needs)
-    (λ c. search needs)
-    (λ c κs. tt)
-    (λ c κs. tt)
-    (λ c. search needs)
-    (λ c. search needs)
-    (λ c. search needs)
+    (λ c. search needs) (λ c. search needs) (λ c κs. tt) (λ c κs. tt) (λ c. search needs) (λ c. search needs) (λ c. search needs)
     (λ c.
     let r = c .before .before .before in
     let h = r .before .before .before in

@@ -8,13 +8,7 @@ pub height-of-spec : {M : Type 1} → statement M
 height-of-spec =
     tie.close
     (tie.spec
-    (λ c. search needs)
-    (λ c κs. tt)
-    (λ c. search needs)
-    (λ c. search needs)
-    (λ c. search needs)
-    (λ c. search needs)
-    (λ c. search needs)
+    (λ c. search needs) (λ c κs. tt) (λ c. search needs) (λ c. search needs) (λ c. search needs) (λ c. search needs) (λ c. search needs)
     (λ c. rw (c .before .before .before .before .before .f .given .1, ← c .before .before .before .cloud-reading .ensures, c .before .r .given .1))
     (λ c. rw (c .before .before .before .before .f .given .1, ← c .before .before .cloud-reading .ensures, c .enum-told .given .1))
     (λ c. rw (c .before .enum-told2 .given .1, c .if1 .taken))

@@ -10,11 +10,7 @@ pub layer-by-spec : {M : Type 1} → statement M
 layer-by-spec =
     tie.close
     (tie.spec
-    (λ c κs. tt)
-    (λ c κs. tt)
-    (λ c κs. tt)
-    (λ c. search needs)
-    (λ c. search needs)
+    (λ c κs. tt) (λ c κs. tt) (λ c κs. tt) (λ c. search needs) (λ c. search needs)
     (λ c.
     let d = c .before .before .before in
     let e = d .before .before .before .args in

@@ -9,14 +9,7 @@ pub read-alone-spec : {M : Type 1} → statement M
 read-alone-spec =
     tie.close
     (tie.spec
-    (λ c. search needs)
-    (λ c κs. tt)
-    (λ c. search needs)
-    (λ c κs. tt)
-    (λ c. search needs)
-    (λ c κs. tt)
-    (λ c κs. tt)
-    (λ c κs. tt)
+    (λ c. search needs) (λ c κs. tt) (λ c. search needs) (λ c κs. tt) (λ c. search needs) (λ c κs. tt) (λ c κs. tt) (λ c κs. tt)
     (λ c. unfold readAlone in rw (← c .before .has-pattern .ensures, c .if1 .taken))
     (λ c.
     let d = c .before .before .before in

@@ -10,16 +10,16 @@ pub read-as-alone-spec : {M : Type 1} → statement M
 read-as-alone-spec =
     tie.close
     (tie.spec
-    (λ c κs. tt)
-    (λ c. search needs)
-    (λ c κs. tt)
-    (λ c. search needs)
-    (λ c κs. tt)
+    (λ c κs. tt) (λ c. search needs) (λ c. search needs)
     (λ c.
     let d = c .before .before .before .before in
     let e = d .before .before .args in
-    rw (cover-good (readAlone (e .forecast) (e .g .now)) (d .read-alone .ensures) (c .before .before .read .given .1)) (c .with-alone .ensures))
+    rw (cover-good (readAlone (e .forecast) (e .g .now)) (d .read-alone .ensures) (c .before .before .read .given .1), c .if1 .taken))
     (λ c.
     let d = c .before .before .before .before in
     let e = d .before .before .args in
-    rw (cover-bad (readAlone (e .forecast) (e .g .now)) (d .read-alone .ensures) (c .before .before .read2 .given .1)) (c .refused .ensures)))
+    rw (cover-good (readAlone (e .forecast) (e .g .now)) (d .read-alone .ensures) (c .before .before .read .given .1), c .if1 .left))
+    (λ c.
+    let d = c .before .before .before in
+    let e = d .before .before .args in
+    rw (cover-bad (readAlone (e .forecast) (e .g .now)) (d .read-alone .ensures) (c .before .read2 .given .1))))

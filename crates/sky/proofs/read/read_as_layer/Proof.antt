@@ -12,18 +12,13 @@ pub read-as-layer-spec : {M : Type 1} → statement M
 read-as-layer-spec =
     tie.close
     (tie.spec
-    (λ c κs. tt)
-    (λ c. search needs)
-    (λ c κs. tt)
-    (λ c. search needs)
-    (λ c κs. tt)
+    (λ c κs. tt) (λ c. search needs) (λ c κs. tt) (λ c. search needs)
     (λ c.
     let d = c .before .before .before .before in
     let vs = d .before .before .args .scanned .values in
     rw (layer-good (layerBy (d .before .before .args .forecast) (getD vs 0 blankValue) (getD vs 1 blankValue) (getD vs 2 blankValue)) (d .read-layer .ensures) (c .before .before .read .given .1))
-    (c .with-layer .ensures))
+    (c .say-layer .ensures))
     (λ c.
-    let d = c .before .before .before .before in
+    let d = c .before .before .before in
     let vs = d .before .before .args .scanned .values in
-    rw (layer-bad (layerBy (d .before .before .args .forecast) (getD vs 0 blankValue) (getD vs 1 blankValue) (getD vs 2 blankValue)) (d .read-layer .ensures) (c .before .before .read2 .given .1))
-    (c .refused .ensures)))
+    rw (layer-bad (layerBy (d .before .before .args .forecast) (getD vs 0 blankValue) (getD vs 1 blankValue) (getD vs 2 blankValue)) (d .read-layer .ensures) (c .before .read2 .given .1))))

@@ -11,8 +11,5 @@ pub read-layer-spec : {M : Type 1} → statement M
 read-layer-spec =
     tie.close
     (tie.spec
-    (λ c. search needs)
-    (λ c. search needs)
-    (λ c. search needs)
-    (λ c κs. tt)
+    (λ c. search needs) (λ c. search needs) (λ c. search needs) (λ c κs. tt)
     (λ c. c .layer-by .ensures ∙ parts-there (c .before .before .before .before .args .forecast) (c .before .before .before .before .args .t2) _ blankValue (search needs)))

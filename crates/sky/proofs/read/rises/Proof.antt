@@ -22,11 +22,7 @@ rises-spec =
     (tie.spec Inv μ
     (λ c. (search needs, refl))
     (λ c. sym (c .before .before .loop .inv .1 ∙ rises-end (c .before .before .before .args .t1) (c .before .before .before .args .k) (c .before .before .loop .i) (c .before .before .before .args .h) (inl (c .if1 .taken))))
-    (λ c. search needs)
-    (λ c. search needs)
-    (λ c κs. tt)
-    (λ c. search needs)
-    (λ c. search needs)
+    (λ c. search needs) (λ c. search needs) (λ c κs. tt) (λ c. search needs) (λ c. search needs)
     (λ c.
     let d = c .before .before .before .before .before in
     let e = d .before .args in

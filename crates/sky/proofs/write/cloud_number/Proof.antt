@@ -12,8 +12,6 @@ pub cloud-number-spec : {M : Type 1} → statement M
 cloud-number-spec =
     tie.close
     (tie.spec
-    (λ c κs. tt)
-    (λ c. search needs)
-    (λ c. search needs)
+    (λ c κs. tt) (λ c. search needs) (λ c. search needs)
     (λ c. figure-told cloud _ (sym (c .before .before .before .cloud-figure .ensures) ∙ c .before .f .given .1))
     (λ c. open-above _ (sym (c .before .before .cloud-figure .ensures) ∙ c .enum-told .given .1)))

@@ -8,8 +8,5 @@ pub height-field-spec : {M : Type 1} → statement M
 height-field-spec =
     tie.close
     (tie.spec
-    (λ c. search needs)
-    (λ c. search needs)
-    (λ c κs. tt)
-    (λ c. search needs)
+    (λ c. search needs) (λ c. search needs) (λ c κs. tt) (λ c. search needs)
     (λ c. rw (c .before .before .h .given .1, c .cloud-number .ensures)))

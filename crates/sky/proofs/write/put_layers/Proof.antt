@@ -8,7 +8,7 @@ use Rattle.figures.specs.Put.{Put}
 use Rattle.figures.proofs.Puts.{length-put}
 use Rattle.text.specs.Groups.{written}
 use Rattle.text.proofs.Writes.{write-groups}
-use Rattle.record.specs.Metar.{blankLayer}
+use Rattle.record.specs.Body.{blankLayer}
 use Rattle.elements.specs.Sky.{showLayer}
 use Rattle.sky.proofs.Writings.{write-none, show-next, show-all}
 use borrow.Author.Needs.{needs}
@@ -28,11 +28,7 @@ put-layers-spec =
     (λ c. (search needs, write-none _ _))
     (λ c. length-put (c .before .before .loop .inv .1))
     (λ c. rw (show-all (c .before .before .before .before .args .t3) (c .before .before .before .before .args .count) (c .before .before .loop .i) (inl (c .if1 .taken))) at (c .before .before .loop .inv .1))
-    (λ c. search needs)
-    (λ c. search needs)
-    (λ c κs. tt)
-    (λ c. search needs)
-    (λ c. search needs)
+    (λ c. search needs) (λ c. search needs) (λ c κs. tt) (λ c. search needs) (λ c. search needs)
     (λ c.
     let d = c .before .before .before .before .before .before .before in
     let e = d .before .before .args in (

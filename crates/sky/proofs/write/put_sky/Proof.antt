@@ -10,7 +10,5 @@ pub put-sky-spec : {M : Type 1} → statement M
 put-sky-spec =
     tie.close
     (tie.spec
-    (λ c κs. tt)
-    (λ c κs. tt)
-    (λ c. search needs)
+    (λ c κs. tt) (λ c κs. tt) (λ c. search needs)
     (λ c. unfold showSky in write-groups _ _ (c .before .before .before .before .before .before .put-cover .ensures) (c .before .before .put-layers .ensures)))

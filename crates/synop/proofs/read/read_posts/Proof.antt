@@ -39,28 +39,17 @@ read-posts-spec =
     (tie.spec Inv μ
     (λ c κs. search needs)
     (λ c. (unfold walks in refl, c .count-of .ensures))
-    (λ c κs. search needs)
-    (λ c. search needs)
-    (λ c. search needs)
-    (λ c κs. search needs)
+    (λ c κs. search needs) (λ c. search needs) (λ c. search needs) (λ c κs. search needs)
     (λ c. c .end-short .ensures ∙ sym (c .before .before .before .before .before .loop .inv .0 ∙ walks-over _ _ _ _ _ (here (c .before .before .before .before)) (when-end _ _ _ (sym (c .before .enum-told .given .1) ∙ c .before .before .before .next-group .ensures))))
-    (λ c κs. search needs)
-    (λ c κs. search needs)
-    (λ c κs. search needs)
-    (λ c κs. search needs)
-    (λ c κs. search needs)
+    (λ c κs. search needs) (λ c κs. search needs) (λ c κs. search needs) (λ c κs. search needs) (λ c κs. search needs)
     (λ c.
     (rw (c .before .synop-of .ensures) at (c .read-nil .ensures))
     ∙ sym (c .before .before .before .before .before .before .before .before .before .before .before .loop .inv .0 ∙ walks-nil _ _ _ _ _ (here (c .before .before .before .before .before .before .before .before .before .before)) (follows (c .before .before .before .before .before .before)) (c .before .before .before .before .before .part .ensures) (c .before .before .before .before .post-at .ensures) (sym (c .before .before .before .is-nil .ensures) ∙ c .before .before .if1 .taken)))
-    (λ c κs. search needs)
-    (λ c κs. search needs)
-    (λ c. search needs)
-    (λ c κs. search needs)
+    (λ c κs. search needs) (λ c κs. search needs) (λ c. search needs) (λ c κs. search needs)
     (λ c.
     c .refuse .ensures
     ∙ sym (c .before .before .before .before .before .before .before .before .before .before .before .before .before .before .before .before .before .loop .inv .0 ∙ walks-bad _ _ _ _ _ (here (c .before .before .before .before .before .before .before .before .before .before .before .before .before .before .before .before)) (follows (c .before .before .before .before .before .before .before .before .before .before .before .before)) (c .before .before .before .before .before .before .before .before .before .before .before .part .ensures) (c .before .before .before .before .before .before .before .before .before .before .post-at .ensures) (sym (c .before .before .before .before .before .before .before .before .before .is-nil .ensures) ∙ c .before .before .before .before .before .before .before .before .if1 .left) (sym (c .before .before .before .before .before .before .before .has-shape .ensures) ∙ c .before .before .before .before .before .before .if2 .taken) (c .before .before .before .before .said-by .ensures) (c .before .before .said .given .1)))
-    (λ c κs. search needs)
-    (λ c κs. search needs)
+    (λ c κs. search needs) (λ c κs. search needs)
     (λ c. omega (arith, here (c .before .before .before .before .before .before .before .before .before .before .before .before .before .before .before), few-posts (c .before .before .before .before .before .before .before .before .before .before .before .before .before .before .before .before .before .before .before .before .before .args .report .ship)))
     (λ c. omega (arith, c .before .before .before .before .before .before .before .before .before .before .before .before .before .before .before .loop-test .taken))
     (λ c. (
@@ -72,6 +61,5 @@ read-posts-spec =
     (λ c.
     c .refuse2 .ensures
     ∙ sym (c .before .before .before .before .before .before .before .before .before .before .before .before .loop .inv .0 ∙ walks-other _ _ _ _ _ (here (c .before .before .before .before .before .before .before .before .before .before .before)) (follows (c .before .before .before .before .before .before .before)) (c .before .before .before .before .before .before .part .ensures) (c .before .before .before .before .before .post-at .ensures) (sym (c .before .before .before .before .is-nil .ensures) ∙ c .before .before .before .if1 .left) (sym (c .before .before .has-shape .ensures) ∙ c .before .if2 .left)))
-    (λ c κs. search needs)
-    (λ c κs. search needs)
+    (λ c κs. search needs) (λ c κs. search needs)
     (λ c. (rw (c .before .synop-of2 .ensures) at (c .read-section .ensures)) ∙ sym (c .before .before .before .loop .inv .0 ∙ walks-past _ _ _ _ _ (rw (c .before .before .before .loop .inv .1) at (c .before .before .loop-test .left)))))

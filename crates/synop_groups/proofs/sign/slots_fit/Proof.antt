@@ -21,10 +21,7 @@ slots-fit-spec =
     tie.close
     (tie.spec Inv μ
     (λ c. (search needs, refl))
-    (λ c. search needs)
-    (λ c κs. tt)
-    (λ c. search needs)
-    (λ c. search needs)
+    (λ c. search needs) (λ c κs. tt) (λ c. search needs) (λ c. search needs)
     (λ c.
     let d = c .before .before .before .before in
     let e = d .before .before in

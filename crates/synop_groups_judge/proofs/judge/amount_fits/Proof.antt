@@ -8,7 +8,5 @@ pub amount-fits-spec : {M : Type 1} → statement M
 amount-fits-spec =
     tie.close
     (tie.spec
-    (λ c. search needs)
-    (λ c. search needs)
-    (λ c. search needs)
+    (λ c. search needs) (λ c. search needs) (λ c. search needs)
     (λ c. rw (c .before .r .given .1)))

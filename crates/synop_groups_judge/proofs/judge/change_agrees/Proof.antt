@@ -10,10 +10,7 @@ pub change-agrees-spec : {M : Type 1} → statement M
 change-agrees-spec =
     tie.close
     (tie.spec
-    (λ c. search needs)
-    (λ c. search needs)
-    (λ c κs. tt)
-    (λ c. search needs)
+    (λ c. search needs) (λ c. search needs) (λ c κs. tt) (λ c. search needs)
     (λ c.
     let back = toZ-ofZ w32 (c .before .before .c .given .0 .1 .0) (search needs) in
     rw (c .before .before .c .given .1) (rw back at (c .change-suits .ensures))))

@@ -11,8 +11,7 @@ pub change-suits-spec : {M : Type 1} → statement M
 change-suits-spec =
     tie.close
     (tie.spec
-    (λ c κs. tt)
-    (λ c κs. tt)
+    (λ c κs. tt) (λ c κs. tt)
     (λ c.
     let d = c .before .before .before in
     let back = toZ-ofZ w32 (d .args .change) (search needs) in

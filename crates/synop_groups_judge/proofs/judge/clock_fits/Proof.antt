@@ -8,7 +8,5 @@ pub clock-fits-spec : {M : Type 1} → statement M
 clock-fits-spec =
     tie.close
     (tie.spec
-    (λ c. search needs)
-    (λ c. search needs)
-    (λ c. search needs)
+    (λ c. search needs) (λ c. search needs) (λ c. search needs)
     (λ c. rw (c .before .o .given .1)))

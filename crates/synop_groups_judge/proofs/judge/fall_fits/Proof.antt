@@ -8,9 +8,5 @@ pub fall-fits-spec : {M : Type 1} → statement M
 fall-fits-spec =
     tie.close
     (tie.spec
-    (λ c. search needs)
-    (λ c. search needs)
-    (λ c κs. tt)
-    (λ c κs. tt)
-    (λ c. search needs)
+    (λ c. search needs) (λ c. search needs) (λ c κs. tt) (λ c κs. tt) (λ c. search needs)
     (λ c. rw (c .before .before .before .f .given .1, c .before .amount-fits .ensures, c .is-missing-or-between .ensures)))

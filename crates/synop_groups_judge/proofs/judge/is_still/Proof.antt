@@ -8,7 +8,5 @@ pub is-still-spec : {M : Type 1} → statement M
 is-still-spec =
     tie.close
     (tie.spec
-    (λ c. search needs)
-    (λ c. search needs)
-    (λ c. search needs)
+    (λ c. search needs) (λ c. search needs) (λ c. search needs)
     (λ c. rw (c .before .s .given .1)))

@@ -8,6 +8,5 @@ pub judge-air-spec : {M : Type 1} → statement M
 judge-air-spec =
     tie.close
     (tie.spec
-    (λ c κs. tt)
-    (λ c κs. tt)
+    (λ c κs. tt) (λ c κs. tt)
     (λ c. unfold judgeAir in rw (c .judge .ensures, c .before .tenths-fit .ensures)))

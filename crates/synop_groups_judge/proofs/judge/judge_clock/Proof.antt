@@ -8,6 +8,5 @@ pub judge-clock-spec : {M : Type 1} → statement M
 judge-clock-spec =
     tie.close
     (tie.spec
-    (λ c κs. tt)
-    (λ c κs. tt)
+    (λ c κs. tt) (λ c κs. tt)
     (λ c. unfold judgeClock in rw (c .judge .ensures, c .before .clock-fits .ensures)))

@@ -9,11 +9,7 @@ pub judge-indicators-spec : {M : Type 1} → statement M
 judge-indicators-spec =
     tie.close
     (tie.spec
-    (λ c κs. tt)
-    (λ c κs. tt)
-    (λ c κs. tt)
-    (λ c κs. tt)
-    (λ c κs. tt)
+    (λ c κs. tt) (λ c κs. tt) (λ c κs. tt) (λ c κs. tt) (λ c κs. tt)
     (λ c.
     let d = c .before .before .before in
     let e = d .before in

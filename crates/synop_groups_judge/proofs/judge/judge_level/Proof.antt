@@ -8,6 +8,5 @@ pub judge-level-spec : {M : Type 1} → statement M
 judge-level-spec =
     tie.close
     (tie.spec
-    (λ c κs. tt)
-    (λ c κs. tt)
+    (λ c κs. tt) (λ c κs. tt)
     (λ c. unfold judgeLevel in rw (c .judge .ensures, c .before .level-fits .ensures)))

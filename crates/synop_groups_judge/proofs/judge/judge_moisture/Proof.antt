@@ -8,6 +8,5 @@ pub judge-moisture-spec : {M : Type 1} → statement M
 judge-moisture-spec =
     tie.close
     (tie.spec
-    (λ c κs. tt)
-    (λ c κs. tt)
+    (λ c κs. tt) (λ c κs. tt)
     (λ c. unfold judgeMoisture in rw (c .judge .ensures, c .before .moist-fits .ensures)))

@@ -8,7 +8,5 @@ pub judge-position-spec : {M : Type 1} → statement M
 judge-position-spec =
     tie.close
     (tie.spec
-    (λ c κs. tt)
-    (λ c κs. tt)
-    (λ c κs. tt)
+    (λ c κs. tt) (λ c κs. tt) (λ c κs. tt)
     (λ c. unfold judgePosition in rw (c .judge .ensures, c .before .before .latitude-fits .ensures, c .before .longitude-fits .ensures)))

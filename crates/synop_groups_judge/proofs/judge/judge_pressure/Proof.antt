@@ -8,6 +8,5 @@ pub judge-pressure-spec : {M : Type 1} → statement M
 judge-pressure-spec =
     tie.close
     (tie.spec
-    (λ c κs. tt)
-    (λ c κs. tt)
+    (λ c κs. tt) (λ c κs. tt)
     (λ c. unfold judgePressure in rw (c .judge .ensures, c .before .is-missing-or-between .ensures)))

@@ -8,7 +8,5 @@ pub judge-rainfall-spec : {M : Type 1} → statement M
 judge-rainfall-spec =
     tie.close
     (tie.spec
-    (λ c κs. tt)
-    (λ c κs. tt)
-    (λ c κs. tt)
+    (λ c κs. tt) (λ c κs. tt) (λ c κs. tt)
     (λ c. unfold judgeRainfall in rw (c .judge .ensures, c .before .before .fall-fits .ensures, c .before .is-missing .ensures)))

@@ -9,11 +9,7 @@ pub judge-sign-spec : {M : Type 1} → statement M
 judge-sign-spec =
     tie.close
     (tie.spec
-    (λ c. search needs)
-    (λ c κs. tt)
-    (λ c κs. tt)
-    (λ c κs. tt)
-    (λ c κs. tt)
+    (λ c. search needs) (λ c κs. tt) (λ c κs. tt) (λ c κs. tt) (λ c κs. tt)
     (λ c.
     let d = c .before .before in
     unfold judgeSign in

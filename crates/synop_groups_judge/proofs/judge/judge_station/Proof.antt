@@ -8,6 +8,5 @@ pub judge-station-spec : {M : Type 1} → statement M
 judge-station-spec =
     tie.close
     (tie.spec
-    (λ c κs. tt)
-    (λ c κs. tt)
+    (λ c κs. tt) (λ c κs. tt)
     (λ c. unfold judgeStation in rw (c .judge .ensures, c .before .is-between .ensures)))

@@ -8,7 +8,5 @@ pub judge-tendency-spec : {M : Type 1} → statement M
 judge-tendency-spec =
     tie.close
     (tie.spec
-    (λ c κs. tt)
-    (λ c κs. tt)
-    (λ c κs. tt)
+    (λ c κs. tt) (λ c κs. tt) (λ c κs. tt)
     (λ c. unfold judgeTendency in rw (c .judge .ensures, c .before .before .change-fits .ensures, c .before .change-agrees .ensures)))

@@ -8,10 +8,7 @@ pub judge-wind-spec : {M : Type 1} → statement M
 judge-wind-spec =
     tie.close
     (tie.spec
-    (λ c κs. tt)
-    (λ c κs. tt)
-    (λ c κs. tt)
-    (λ c κs. tt)
+    (λ c κs. tt) (λ c κs. tt) (λ c κs. tt) (λ c κs. tt)
     (λ c.
     let d = c .before .before .before in
     unfold judgeWind in

@@ -8,9 +8,6 @@ pub level-fits-spec : {M : Type 1} → statement M
 level-fits-spec =
     tie.close
     (tie.spec
-    (λ c. search needs)
-    (λ c. search needs)
-    (λ c. search needs)
-    (λ c. search needs)
+    (λ c. search needs) (λ c. search needs) (λ c. search needs) (λ c. search needs)
     (λ c. rw (c .before .h .given .1))
     (λ c. rw (c .before .h2 .given .1)))

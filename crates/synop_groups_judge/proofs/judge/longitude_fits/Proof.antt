@@ -10,7 +10,5 @@ pub longitude-fits-spec : {M : Type 1} → statement M
 longitude-fits-spec =
     tie.close
     (tie.spec
-    (λ c. search needs)
-    (λ c. search needs)
-    (λ c. search needs)
+    (λ c. search needs) (λ c. search needs) (λ c. search needs)
     (λ c. let back = toZ-ofZ w32 (c .before .t .given .0 .0) (search needs) in rw (c .before .t .given .1, back)))

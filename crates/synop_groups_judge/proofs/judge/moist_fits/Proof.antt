@@ -10,10 +10,6 @@ pub moist-fits-spec : {M : Type 1} → statement M
 moist-fits-spec =
     tie.close
     (tie.spec
-    (λ c. search needs)
-    (λ c. search needs)
-    (λ c κs. tt)
-    (λ c. search needs)
-    (λ c. search needs)
+    (λ c. search needs) (λ c. search needs) (λ c κs. tt) (λ c. search needs) (λ c. search needs)
     (λ c. let back = toZ-ofZ w32 (c .before .before .m .given .0 .0) (search needs) in rw (c .before .before .m .given .1, c .magnitude .ensures, back))
     (λ c. rw (c .before .m2 .given .1)))

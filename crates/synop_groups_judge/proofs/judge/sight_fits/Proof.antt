@@ -8,9 +8,6 @@ pub sight-fits-spec : {M : Type 1} → statement M
 sight-fits-spec =
     tie.close
     (tie.spec
-    (λ c. search needs)
-    (λ c. search needs)
-    (λ c. search needs)
-    (λ c. search needs)
+    (λ c. search needs) (λ c. search needs) (λ c. search needs) (λ c. search needs)
     (λ c. rw (c .before .s .given .1))
     (λ c. rw (c .before .s2 .given .1)))

@@ -8,7 +8,5 @@ pub unit-fits-spec : {M : Type 1} → statement M
 unit-fits-spec =
     tie.close
     (tie.spec
-    (λ c. search needs)
-    (λ c. search needs)
-    (λ c. search needs)
+    (λ c. search needs) (λ c. search needs) (λ c. search needs)
     (λ c. rw (c .before .n .given .1)))

@@ -10,14 +10,7 @@ pub wind-fits-spec : {M : Type 1} → statement M
 wind-fits-spec =
     tie.close
     (tie.spec
-    (λ c. search needs)
-    (λ c κs. tt)
-    (λ c. search needs)
-    (λ c κs. tt)
-    (λ c. search needs)
-    (λ c κs. tt)
-    (λ c. search needs)
-    (λ c κs. tt)
+    (λ c. search needs) (λ c κs. tt) (λ c. search needs) (λ c κs. tt) (λ c. search needs) (λ c κs. tt) (λ c. search needs) (λ c κs. tt)
     (λ c. rw (c .before .enum-told .given .1) (c .is-missing .ensures ∙ fits-missing (c .before .before .before .args .s)))
     (λ c. rw (c .before .enum-told2 .given .1) (c .speed-fits .ensures ∙ fits-calm (c .before .before .before .args .s)))
     (λ c. rw (c .before .enum-told3 .given .1) (c .speed-fits2 .ensures ∙ fits-variable (c .before .before .before .args .s)))

@@ -8,9 +8,5 @@ pub base-field-spec : {M : Type 1} → statement M
 base-field-spec =
     tie.close
     (tie.spec
-    (λ c. search needs)
-    (λ c. search needs)
-    (λ c κs. tt)
-    (λ c κs. tt)
-    (λ c. search needs)
+    (λ c. search needs) (λ c. search needs) (λ c κs. tt) (λ c κs. tt) (λ c. search needs)
     (λ c. rw (c .before .before .before .base .given .1) (rw (c .before .base-figure .ensures) at (c .field-by .ensures))))

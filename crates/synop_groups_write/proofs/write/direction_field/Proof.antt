@@ -8,13 +8,6 @@ pub direction-field-spec : {M : Type 1} → statement M
 direction-field-spec =
     tie.close
     (tie.spec
-    (λ c. search needs)
-    (λ c. search needs)
-    (λ c. search needs)
-    (λ c. search needs)
-    (λ c κs. tt)
-    (λ c κs. tt)
-    (λ c. search needs)
-    (λ c. search needs)
+    (λ c. search needs) (λ c. search needs) (λ c. search needs) (λ c. search needs) (λ c κs. tt) (λ c κs. tt) (λ c. search needs) (λ c. search needs)
     (λ c. search needs)
     (λ c. rw (c .before .before .before .direction .given .1) (rw (c .before .direction-figure .ensures) at (c .field-by .ensures))))

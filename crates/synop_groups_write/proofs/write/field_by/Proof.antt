@@ -8,7 +8,6 @@ pub field-by-spec : {M : Type 1} → statement M
 field-by-spec =
     tie.close
     (tie.spec
-    (λ c. search needs)
-    (λ c. search needs)
+    (λ c. search needs) (λ c. search needs)
     (λ c. rw (c .before .f .given .1))
     (λ c. search needs))

@@ -10,10 +10,7 @@ pub is-minus-spec : {M : Type 1} → statement M
 is-minus-spec =
     tie.close
     (tie.spec
-    (λ c. search needs)
-    (λ c. search needs)
-    (λ c κs. tt)
-    (λ c. search needs)
+    (λ c. search needs) (λ c. search needs) (λ c κs. tt) (λ c. search needs)
     (λ c.
     let back = toZ-ofZ w32 (c .before .before .t .given .0 .0) (search needs) in
     rw (c .before .before .t .given .1) (rw back at (c .is-negative .ensures))))

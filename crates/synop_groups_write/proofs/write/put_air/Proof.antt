@@ -12,9 +12,7 @@ pub put-air-spec : {M : Type 1} → statement M
 put-air-spec =
     tie.close
     (tie.spec
-    (λ c. search needs)
-    (λ c. search needs)
-    (λ c κs. tt)
+    (λ c. search needs) (λ c. search needs) (λ c κs. tt)
     (λ c. unfold showAir in rw (c .enum-told .given .1) (write-none _ _))
     (λ c. search needs)
     (λ c.

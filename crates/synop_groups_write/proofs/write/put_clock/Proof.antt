@@ -11,9 +11,7 @@ pub put-clock-spec : {M : Type 1} → statement M
 put-clock-spec =
     tie.close
     (tie.spec
-    (λ c. search needs)
-    (λ c. search needs)
-    (λ c κs. tt)
+    (λ c. search needs) (λ c. search needs) (λ c κs. tt)
     (λ c. unfold showClock in rw (c .enum-told .given .1) (write-none _ _))
     (λ c. search needs)
     (λ c. unfold showClock numberText in rw (c .before .before .before .before .before .is .given .1) (c .before .before .put-two .ensures)))

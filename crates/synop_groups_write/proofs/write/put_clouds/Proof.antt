@@ -10,8 +10,7 @@ pub put-clouds-spec : {M : Type 1} → statement M
 put-clouds-spec =
     tie.close
     (tie.spec
-    (λ c κs. tt)
-    (λ c κs. tt)
+    (λ c κs. tt) (λ c κs. tt)
     (λ c. unfold showClouds in rw (← c .before .is-blank .ensures, c .if1 .taken) (write-none _ _))
     (λ c. search needs)
     (λ c.

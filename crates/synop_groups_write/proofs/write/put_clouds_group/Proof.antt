@@ -11,13 +11,7 @@ pub put-clouds-group-spec : {M : Type 1} → statement M
 put-clouds-group-spec =
     tie.close
     (tie.spec
-    (λ c κs. tt)
-    (λ c κs. tt)
-    (λ c κs. tt)
-    (λ c κs. tt)
-    (λ c κs. tt)
-    (λ c κs. tt)
-    (λ c. search needs)
+    (λ c κs. tt) (λ c κs. tt) (λ c κs. tt) (λ c κs. tt) (λ c κs. tt) (λ c κs. tt) (λ c. search needs)
     (λ c.
     let fifth = c .before .before in
     let fourth = fifth .before .before .before .before in

@@ -10,8 +10,5 @@ pub put-latitude-spec : {M : Type 1} → statement M
 put-latitude-spec =
     tie.close
     (tie.spec
-    (λ c. search needs)
-    (λ c κs. tt)
-    (λ c κs. tt)
-    (λ c. search needs)
+    (λ c. search needs) (λ c κs. tt) (λ c κs. tt) (λ c. search needs)
     (λ c. unfold showLatitude numberText in rw (c .before .before .before .magnitude-of .ensures) at (c .before .before .put-coded .ensures)))

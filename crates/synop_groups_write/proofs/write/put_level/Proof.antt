@@ -11,12 +11,7 @@ pub put-level-spec : {M : Type 1} → statement M
 put-level-spec =
     tie.close
     (tie.spec
-    (λ c. search needs)
-    (λ c. search needs)
-    (λ c. search needs)
-    (λ c κs. tt)
-    (λ c. search needs)
-    (λ c κs. tt)
+    (λ c. search needs) (λ c. search needs) (λ c. search needs) (λ c κs. tt) (λ c. search needs) (λ c κs. tt)
     (λ c. unfold showLevel in rw (c .enum-told .given .1) (write-none _ _))
     (λ c. search needs)
     (λ c. unfold showLevel numberText in rw (c .before .before .before .before .before .before .is .given .1) (c .before .before .put-coded .ensures))

@@ -13,12 +13,7 @@ pub put-moisture-spec : {M : Type 1} → statement M
 put-moisture-spec =
     tie.close
     (tie.spec
-    (λ c. search needs)
-    (λ c. search needs)
-    (λ c κs. tt)
-    (λ c. search needs)
-    (λ c. search needs)
-    (λ c κs. tt)
+    (λ c. search needs) (λ c. search needs) (λ c κs. tt) (λ c. search needs) (λ c. search needs) (λ c κs. tt)
     (λ c. unfold showMoisture in rw (c .enum-told .given .1) (write-none _ _))
     (λ c. search needs)
     (λ c.

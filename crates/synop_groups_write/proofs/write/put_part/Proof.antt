@@ -8,7 +8,5 @@ pub put-part-spec : {M : Type 1} → statement M
 put-part-spec =
     tie.close
     (tie.spec
-    (λ c κs. tt)
-    (λ c κs. tt)
-    (λ c. search needs)
+    (λ c κs. tt) (λ c κs. tt) (λ c. search needs)
     (λ c. rw (c .before .before .before .field-of .ensures) at (c .before .before .put-field .ensures)))

@@ -11,10 +11,7 @@ pub put-pressure-spec : {M : Type 1} → statement M
 put-pressure-spec =
     tie.close
     (tie.spec
-    (λ c. search needs)
-    (λ c. search needs)
-    (λ c. search needs)
-    (λ c κs. tt)
+    (λ c. search needs) (λ c. search needs) (λ c. search needs) (λ c κs. tt)
     (λ c. unfold showPressure in rw (c .enum-told .given .1) (write-none _ _))
     (λ c. search needs)
     (λ c. unfold showPressure numberText in rw (c .before .before .before .before .before .before .station .given .1) (c .before .before .put-coded .ensures)))

@@ -12,10 +12,7 @@ pub put-speed-spec : {M : Type 1} → statement M
 put-speed-spec =
     tie.close
     (tie.spec
-    (λ c. search needs)
-    (λ c. search needs)
-    (λ c. search needs)
-    (λ c κs. tt)
+    (λ c. search needs) (λ c. search needs) (λ c. search needs) (λ c κs. tt)
     (λ c. unfold showSpeed in rw (c .enum-told .given .1) (write-none _ _))
     (λ c. search needs)
     (λ c.

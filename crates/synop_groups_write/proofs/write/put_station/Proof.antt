@@ -10,7 +10,5 @@ pub put-station-spec : {M : Type 1} → statement M
 put-station-spec =
     tie.close
     (tie.spec
-    (λ c κs. tt)
-    (λ c κs. tt)
-    (λ c. search needs)
+    (λ c κs. tt) (λ c κs. tt) (λ c. search needs)
     (λ c. unfold showStation in write-group (c .before .before .before .before .before .before .open-group .ensures) (c .before .before .put-part .ensures)))

@@ -13,10 +13,7 @@ pub put-tendency-spec : {M : Type 1} → statement M
 put-tendency-spec =
     tie.close
     (tie.spec
-    (λ c. search needs)
-    (λ c. search needs)
-    (λ c κs. tt)
-    (λ c κs. tt)
+    (λ c. search needs) (λ c. search needs) (λ c κs. tt) (λ c κs. tt)
     (λ c. unfold showTendency in rw (c .enum-told .given .1) (write-none _ _))
     (λ c. search needs)
     (λ c.

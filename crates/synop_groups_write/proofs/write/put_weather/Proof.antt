@@ -11,9 +11,7 @@ pub put-weather-spec : {M : Type 1} → statement M
 put-weather-spec =
     tie.close
     (tie.spec
-    (λ c κs. tt)
-    (λ c κs. tt)
-    (λ c. search needs)
+    (λ c κs. tt) (λ c κs. tt) (λ c. search needs)
     (λ c.
     let d = c .before .before .before .before in
     let e = d .before in

@@ -8,13 +8,6 @@ pub sight-field-spec : {M : Type 1} → statement M
 sight-field-spec =
     tie.close
     (tie.spec
-    (λ c. search needs)
-    (λ c. search needs)
-    (λ c κs. tt)
-    (λ c κs. tt)
-    (λ c. search needs)
-    (λ c κs. tt)
-    (λ c κs. tt)
-    (λ c. search needs)
+    (λ c. search needs) (λ c. search needs) (λ c κs. tt) (λ c κs. tt) (λ c. search needs) (λ c κs. tt) (λ c κs. tt) (λ c. search needs)
     (λ c. rw (c .before .before .before .sight .given .1) (rw (c .before .land-figure .ensures) at (c .field-by .ensures)))
     (λ c. rw (c .before .before .before .sight2 .given .1) (rw (c .before .sea-figure .ensures) at (c .field-by2 .ensures))))

@@ -19,8 +19,7 @@ decide-spec =
     (λ c.
     let n = c .before .before .before .before .args .needs in
     turn-halts (row n) (hasAny stopWords) _ _ _ (rw (row-length n) (omega (arith, c .before .before .if1 .left))) (sym (c .before .is-stop-word .ensures) ∙ c .if2 .taken))
-    (λ c κs. search needs)
-    (λ c κs. search needs)
+    (λ c κs. search needs) (λ c κs. search needs)
     (λ c.
     let n = c .before .before .before .before .before .before .args .needs in
     turn-found (row n) (hasAny stopWords) _ _ _ (rw (row-length n) (omega (arith, c .before .before .before .before .if1 .left))) (sym (c .before .before .before .is-stop-word .ensures) ∙ c .before .before .if2 .left) (c .before .find .ensures) (c .turn-by .ensures)))

@@ -8,13 +8,7 @@ pub judge-site-spec : {M : Type 1} → statement M
 judge-site-spec =
     tie.close
     (tie.spec
-    (λ c κs. tt)
-    (λ c κs. tt)
-    (λ c κs. tt)
-    (λ c κs. tt)
-    (λ c κs. tt)
-    (λ c κs. tt)
-    (λ c κs. tt)
+    (λ c κs. tt) (λ c κs. tt) (λ c κs. tt) (λ c κs. tt) (λ c κs. tt) (λ c κs. tt) (λ c κs. tt)
     (λ c.
     unfold judgeSite in
     rw (c .before .before .before .before .if1 .taken, c .and-then2 .ensures, c .before .and-then .ensures, c .before .before .judge-position .ensures, c .before .before .before .judge-sign .ensures, c .before .before .before .before .before .judge-time .ensures))

@@ -7,8 +7,6 @@ pub site-suits-spec : {M : Type 1} → statement M
 site-suits-spec =
     tie.close
     (tie.spec
-    (λ c κs. tt)
-    (λ c κs. tt)
-    (λ c κs. tt)
+    (λ c κs. tt) (λ c κs. tt) (λ c κs. tt)
     (λ c. rw (c .before .if1 .taken, c .is-missing .ensures))
     (λ c. rw (c .before .before .if1 .left, c .before .is-blank .ensures, c .is-blank2 .ensures)))

@@ -9,9 +9,5 @@ pub put-land-spec : {M : Type 1} → statement M
 put-land-spec =
     tie.close
     (tie.spec
-    (λ c. search needs)
-    (λ c κs. tt)
-    (λ c κs. tt)
-    (λ c κs. tt)
-    (λ c. search needs)
+    (λ c. search needs) (λ c κs. tt) (λ c κs. tt) (λ c κs. tt) (λ c. search needs)
     (λ c. write-groups _ _ (c .before .before .before .before .before .before .before .before .before .before .put-group .ensures) (write-groups _ _ (c .before .before .before .before .before .before .put-time .ensures) (c .before .before .put-station .ensures))))

@@ -11,8 +11,5 @@ pub put-report-spec : {M : Type 1} → statement M
 put-report-spec =
     tie.close
     (tie.spec
-    (λ c κs. tt)
-    (λ c κs. tt)
-    (λ c κs. tt)
-    (λ c. search needs)
+    (λ c κs. tt) (λ c κs. tt) (λ c κs. tt) (λ c. search needs)
     (λ c. unfold groupsOf in then (write-groups _ _ (c .before .before .before .before .before .before .before .before .before .before .put-site .ensures) (c .before .before .before .before .before .before .put-rest .ensures)) (c .before .before .close-report .ensures)))

@@ -9,13 +9,7 @@ pub put-ship-spec : {M : Type 1} → statement M
 put-ship-spec =
     tie.close
     (tie.spec
-    (λ c. search needs)
-    (λ c κs. tt)
-    (λ c κs. tt)
-    (λ c κs. tt)
-    (λ c κs. tt)
-    (λ c κs. tt)
-    (λ c. search needs)
+    (λ c. search needs) (λ c κs. tt) (λ c κs. tt) (λ c κs. tt) (λ c κs. tt) (λ c κs. tt) (λ c. search needs)
     (λ c.
     write-groups _ _ (c .before .before .before .before .before .before .before .before .before .before .before .before .before .before .before .before .before .before .put-group .ensures)
     (write-groups _ _ (c .before .before .before .before .before .before .before .before .before .before .before .before .before .before .put-sign .ensures)

@@ -9,9 +9,7 @@ pub put-site-spec : {M : Type 1} → statement M
 put-site-spec =
     tie.close
     (tie.spec
-    (λ c κs. tt)
-    (λ c κs. tt)
-    (λ c. search needs)
+    (λ c κs. tt) (λ c κs. tt) (λ c. search needs)
     (λ c. unfold siteGroups in rw (c .before .before .before .before .if1 .taken) (c .before .before .put-ship .ensures))
     (λ c. search needs)
     (λ c. unfold siteGroups in rw (c .before .before .before .before .if1 .left) (c .before .before .put-land .ensures)))

@@ -10,11 +10,7 @@ pub put-surface-spec : {M : Type 1} → statement M
 put-surface-spec =
     tie.close
     (tie.spec
-    (λ c κs. tt)
-    (λ c κs. tt)
-    (λ c κs. tt)
-    (λ c κs. tt)
-    (λ c. search needs)
+    (λ c κs. tt) (λ c κs. tt) (λ c κs. tt) (λ c κs. tt) (λ c. search needs)
     (λ c.
     unfold surfaceGroups in
     write-groups _ _ (c .before .before .before .before .before .before .before .before .before .before .put-indicators .ensures)

@@ -35,12 +35,10 @@ pub write-fine-spec : {M : Type 1} → statement M
 write-fine-spec =
     tie.close
     (tie.spec
-    (λ c. search needs)
-    (λ c κs. tt)
+    (λ c. search needs) (λ c κs. tt)
     (λ c. within (c .before .before .before .before) (c .before .put-report .ensures))
     (λ c. sym (length-take-le _ _ (within (c .before .before .before .before .before) (c .before .before .put-report .ensures))))
-    (λ c κs. tt)
-    (λ c. search needs)
+    (λ c κs. tt) (λ c. search needs)
     (λ c.
     let d = c .before .before .before .before .before .before .before .before .before in
     delivered (d .args .r) (d .pre) (d .args .out .now) (text d (c .before .before .before .before .before .before .put-report .ensures)) (c .before .before .deliver .ensures)))

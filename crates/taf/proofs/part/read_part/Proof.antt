@@ -6,6 +6,10 @@ use Prim.Native.Nat.{_-_}
 use native.Mathlib.Omega.{arith}
 use lib.ListN.{length}
 use Rattle.text.proofs.Groups.{Follows, when-group, when-end, from-end}
+use Rattle.shapes.specs.Pattern.{hasAny}
+use Rattle.places.proofs.Loop.{turn-room}
+use Rattle.taf_row.specs.Row.{row, changeWords}
+use Rattle.taf.proofs.Steps.{row-few, said-good, said-bad}
 use Rattle.taf.proofs.Turns.{Reached, starts, part-over, part-word, part-fault, part-on, part-bad}
 use Rattle.taf.proofs.part.read_part.Statement.{statement}
 use Rattle.taf.proofs.part.read_part.Tie as tie
@@ -34,17 +38,17 @@ returns-3 c = part-fault (rw (c .before .before .before .before .before .before 
 
 returns-4 : tie.Need-returns-4 Inv μ
 returns-4 c =
-    part-bad (rw (c .before .before .before .before .before .before .before .before .before .before .before .before .before .before .before .before .blank-leg .ensures) at (c .before .before .before .before .before .before .before .before .before .before .before .before .before .before .before .loop .inv)) (follows (c .before .before .before .before .before .before .before .before .before .before)) (c .before .before .before .before .before .before .before .before .before .part .ensures) (c .before .before .before .before .before .before .before .before .decide .ensures) _ _ (c .before .before .before .before .before .before .turn2 .given .1) (c .before .before .before .before .read-at .ensures) (c .before .before .judged .given .1) (c .refuse-part2 .ensures)
+    part-bad (rw (c .before .before .before .before .before .before .before .before .before .before .before .before .before .before .before .before .blank-leg .ensures) at (c .before .before .before .before .before .before .before .before .before .before .before .before .before .before .before .loop .inv)) (follows (c .before .before .before .before .before .before .before .before .before .before)) (c .before .before .before .before .before .before .before .before .before .part .ensures) (c .before .before .before .before .before .before .before .before .decide .ensures) (c .before .before .before .before .before .before .turn2 .given .1) (said-bad _ _ _ _ _ (c .before .before .before .before .say-at .ensures) (c .before .before .said .given .1)) (c .refuse-part2 .ensures)
 
 add-standing : tie.Need-add-standing Inv μ
-add-standing c = omega (arith, c .before .before .before .before .before .before .before .before .decide .ensures .room _ _ (c .before .before .before .before .before .before .turn2 .given .1))
+add-standing c = omega (arith, turn-room (row _) (hasAny changeWords) _ _ _ 4 (row-few _) (c .before .before .before .before .before .before .before .decide .ensures) (c .before .before .before .before .before .turn2 .given .1))
 
 loop-less : tie.Need-loop-less Inv μ
-loop-less c = omega (arith, follows (c .before .before .before .before .before .before .before .before .before .before))
+loop-less c = omega (arith, follows (c .before .before .before .before .before .before .before .before .before))
 
 loop-again : tie.Need-loop-again Inv μ
 loop-again c =
-    part-on (c .before .before .before .before .before .before .before .before .before .before .before .before .before .before .before .loop .inv) (follows (c .before .before .before .before .before .before .before .before .before .before)) (c .before .before .before .before .before .before .before .before .before .part .ensures) (c .before .before .before .before .before .before .before .before .decide .ensures) _ _ (c .before .before .before .before .before .before .turn2 .given .1) (c .before .before .before .before .read-at .ensures) (c .go-past .ensures _) (c .before .before .enum-told3 .given .1)
+    part-on (c .before .before .before .before .before .before .before .before .before .before .before .before .before .before .loop .inv) (follows (c .before .before .before .before .before .before .before .before .before)) (c .before .before .before .before .before .before .before .before .part .ensures) (c .before .before .before .before .before .before .before .decide .ensures) (c .before .before .before .before .before .turn2 .given .1) (said-good _ _ _ _ _ (c .before .before .before .say-at .result) (c .before .before .before .say-at .ensures) (c .before .before .match3 .keys2) (c .before .with-said .ensures)) (c .go-past .ensures _)
 
 returns-5 : tie.Need-returns-5 Inv μ
 returns-5 c = part-over (rw (c .before .before .before .blank-leg .ensures) at (c .before .before .loop .inv)) (from-end _ _ (c .before .loop-test .left)) (c .end-part2 .ensures)
@@ -55,5 +59,5 @@ read-part-spec =
     (tie.spec
     Inv μ
     (λ c κs. search needs) loop-holds (λ c κs. search needs) (λ c. search needs) (λ c. search needs) (λ c κs. search needs) returns (λ c κs. search needs) (λ c κs. search needs) (λ c. search needs) (λ c κs. search needs) returns-2 (λ c. search needs)
-    (λ c κs. search needs) returns-3 (λ c. search needs) (λ c κs. search needs) (λ c. search needs) (λ c κs. search needs) returns-4 (λ c. search needs) (λ c κs. search needs) add-standing
+    (λ c κs. search needs) returns-3 (λ c. search needs) (λ c κs. search needs) (λ c. search needs) (λ c κs. search needs) returns-4 (λ c κs. search needs) (λ c κs. search needs) add-standing
     loop-less loop-again (λ c κs. search needs) returns-5)

@@ -7,8 +7,8 @@ use Rattle.taf_row.proofs.tests.lacks.Tie as tie
 
 returns : tie.Need-returns
 returns c =
-    let a = c .before .before .before .before .before .args in
-    lacks-by (a .part) (a .place) (a .count) (a .r) (c .before .before .before .before .musts .ensures) (c .before .before .is-owed .ensures) (c .before .is-main .ensures) (c .has-element .ensures)
+    let a = c .before .before .before .before .before .before .args in
+    lacks-by (a .part) (a .place) (a .count) (a .r) (c .before .before .before .before .before .musts .ensures) (c .before .before .before .is-owed .ensures) (c .before .before .is-main .ensures) (c .has-element .ensures)
 
 pub lacks-spec : {M : Type 1} → statement M
 lacks-spec =

@@ -10,9 +10,5 @@ pub put-chance-spec : {M : Type 1} → statement M
 put-chance-spec =
     tie.close
     (tie.spec
-    (λ c κs. tt)
-    (λ c. search needs)
-    (λ c κs. tt)
-    (λ c κs. tt)
-    (λ c. search needs)
+    (λ c κs. tt) (λ c. search needs) (λ c κs. tt) (λ c κs. tt) (λ c. search needs)
     (λ c. write-group (c .before .before .before .before .before .before .before .before .before .before .before .open-group .ensures) (then (c .before .before .before .before .before .before .put-text .ensures) (c .before .before .put-number .ensures))))

@@ -9,8 +9,5 @@ pub put-chances-spec : {M : Type 1} → statement M
 put-chances-spec =
     tie.close
     (tie.spec
-    (λ c κs. tt)
-    (λ c. search needs)
-    (λ c κs. tt)
-    (λ c. search needs)
+    (λ c κs. tt) (λ c. search needs) (λ c κs. tt) (λ c. search needs)
     (λ c. write-groups _ _ (c .before .before .before .before .before .before .before .put-chance .ensures) (c .before .before .put-group .ensures)))

@@ -10,9 +10,5 @@ pub put-change-spec : {M : Type 1} → statement M
 put-change-spec =
     tie.close
     (tie.spec
-    (λ c κs. tt)
-    (λ c κs. tt)
-    (λ c κs. tt)
-    (λ c κs. tt)
-    (λ c. search needs)
+    (λ c κs. tt) (λ c κs. tt) (λ c κs. tt) (λ c κs. tt) (λ c. search needs)
     (λ c. unfold showChange in rw (c .before .before .before .before .part-of .ensures, c .before .before .before .leg-of .ensures) at (write-groups _ _ (c .before .before .before .before .before .before .before .before .put-opening .ensures) (c .before .before .put-part .ensures))))

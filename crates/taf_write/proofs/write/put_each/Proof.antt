@@ -29,11 +29,7 @@ put-each-spec =
     (tie.spec Inv μ
     (λ c κs. tt)
     (λ c. (omega arith, c .at-most-sixteen .ensures, unfold written in put-none _ _))
-    (λ c. search needs)
-    (λ c. search needs)
-    (λ c κs. search needs)
-    (λ c. search needs)
-    (λ c. search needs)
+    (λ c. search needs) (λ c. search needs) (λ c κs. search needs) (λ c. search needs) (λ c. search needs)
     (λ c.
     let d = c .before .before .before .before .before .before .before .before .before in (
       omega arith,

@@ -10,12 +10,7 @@ pub put-head-spec : {M : Type 1} → statement M
 put-head-spec =
     tie.close
     (tie.spec
-    (λ c. search needs)
-    (λ c κs. tt)
-    (λ c. search needs)
-    (λ c κs. tt)
-    (λ c. search needs)
-    (λ c. search needs)
+    (λ c. search needs) (λ c κs. tt) (λ c. search needs) (λ c κs. tt) (λ c. search needs) (λ c. search needs)
     (λ c. rw (c .before .before .before .before .enum-told .given .1) (c .before .before .put-main .ensures))
     (λ c. length-put (c .before .before .put-valid .ensures))
     (λ c. rw (c .before .before .before .before .enum-told2 .given .1) (under-change _ (c .before .before .put-valid .ensures)))

@@ -9,7 +9,5 @@ pub put-hour-spec : {M : Type 1} → statement M
 put-hour-spec =
     tie.close
     (tie.spec
-    (λ c κs. tt)
-    (λ c κs. tt)
-    (λ c. search needs)
+    (λ c κs. tt) (λ c κs. tt) (λ c. search needs)
     (λ c. then (c .before .before .before .before .before .before .put-two .ensures) (c .before .before .put-two2 .ensures)))

@@ -11,9 +11,5 @@ pub put-period-spec : {M : Type 1} → statement M
 put-period-spec =
     tie.close
     (tie.spec
-    (λ c κs. tt)
-    (λ c κs. tt)
-    (λ c κs. tt)
-    (λ c κs. tt)
-    (λ c. search needs)
+    (λ c κs. tt) (λ c κs. tt) (λ c κs. tt) (λ c κs. tt) (λ c. search needs)
     (λ c. unfold showPeriod in write-group (c .before .before .before .before .before .before .before .before .before .before .before .before .before .before .open-group .ensures) (then (then (c .before .before .before .before .before .before .before .before .before .before .put-hour .ensures) (c .before .before .before .before .before .before .put-byte .ensures)) (c .before .before .put-hour2 .ensures))))

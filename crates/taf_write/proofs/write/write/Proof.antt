@@ -10,12 +10,9 @@ pub write-spec : {M : Type 1} → statement M
 write-spec =
     tie.close
     (tie.spec
-    (λ c κs. tt)
-    (λ c. search needs)
+    (λ c κs. tt) (λ c. search needs)
     (λ c κs. sym (c .before .before .before .judge .ensures) ∙ c .before .enum-told .given .1)
-    (λ c. search needs)
-    (λ c. search needs)
-    (λ c. search needs)
+    (λ c. search needs) (λ c. search needs) (λ c. search needs)
     (λ c.
     let d = c .before .before .before .before .before in
     not-written (d .args .t) _ (d .args .out .now) (sym (c .before .before .before .judge .ensures) ∙ c .before .verdict .given .1)))

@@ -19,13 +19,11 @@ use Rattle.taf_write.proofs.write.write_fine.Tie as tie
 arrays : (c : tie.Start) → TafArrays (c .args .t)
 arrays c =
     let leg = c .good .0 .1 .1 .0 .1 .1 in
+    let body = leg .1 .1 .1 .1 .1 .1 .0 .1 .1 .1 .1 in
     let changes = c .good .0 .1 .1 .1 .0 .1 .1 .0 in
     record {
       letters = simp length-map at (leg .1 .0 .1 .1 .0 .1 .0 .1);
-      part = record {
-        weathers = simp length-map at (leg .1 .1 .1 .1 .1 .1 .1 .1 .0 .1 .1 .0 .1 .0 .1);
-        layers = simp length-map at (leg .1 .1 .1 .1 .1 .1 .1 .1 .1 .1 .0 .1 .1 .1 .0 .1 .0 .1);
-      };
+      body = record { weathers = simp length-map at (body .0 .1 .1 .0 .1 .0 .1); layers = simp length-map at (body .1 .1 .0 .1 .1 .1 .0 .1 .0 .1) };
       changes = simp length-map at (changes .1 .0 .1);
       each = each-arrays (c .args .t .changes .items) _ (changes .1 .1);
     }
@@ -40,12 +38,10 @@ pub write-fine-spec : {M : Type 1} → statement M
 write-fine-spec =
     tie.close
     (tie.spec
-    (λ c. search needs)
-    (λ c κs. tt)
+    (λ c. search needs) (λ c κs. tt)
     (λ c. let d = c .before .before .before .before in report-within (d .args .t) (sizes d) (short d) (c .before .put-report .ensures))
     (λ c. let d = c .before .before .before .before .before in sym (length-take-le _ _ (report-within (d .args .t) (sizes d) (short d) (c .before .before .put-report .ensures))))
-    (λ c κs. tt)
-    (λ c. search needs)
+    (λ c κs. tt) (λ c. search needs)
     (λ c.
     let d = c .before .before .before .before .before .before .before .before .before in
     written-fine (d .args .t) (d .args .out .now) (d .pre) (report-text (d .args .t) (sizes d) (short d) (c .before .before .before .before .before .before .put-report .ensures))

@@ -8,7 +8,5 @@ pub and-then-spec : {M : Type 1} → statement M
 and-then-spec =
     tie.close
     (tie.spec
-    (λ c. search needs)
-    (λ c. search needs)
-    (λ c. search needs)
+    (λ c. search needs) (λ c. search needs) (λ c. search needs)
     (λ c. rw (c .before .first .given .1)))

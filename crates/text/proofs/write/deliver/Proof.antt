@@ -10,6 +10,5 @@ deliver-spec =
     tie.close
     (tie.spec
     (λ c. let d = c .before .before .before in no-room (d .args .text .now) (d .args .out .now) (c .if1 .taken))
-    (λ c κs. search needs)
-    (λ c. search needs)
+    (λ c κs. search needs) (λ c. search needs)
     (λ c. with-room (c .before .before .before .before .if1 .left) (c .before .before .put-text .ensures)))

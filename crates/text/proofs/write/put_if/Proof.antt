@@ -10,7 +10,6 @@ pub put-if-spec : {M : Type 1} → statement M
 put-if-spec =
     tie.close
     (tie.spec
-    (λ c κs. search needs)
-    (λ c. search needs)
+    (λ c κs. search needs) (λ c. search needs)
     (λ c. rw (c .before .before .before .before .if1 .taken) (c .before .before .put-group .ensures))
     (λ c. rw (c .if1 .left) (write-none _ _)))

@@ -21,13 +21,7 @@ all-among-spec =
     tie.close
     (tie.spec Inv μ
     (λ c. (omega arith, refl))
-    (λ c. search needs)
-    (λ c. search needs)
-    (λ c. search needs)
-    (λ c. search needs)
-    (λ c κs. tt)
-    (λ c. search needs)
-    (λ c. search needs)
+    (λ c. search needs) (λ c. search needs) (λ c. search needs) (λ c. search needs) (λ c κs. tt) (λ c. search needs) (λ c. search needs)
     (λ c. (omega arith, all-next (λ d. among d (codesOf (c .before .before .before .before .before .before .before .before .args .codes .now))) _ (c .before .before .before .before .before .loop .i) (c .before .before .before .before .loop-test .taken) (sym (c .before .is-one .ensures) ∙ c .if1 .taken) ∙ c .before .before .before .before .before .loop .inv .1))
     (λ c. all-stop (λ d. among d (codesOf (c .before .before .before .before .before .before .before .before .args .codes .now))) _ (c .before .before .before .before .before .loop .i) (c .before .before .before .before .loop-test .taken) (sym (c .before .is-one .ensures) ∙ c .if1 .left) ∙ c .before .before .before .before .before .loop .inv .1)
     (λ c. all-end (λ d. among d (codesOf (c .before .before .before .before .args .codes .now))) _ (c .before .loop .i) (c .loop-test .left) ∙ c .before .loop .inv .1))

@@ -21,15 +21,8 @@ all-differ-spec =
     tie.close
     (tie.spec Inv μ
     (λ c. (omega arith, refl))
-    (λ c. search needs)
-    (λ c. search needs)
-    (λ c κs. tt)
-    (λ c. search needs)
-    (λ c. search needs)
-    (λ c. search needs)
-    (λ c κs. tt)
+    (λ c. search needs) (λ c. search needs) (λ c κs. tt) (λ c. search needs) (λ c. search needs) (λ c. search needs) (λ c κs. tt)
     (λ c. differ-stop _ (c .before .before .before .before .before .before .loop .i) (c .before .before .before .before .before .loop-test .taken) (rw (c .before .before .before .before .rest-from .ensures) at (sym (c .before .is-one .ensures) ∙ c .if1 .taken)) ∙ c .before .before .before .before .before .before .loop .inv .1)
-    (λ c. search needs)
-    (λ c. search needs)
+    (λ c. search needs) (λ c. search needs)
     (λ c. (omega arith, differ-next _ (c .before .before .before .before .before .before .loop .i) (c .before .before .before .before .before .loop-test .taken) (rw (c .before .before .before .before .rest-from .ensures) at (sym (c .before .is-one .ensures) ∙ c .if1 .left)) ∙ c .before .before .before .before .before .before .loop .inv .1))
     (λ c. differ-end _ (c .before .loop .i) (c .loop-test .left) ∙ c .before .loop .inv .1))

@@ -9,9 +9,6 @@ pub code-at-spec : {M : Type 1} → statement M
 code-at-spec =
     tie.close
     (tie.spec
-    (λ c. search needs)
-    (λ c. search needs)
-    (λ c. search needs)
-    (λ c. search needs)
+    (λ c. search needs) (λ c. search needs) (λ c. search needs) (λ c. search needs)
     (λ c. code-there _ (c .before .before .before .args .i) (c .before .before .if1 .taken))
     (λ c. code-past _ (c .before .args .i) (c .if1 .left)))

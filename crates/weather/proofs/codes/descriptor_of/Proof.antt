@@ -9,8 +9,6 @@ unfolding descriptorOf
 descriptor-of-spec =
     tie.close
     (tie.spec
-    (λ c κs. tt)
-    (λ c κs. tt)
-    (λ c κs. tt)
+    (λ c κs. tt) (λ c κs. tt) (λ c κs. tt)
     (λ c. rw (← c .before .before .before .byte-at .ensures, ← c .before .before .byte-at2 .ensures, ← c .before .is-descriptor .ensures, c .if1 .taken))
     (λ c. rw (← c .before .before .before .byte-at .ensures, ← c .before .before .byte-at2 .ensures, ← c .before .is-descriptor .ensures, c .if1 .left)))

@@ -8,15 +8,7 @@ pub intensity-fits-spec : {M : Type 1} → statement M
 intensity-fits-spec =
     tie.close
     (tie.spec
-    (λ c. search needs)
-    (λ c κs. tt)
-    (λ c. search needs)
-    (λ c κs. tt)
-    (λ c κs. tt)
-    (λ c. search needs)
-    (λ c κs. tt)
-    (λ c κs. tt)
-    (λ c. search needs)
+    (λ c. search needs) (λ c κs. tt) (λ c. search needs) (λ c κs. tt) (λ c κs. tt) (λ c. search needs) (λ c κs. tt) (λ c κs. tt) (λ c. search needs)
     (λ c κs. tt)
     (λ c. rw (c .before .enum-told .given .1) (c .is-right .ensures))
     (λ c. rw (c .before .before .enum-told2 .given .1, c .before .is-right2 .ensures, c .takes-sign .ensures))

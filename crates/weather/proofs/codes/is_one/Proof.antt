@@ -22,12 +22,8 @@ is-one-spec =
     tie.close
     (tie.spec Inv μ
     (λ c. (omega arith, refl))
-    (λ c. search needs)
-    (λ c. search needs)
-    (λ c. search needs)
-    (λ c. search needs)
+    (λ c. search needs) (λ c. search needs) (λ c. search needs) (λ c. search needs)
     (λ c. among-here _ _ _ (c .before .before .before .before .loop .i) (c .before .before .before .loop-test .taken) (c .if1 .taken) ∙ c .before .before .before .before .loop .inv .1)
-    (λ c. search needs)
-    (λ c. search needs)
+    (λ c. search needs) (λ c. search needs)
     (λ c. (omega arith, among-later _ _ _ (c .before .before .before .before .loop .i) (c .before .before .before .loop-test .taken) (c .if1 .left) ∙ c .before .before .before .before .loop .inv .1))
     (λ c. among-end _ _ _ (c .before .loop .i) (c .loop-test .left) ∙ c .before .loop .inv .1))

@@ -8,11 +8,6 @@ pub is-right-spec : {M : Type 1} → statement M
 is-right-spec =
     tie.close
     (tie.spec
-    (λ c. search needs)
-    (λ c. search needs)
-    (λ c κs. tt)
-    (λ c κs. tt)
-    (λ c. search needs)
-    (λ c κs. tt)
+    (λ c. search needs) (λ c. search needs) (λ c κs. tt) (λ c κs. tt) (λ c. search needs) (λ c κs. tt)
     (λ c. rw (c .before .before .before .enum-told .given .1, c .before .is-single .ensures, c .are-precipitations .ensures))
     (λ c. rw (c .before .before .d .given .1, c .suit .ensures)))

@@ -9,7 +9,6 @@ pub are-codes-spec : {M : Type 1} → statement M
 are-codes-spec =
     tie.close
     (tie.spec
-    (λ c. search needs)
-    (λ c κs. tt)
+    (λ c. search needs) (λ c κs. tt)
     (λ c. rw (some-codes (c .before .before .before .before .args .g .now), c .before .before .if1 .taken) (c .all-among .ensures))
     (λ c. rw (some-codes (c .before .before .args .g .now), c .if1 .left)))

@@ -9,7 +9,5 @@ pub has-weather-spec : {M : Type 1} → statement M
 has-weather-spec =
     tie.close
     (tie.spec
-    (λ c. search needs)
-    (λ c κs. tt)
-    (λ c κs. tt)
+    (λ c. search needs) (λ c κs. tt) (λ c κs. tt)
     (λ c. unfold hasWeather in rw (c .before .has-pattern .ensures, c .are-signed-codes .ensures)))

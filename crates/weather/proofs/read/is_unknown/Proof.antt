@@ -8,7 +8,5 @@ pub is-unknown-spec : {M : Type 1} → statement M
 is-unknown-spec =
     tie.close
     (tie.spec
-    (λ c. search needs)
-    (λ c. search needs)
-    (λ c. search needs)
+    (λ c. search needs) (λ c. search needs) (λ c. search needs)
     (λ c. rw (c .before .c .given .1)))

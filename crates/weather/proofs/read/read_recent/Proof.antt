@@ -10,10 +10,7 @@ pub read-recent-spec : {M : Type 1} → statement M
 read-recent-spec =
     tie.close
     (tie.spec
-    (λ c κs. tt)
-    (λ c κs. tt)
-    (λ c κs. tt)
-    (λ c κs. tt)
+    (λ c κs. tt) (λ c κs. tt) (λ c κs. tt) (λ c κs. tt)
     (λ c.
     let said = saidWeather (drop 2 (c .before .before .before .before .before .args .g .now)) in
     rw (recent-is (c .before .before .before .before .before .args .automatic) (c .before .before .before .before .before .args .g .now))

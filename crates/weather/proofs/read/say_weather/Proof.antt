@@ -8,8 +8,5 @@ pub say-weather-spec : {M : Type 1} → statement M
 say-weather-spec =
     tie.close
     (tie.spec
-    (λ c κs. tt)
-    (λ c κs. tt)
-    (λ c κs. tt)
-    (λ c κs. tt)
+    (λ c κs. tt) (λ c κs. tt) (λ c κs. tt) (λ c κs. tt)
     (λ c. rw (said-is (c .before .before .before .before .before .args .g .now), ← c .before .before .before .intensity-of .ensures, ← c .before .before .sign-length .ensures, ← c .before .rest-from .ensures) (c .tell .ensures)))

@@ -24,12 +24,7 @@ pub codes-fit-spec : {M : Type 1} → statement M
 codes-fit-spec =
     tie.close
     (tie.spec
-    (λ c. search needs)
-    (λ c κs. tt)
-    (λ c. search needs)
-    (λ c κs. tt)
-    (λ c. search needs)
-    (λ c κs. tt)
+    (λ c. search needs) (λ c κs. tt) (λ c. search needs) (λ c κs. tt) (λ c. search needs) (λ c κs. tt)
     (λ c. let a = c .before .before .before .before .before .before .before .before .before .args in spelt-within (a .a) (a .b) (a .c) (spelling c))
     (λ c. let a = c .before .before .before .before .before .before .before .before .before .before .args in spelt-length (a .a) (a .b) (a .c) (spelling (c .before)))
     (λ c κs. tt)

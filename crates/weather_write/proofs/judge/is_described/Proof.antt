@@ -8,8 +8,5 @@ pub is-described-spec : {M : Type 1} → statement M
 is-described-spec =
     tie.close
     (tie.spec
-    (λ c. search needs)
-    (λ c. search needs)
-    (λ c κs. tt)
-    (λ c. search needs)
+    (λ c. search needs) (λ c. search needs) (λ c κs. tt) (λ c. search needs)
     (λ c. rw (c .before .before .d .given .1) (c .is-descriptor .ensures)))

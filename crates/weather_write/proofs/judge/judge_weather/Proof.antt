@@ -8,8 +8,5 @@ pub judge-weather-spec : {M : Type 1} → statement M
 judge-weather-spec =
     tie.close
     (tie.spec
-    (λ c κs. tt)
-    (λ c κs. tt)
-    (λ c κs. tt)
-    (λ c κs. tt)
+    (λ c κs. tt) (λ c κs. tt) (λ c κs. tt) (λ c κs. tt)
     (λ c. unfold judgeWeather in rw (c .judge .ensures, c .before .has-unknown .ensures, c .before .before .is-missing .ensures, c .before .before .before .phenomena-fit .ensures)))

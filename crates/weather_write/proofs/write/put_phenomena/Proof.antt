@@ -9,15 +9,7 @@ pub put-phenomena-spec : {M : Type 1} → statement M
 put-phenomena-spec =
     tie.close
     (tie.spec
-    (λ c. search needs)
-    (λ c. search needs)
-    (λ c κs. tt)
-    (λ c. search needs)
-    (λ c κs. tt)
-    (λ c κs. tt)
-    (λ c κs. tt)
-    (λ c κs. tt)
-    (λ c κs. tt)
+    (λ c. search needs) (λ c. search needs) (λ c κs. tt) (λ c. search needs) (λ c κs. tt) (λ c κs. tt) (λ c κs. tt) (λ c κs. tt) (λ c κs. tt)
     (λ c. search needs)
     (λ c. rw (c .before .before .before .before .before .enum-told .given .1) (c .before .before .put-text .ensures))
     (λ c. search needs)

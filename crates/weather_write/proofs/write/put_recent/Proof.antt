@@ -9,8 +9,6 @@ pub put-recent-spec : {M : Type 1} → statement M
 put-recent-spec =
     tie.close
     (tie.spec
-    (λ c. search needs)
-    (λ c κs. tt)
-    (λ c. search needs)
+    (λ c. search needs) (λ c κs. tt) (λ c. search needs)
     (λ c. rw (c .before .before .before .before .before .if1 .taken) (c .before .before .put-text .ensures))
     (λ c. rw (c .if1 .left) (put-none _ _)))

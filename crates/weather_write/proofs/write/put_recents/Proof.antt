@@ -9,6 +9,5 @@ pub put-recents-spec : {M : Type 1} → statement M
 put-recents-spec =
     tie.close
     (tie.spec
-    (λ c κs. tt)
-    (λ c. search needs)
+    (λ c κs. tt) (λ c. search needs)
     (λ c. unfold showRecents in c .before .before .put-each .ensures))

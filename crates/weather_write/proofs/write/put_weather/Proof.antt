@@ -12,10 +12,7 @@ pub put-weather-spec : {M : Type 1} → statement M
 put-weather-spec =
     tie.close
     (tie.spec
-    (λ c κs. tt)
-    (λ c κs. tt)
-    (λ c κs. tt)
-    (λ c. search needs)
+    (λ c κs. tt) (λ c κs. tt) (λ c κs. tt) (λ c. search needs)
     (λ c.
     let said = c .before .before in
     let begun = said .before .before .before .before in

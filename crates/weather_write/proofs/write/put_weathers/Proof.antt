@@ -9,6 +9,5 @@ pub put-weathers-spec : {M : Type 1} → statement M
 put-weathers-spec =
     tie.close
     (tie.spec
-    (λ c κs. tt)
-    (λ c. search needs)
+    (λ c κs. tt) (λ c. search needs)
     (λ c. unfold showWeathers in c .before .before .put-each .ensures))

@@ -11,8 +11,7 @@ pub degrees-text-spec : {M : Type 1} → statement M
 degrees-text-spec =
     tie.close
     (tie.spec
-    (λ c κs. tt)
-    (λ c. search needs)
+    (λ c κs. tt) (λ c. search needs)
     (λ c. omega (arith, rw (sym (c .before .before .before .direction-figure .ensures) ∙ c .before .f .given .1) at (ddd-most (c .before .before .before .before .args .d))))
     (λ c. search needs)
     (λ c. rw (← c .before .before .before .direction-figure .ensures, c .before .f .given .1))

@@ -8,9 +8,5 @@ pub extremes-agree-spec : {M : Type 1} → statement M
 extremes-agree-spec =
     tie.close
     (tie.spec
-    (λ c. search needs)
-    (λ c. search needs)
-    (λ c κs. tt)
-    (λ c κs. tt)
-    (λ c. search needs)
+    (λ c. search needs) (λ c. search needs) (λ c κs. tt) (λ c κs. tt) (λ c. search needs)
     (λ c. rw (c .before .before .before .e .given .1, c .before .degrees-text .ensures, c .degrees-text2 .ensures)))

@@ -8,7 +8,5 @@ pub extremes-fit-spec : {M : Type 1} → statement M
 extremes-fit-spec =
     tie.close
     (tie.spec
-    (λ c. search needs)
-    (λ c. search needs)
-    (λ c. search needs)
+    (λ c. search needs) (λ c. search needs) (λ c. search needs)
     (λ c. rw (c .before .e .given .1)))

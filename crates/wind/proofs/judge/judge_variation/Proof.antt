@@ -8,7 +8,5 @@ pub judge-variation-spec : {M : Type 1} → statement M
 judge-variation-spec =
     tie.close
     (tie.spec
-    (λ c κs. tt)
-    (λ c κs. tt)
-    (λ c κs. tt)
+    (λ c κs. tt) (λ c κs. tt) (λ c κs. tt)
     (λ c. unfold judgeVariation in rw (c .judge .ensures, c .before .before .extremes-fit .ensures, c .before .extremes-agree .ensures)))

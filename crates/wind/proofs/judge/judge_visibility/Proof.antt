@@ -8,6 +8,5 @@ pub judge-visibility-spec : {M : Type 1} → statement M
 judge-visibility-spec =
     tie.close
     (tie.spec
-    (λ c κs. tt)
-    (λ c κs. tt)
+    (λ c κs. tt) (λ c κs. tt)
     (λ c. unfold judgeVisibility in rw (c .judge .ensures, c .before .view-fits .ensures)))

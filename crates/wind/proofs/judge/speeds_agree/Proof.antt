@@ -8,8 +8,5 @@ pub speeds-agree-spec : {M : Type 1} → statement M
 speeds-agree-spec =
     tie.close
     (tie.spec
-    (λ c. search needs)
-    (λ c. search needs)
-    (λ c κs. tt)
-    (λ c. search needs)
+    (λ c. search needs) (λ c. search needs) (λ c κs. tt) (λ c. search needs)
     (λ c. rw (c .before .before .s .given .1) (c .wind-agrees .ensures)))

@@ -8,18 +8,8 @@ pub wind-fits-spec : {M : Type 1} → statement M
 wind-fits-spec =
     tie.close
     (tie.spec
-    (λ c. search needs)
-    (λ c κs. tt)
-    (λ c κs. tt)
-    (λ c. search needs)
-    (λ c κs. tt)
-    (λ c κs. tt)
-    (λ c. search needs)
-    (λ c κs. tt)
-    (λ c κs. tt)
-    (λ c. search needs)
-    (λ c κs. tt)
-    (λ c κs. tt)
+    (λ c. search needs) (λ c κs. tt) (λ c κs. tt) (λ c. search needs) (λ c κs. tt) (λ c κs. tt) (λ c. search needs) (λ c κs. tt) (λ c κs. tt)
+    (λ c. search needs) (λ c κs. tt) (λ c κs. tt)
     (λ c. rw (c .before .before .enum-told .given .1, c .before .is-missing .ensures, c .is-missing2 .ensures))
     (λ c. rw (c .before .before .enum-told2 .given .1, c .before .speed-fits .ensures, c .gust-fits .ensures))
     (λ c. rw (c .before .before .enum-told3 .given .1, c .before .speed-fits2 .ensures, c .gust-fits2 .ensures))

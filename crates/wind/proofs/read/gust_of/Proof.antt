@@ -11,8 +11,6 @@ gust-of-spec =
     tie.close
     (tie.spec
     (λ c. rw (eq-eqb _ _ (c .if1 .taken)))
-    (λ c κs. tt)
-    (λ c. search needs)
-    (λ c. search needs)
+    (λ c κs. tt) (λ c. search needs) (λ c. search needs)
     (λ c. gust-read (c .before .before .before .before .before .before .args .v) (c .before .before .before .before .if1 .left) (c .before .before .before .speed-of .ensures) (c .before .s .given .1))
     (λ c. gust-refused (c .before .before .before .before .before .before .args .v) (c .before .before .before .before .if1 .left) (c .before .before .before .speed-of .ensures) (c .before .s2 .given .1)))

@@ -11,8 +11,5 @@ unfolding hasAny
 has-visibility-spec =
     tie.close
     (tie.spec
-    (λ c. search needs)
-    (λ c κs. tt)
-    (λ c. search needs)
-    (λ c κs. tt)
+    (λ c. search needs) (λ c κs. tt) (λ c. search needs) (λ c κs. tt)
     (λ c. rw (c .before .before .has-pattern .ensures, c .has-pattern2 .ensures, or-false)))

@@ -7,6 +7,5 @@ pub is-no-wind-spec : {M : Type 1} → statement M
 is-no-wind-spec =
     tie.close
     (tie.spec
-    (λ c κs. tt)
-    (λ c κs. tt)
+    (λ c κs. tt) (λ c κs. tt)
     (λ c. rw (c .before .before .before .is-missing .ensures, c .before .is-missing2 .ensures)))

@@ -15,14 +15,11 @@ unfolding readVariation
 read-variation-spec =
     tie.close
     (tie.spec
-    (λ c κs. tt)
-    (λ c. search needs)
+    (λ c κs. tt) (λ c. search needs)
     (λ c. rw (← c .before .field .ensures, no-figure (c .before .field .result) (c .match .keys2)))
-    (λ c κs. tt)
-    (λ c. search needs)
+    (λ c κs. tt) (λ c. search needs)
     (λ c. rw (← c .before .before .before .before .before .field .ensures, c .before .before .before .a .given .1, ← c .before .field2 .ensures, no-figure (c .before .field2 .result) (c .match2 .keys2)))
-    (λ c κs. tt)
-    (λ c κs. tt)
+    (λ c κs. tt) (λ c κs. tt)
     (λ c.
     let two = c .before .before in
     let b = two .before .before .before in

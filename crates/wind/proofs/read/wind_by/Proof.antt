@@ -12,14 +12,10 @@ unfolding windBy
 wind-by-spec =
     tie.close
     (tie.spec
-    (λ c κs. tt)
-    (λ c κs. tt)
+    (λ c κs. tt) (λ c κs. tt)
     (λ c. rw (← c .before .before .is-no-wind .ensures, c .before .if1 .taken, c .if2 .taken))
     (λ c. rw (← c .before .before .is-no-wind .ensures, c .before .if1 .taken, c .if2 .left, c .before .before .before .unit-of .ensures))
-    (λ c κs. tt)
-    (λ c κs. tt)
-    (λ c κs. tt)
-    (λ c κs. tt)
+    (λ c κs. tt) (λ c κs. tt) (λ c κs. tt) (λ c κs. tt)
     (λ c.
     let a = c .before .before .before .before .before .before .before .args in
     rw (← c .before .before .before .before .before .is-no-wind .ensures, c .before .before .before .before .if1 .left, c .wind-of .ensures, c .before .before .before .before .before .before .unit-of .ensures, c .before .before .before .direction-of .ensures, c .before .before .speed-of .ensures, c .before .gust-of .ensures)

@@ -8,13 +8,7 @@ pub wind-of-spec : {M : Type 1} → statement M
 wind-of-spec =
     tie.close
     (tie.spec
-    (λ c. search needs)
-    (λ c. search needs)
-    (λ c. search needs)
-    (λ c. search needs)
-    (λ c. search needs)
-    (λ c. search needs)
-    (λ c κs. tt)
+    (λ c. search needs) (λ c. search needs) (λ c. search needs) (λ c. search needs) (λ c. search needs) (λ c. search needs) (λ c κs. tt)
     (λ c. rw (c .before .d .given .1))
     (λ c. rw (c .before .before .before .before .d2 .given .1, c .before .s .given .1))
     (λ c. rw (c .before .before .before .before .before .before .before .d2 .given .1, c .before .before .before .before .s2 .given .1, c .before .g .given .1))

@@ -11,9 +11,7 @@ pub put-variation-spec : {M : Type 1} → statement M
 put-variation-spec =
     tie.close
     (tie.spec
-    (λ c. search needs)
-    (λ c. search needs)
-    (λ c κs. tt)
+    (λ c. search needs) (λ c. search needs) (λ c κs. tt)
     (λ c. unfold showVariation written in rw (c .enum-told .given .1) (put-none _ _))
     (λ c. search needs)
     (λ c. unfold showVariation in rw (c .before .before .before .before .before .extremes .given .1) (c .before .before .put-extremes .ensures)))

@@ -11,17 +11,8 @@ pub put-visibility-spec : {M : Type 1} → statement M
 put-visibility-spec =
     tie.close
     (tie.spec
-    (λ c κs. tt)
-    (λ c. search needs)
-    (λ c. search needs)
-    (λ c κs. tt)
-    (λ c. search needs)
-    (λ c. search needs)
-    (λ c κs. tt)
-    (λ c. search needs)
-    (λ c κs. tt)
-    (λ c κs. tt)
-    (λ c. search needs)
+    (λ c κs. tt) (λ c. search needs) (λ c. search needs) (λ c κs. tt) (λ c. search needs) (λ c. search needs) (λ c κs. tt) (λ c. search needs)
+    (λ c κs. tt) (λ c κs. tt) (λ c. search needs)
     (λ c. unfold showVisibility in rw (c .before .before .before .before .before .enum-told .given .1) (write-group (c .before .before .before .before .before .before .before .before .before .open-group .ensures) (c .before .before .put-text .ensures)))
     (λ c. search needs)
     (λ c. unfold showVisibility in rw (c .before .before .before .before .before .enum-told2 .given .1) (write-group (c .before .before .before .before .before .before .before .before .before .open-group .ensures) (c .before .before .put-text2 .ensures)))

@@ -13,8 +13,6 @@ pub view-figure-spec : {M : Type 1} → statement M
 view-figure-spec =
     tie.close
     (tie.spec
-    (λ c κs. tt)
-    (λ c. search needs)
-    (λ c. search needs)
+    (λ c κs. tt) (λ c. search needs) (λ c. search needs)
     (λ c. figure-told visibility _ (sym (c .before .before .before .visibility-figure .ensures) ∙ c .before .f .given .1))
     (λ c. figure-far _ (omega (arith, figure-beyond visibility _ (sym (c .before .before .visibility-figure .ensures) ∙ c .enum-told .given .1)))))

@@ -26,11 +26,7 @@ is-blank-from-spec =
     tie.close
     (tie.spec Inv μ
     (λ c. refl)
-    (λ c. search needs)
-    (λ c. search needs)
-    (λ c κs. tt)
-    (λ c. search needs)
-    (λ c. search needs)
+    (λ c. search needs) (λ c. search needs) (λ c κs. tt) (λ c. search needs) (λ c. search needs)
     (λ c.
     let d = c .before .before .before .before in
     let s = d .before in

@@ -1,0 +1,4 @@
+pub mod Places
+pub mod Bodies
+pub mod Promises
+pub mod Says

@@ -1,0 +1,275 @@
+-- What a group says, put into the body, is what the place's reading makes of the body.
+-- Assumes nothing.
+use Prim.Native.Nat.{ℕ, _≤_}
+use mathlib.Core.Path.{_≡_, refl, sym, ap, _∙_}
+use mathlib.Core.Bool.{Bool, true, false, cond, not, _&&_, _||_, false≢true}
+use mathlib.Core.List.{List, [], _∷_}
+use lib.ListN.{take, List·getD-eq-default}
+use lib.Dec.{T, eqb}
+use mir.Val.{hasKey}
+use types.Run.{OneOf, hit, miss}
+use denote.Enum.Declared.{tagOf}
+use Rattle.figures.specs.Quote.{bytes}
+use Rattle.text.specs.declared.kinds.Refusal.the-variants as refusal
+use Rattle.shapes.specs.Pattern.{hasPattern}
+use Rattle.shapes.specs.Shape.{hasShape}
+use Rattle.places.specs.Engine.{Group, Read, Good, Bad, Place, nowhere, placeAt}
+use Rattle.record.specs.declared.aerodrome.Weather.{Weather}
+use Rattle.record.specs.declared.aerodrome.Layer.{Layer}
+use Rattle.record.specs.declared.aerodrome.Cover.{Cover}
+use Rattle.record.specs.declared.aerodrome.Sky.{Sky}
+use Rattle.record.specs.declared.aerodrome.Body.{Body}
+use Rattle.record.specs.Body.{setWind, setVisibility, setWeathers, setNsw, setSky}
+use Rattle.record.specs.SilentAerodrome.{isLayers}
+use Rattle.elements.specs.declared.kinds.Said.{Said}
+use Rattle.elements.specs.declared.kinds.Said.the-variants as said
+use Rattle.elements.proofs.kinds.Said as says
+use Rattle.elements.specs.Parts.{agreeing, then}
+use Rattle.elements.specs.Wind.{readWind}
+use Rattle.elements.specs.Visibility.{readVisibility, isCavok}
+use Rattle.elements.specs.Weather.{readWeather, withWeather}
+use Rattle.elements.specs.Sky.{layerShape, readLayer, readAlone, rises, addLayer, withLayer, withAlone, readSky}
+use Rattle.elements.specs.Body.{Terms, besideOthers, readForecast, bodyRow}
+use Rattle.elements.specs.Answers.{asSaid, asWind, asVisibility, unlessWrong, layerSaid, aloneSaid, skySaid}
+use Rattle.elements.proofs.Answers.{said-put}
+use Rattle.body.specs.Said.{unlessRefused, putSaid, withSaid, weatherSaid, isOfBody, Says}
+
+own-as : {A : Type 0} (makes : A → Said) → ((a : A) → isOfBody (makes a) ≡ true) → (x : Read A) → isOfBody (asSaid makes x) ≡ true
+own-as makes own (Good a) = own a
+own-as makes own (Bad f) = refl
+
+own-unless : (agrees : Bool) (x : Said) → isOfBody x ≡ true → isOfBody (unlessWrong agrees x) ≡ true
+own-unless true x own = own
+own-unless false x own = refl
+
+own-weather : (beside : Bool) (x : Read Weather) → isOfBody (weatherSaid beside x) ≡ true
+own-weather true (Good w) = refl
+own-weather false (Good w) = refl
+own-weather beside (Bad f) = refl
+
+own-layer : (cavok : Bool) (k : ℕ) (s : Sky) (x : Read Layer) → isOfBody (layerSaid cavok k s x) ≡ true
+own-layer cavok k s (Good l) = own-unless (not cavok && isLayers (s .cover) && rises (take k (s .layers)) (l .height)) (said.Layer l) refl
+own-layer cavok k s (Bad f) = refl
+
+own-alone : (cavok : Bool) (k : ℕ) (x : Read Cover) → isOfBody (aloneSaid cavok k x) ≡ true
+own-alone cavok k (Good c) = own-unless (not cavok && eqb k 0) (said.Cover c) refl
+own-alone cavok k (Bad f) = refl
+
+module _ (forecast nsw automatic : Bool) (k : ℕ) (g : Group) (b : Body) where
+  pub says-wind : Says forecast nsw automatic 0 k g b (asWind (readWind forecast g))
+  unfolding putSaid
+  says-wind =
+      record {
+        own = own-as said.Wind (λ x. refl) (readWind forecast g);
+        puts = λ required silent. said-put said.Wind (λ x. withSaid k x b) (λ x. setWind x b) (λ x. refl) (λ f. refl) (readWind forecast g);
+      }
+
+  pub says-visibility : Says forecast nsw automatic 1 k g b (asVisibility (readVisibility forecast g))
+  unfolding putSaid
+  says-visibility =
+      record {
+        own = own-as said.Visibility (λ x. refl) (readVisibility forecast g);
+        puts = λ required silent. said-put said.Visibility (λ x. withSaid k x b) (λ x. setVisibility x b) (λ x. refl) (λ f. refl) (readVisibility forecast g);
+      }
+
+  -- NSW, or weather
+  nsw-said : (agrees : Bool) → withSaid k (unlessWrong agrees said.Nsw) b ≡ agreeing agrees (Good (setNsw true b))
+  unfolding putSaid
+  nsw-said true = refl
+  nsw-said false = refl
+
+  weather-said : (x : Read Weather) → withSaid k (weatherSaid (isCavok (b .visibility) || b .nsw) x) b
+      ≡ then (besideOthers b x) (λ w. Good (setWeathers (withWeather k (b .weathers) w) b))
+  unfolding putSaid
+  weather-said (Bad f) = refl
+  weather-said (Good w) = go (isCavok (b .visibility)) (b .nsw)
+    where
+      go : (c n : Bool) → withSaid k (cond (c || n) (said.Refused refusal.Disagreement) (said.Weather w)) b
+          ≡ then (agreeing (not c && not n) (Good w)) (λ w. Good (setWeathers (withWeather k (b .weathers) w) b))
+      go true n = refl
+      go false true = refl
+      go false false = refl
+
+  abbrev terms : Bool → Bool → Terms
+  terms required silent = record { forecast = forecast; required = required; nsw = nsw; automatic = automatic; silent = silent }
+
+  abbrev stands : Bool
+  stands = nsw && eqb k 0 && not (isCavok (b .visibility))
+
+  pub says-nsw : (forecast && hasPattern g (bytes "NSW")) ≡ true → Says forecast nsw automatic 2 k g b (unlessWrong stands said.Nsw)
+  unfolding readForecast
+  says-nsw is = record { own = own-unless stands said.Nsw refl; puts = λ required silent. rw is (nsw-said stands) }
+
+  pub says-weather : (forecast && hasPattern g (bytes "NSW")) ≡ false
+      → Says forecast nsw automatic 2 k g b (weatherSaid (isCavok (b .visibility) || b .nsw) (readWeather forecast automatic g))
+  unfolding readForecast
+  says-weather is =
+      record {
+        own = own-weather (isCavok (b .visibility) || b .nsw) (readWeather forecast automatic g);
+        puts = λ required silent. rw is (weather-said (readWeather forecast automatic g));
+      }
+
+  -- clouds
+  layer-said : (x : Read Layer) → withSaid k (layerSaid (isCavok (b .visibility)) k (b .sky) x) b
+      ≡ then (then x (withLayer (isCavok (b .visibility)) k (b .sky))) (λ s. Good (setSky s b))
+  unfolding putSaid
+  layer-said (Bad f) = refl
+  layer-said (Good l) = go (not (isCavok (b .visibility)) && isLayers (b .sky .cover) && rises (take k (b .sky .layers)) (l .height))
+    where
+      go : (a : Bool) → withSaid k (unlessWrong a (said.Layer l)) b ≡ then (agreeing a (Good (addLayer k (b .sky) l))) (λ s. Good (setSky s b))
+      go true = refl
+      go false = refl
+
+  alone-said : (x : Read Cover) → withSaid k (aloneSaid (isCavok (b .visibility)) k x) b
+      ≡ then (then x (withAlone (isCavok (b .visibility)) k (b .sky))) (λ s. Good (setSky s b))
+  unfolding putSaid
+  alone-said (Bad f) = refl
+  alone-said (Good c) = go (not (isCavok (b .visibility)) && eqb k 0)
+    where
+      go : (a : Bool) → withSaid k (unlessWrong a (said.Cover c)) b
+          ≡ then (agreeing a (Good (record { cover = c; layers = b .sky .layers; count = 0 }))) (λ s. Good (setSky s b))
+      go true = refl
+      go false = refl
+
+  abbrev cavok : Bool
+  cavok = isCavok (b .visibility)
+
+  pub says-sky : Says forecast nsw automatic 3 k g b (skySaid forecast cavok k g (b .sky))
+  unfolding skySaid readSky
+  says-sky = record { own = mine (hasShape layerShape g); puts = λ required silent. go (hasShape layerShape g) }
+    where
+      mine : (h : Bool) → isOfBody (cond h (layerSaid cavok k (b .sky) (readLayer forecast g)) (aloneSaid cavok k (readAlone forecast g))) ≡ true
+      mine true = own-layer cavok k (b .sky) (readLayer forecast g)
+      mine false = own-alone cavok k (readAlone forecast g)
+
+      go : (h : Bool) → withSaid k (cond h (layerSaid cavok k (b .sky) (readLayer forecast g)) (aloneSaid cavok k (readAlone forecast g))) b
+          ≡ then (cond h (then (readLayer forecast g) (withLayer cavok k (b .sky))) (then (readAlone forecast g) (withAlone cavok k (b .sky)))) (λ s. Good (setSky s b))
+      go true = layer-said (readLayer forecast g)
+      go false = alone-said (readAlone forecast g)
+
+  -- past the row no group is taken
+  pub says-nothing : (i : ℕ) → 4 ≤ i → Says forecast nsw automatic i k g b (said.Refused refusal.Shape)
+  says-nothing i h =
+      record {
+        own = refl;
+        puts = λ required silent. ap (λ (p : Place Body). p .read k g b) (sym (List·getD-eq-default (bodyRow (terms required silent)) nowhere h));
+      }
+
+-- a place by its number
+pub says-at : (forecast nsw automatic : Bool) (j k : ℕ) (g : Group) (b : Body) {i : ℕ} {x y : Said} → i ≡ j → x ≡ y → Says forecast nsw automatic j k g b y
+    → Says forecast nsw automatic i k g b x
+says-at forecast nsw automatic j k g b p q s = rw (p, q) s
+
+-- what is no part of the body leaves it as it is, and so does a refusal
+abbrev elsewhere : List ℕ
+elsewhere = 0 ∷ 1 ∷ 2 ∷ 3 ∷ 4 ∷ 5 ∷ 6 ∷ 7 ∷ 8 ∷ 10 ∷ 12 ∷ 17 ∷ 18 ∷ 19 ∷ 20 ∷ 21 ∷ []
+
+pub others : (k : ℕ) (x : Said) → OneOf elsewhere (tagOf says.the-type x) → (b : Body) → b ≡ putSaid k x b
+unfolding putSaid
+others k (said.Wind x) told b = absurd (miss elsewhere 9 tt told)
+others k (said.Visibility x) told b = absurd (miss elsewhere 11 tt told)
+others k (said.Weather x) told b = absurd (miss elsewhere 13 tt told)
+others k said.Nsw told b = absurd (miss elsewhere 14 tt told)
+others k (said.Layer x) told b = absurd (miss elsewhere 15 tt told)
+others k (said.Cover x) told b = absurd (miss elsewhere 16 tt told)
+others k (said.Special x) told b = refl
+others k said.Corrected told b = refl
+others k (said.Correction x) told b = refl
+others k said.Station told b = refl
+others k (said.Time x) told b = refl
+others k said.Nil told b = refl
+others k said.Automatic told b = refl
+others k (said.Period x) told b = refl
+others k said.Cancelled told b = refl
+others k (said.Variation x) told b = refl
+others k (said.Runway x) told b = refl
+others k (said.Temperatures x) told b = refl
+others k (said.Qnh x) told b = refl
+others k (said.Recent x) told b = refl
+others k said.Nothing told b = refl
+others k (said.Refused f) told b = refl
+
+-- by what the group was found to say
+pub put-by : (k : ℕ) (b : Body) {x y : Said} → x ≡ y → putSaid k y b ≡ putSaid k x b
+put-by k b q = rw q
+
+-- what is no refusal is put
+abbrev pub said-fine : List ℕ
+said-fine = 0 ∷ 1 ∷ 2 ∷ 3 ∷ 4 ∷ 5 ∷ 6 ∷ 7 ∷ 8 ∷ 9 ∷ 10 ∷ 11 ∷ 12 ∷ 13 ∷ 14 ∷ 15 ∷ 16 ∷ 17 ∷ 18 ∷ 19 ∷ 20 ∷ []
+
+pub not-refused : {R : Type 0} (r : R) (x : Said) → OneOf said-fine (tagOf says.the-type x) → unlessRefused x r ≡ Good r
+not-refused r (said.Special x) told = refl
+not-refused r said.Corrected told = refl
+not-refused r (said.Correction x) told = refl
+not-refused r said.Station told = refl
+not-refused r (said.Time x) told = refl
+not-refused r said.Nil told = refl
+not-refused r said.Automatic told = refl
+not-refused r (said.Period x) told = refl
+not-refused r said.Cancelled told = refl
+not-refused r (said.Wind x) told = refl
+not-refused r (said.Variation x) told = refl
+not-refused r (said.Visibility x) told = refl
+not-refused r (said.Runway x) told = refl
+not-refused r (said.Weather x) told = refl
+not-refused r said.Nsw told = refl
+not-refused r (said.Layer x) told = refl
+not-refused r (said.Cover x) told = refl
+not-refused r (said.Temperatures x) told = refl
+not-refused r (said.Qnh x) told = refl
+not-refused r (said.Recent x) told = refl
+not-refused r said.Nothing told = refl
+not-refused r (said.Refused f) told = absurd (miss said-fine 21 tt told)
+
+-- ---- a record that holds the body, as every kind has it
+
+-- what is said, put into a part of a record, is so put into the record
+pub unless-then : {B R : Type 0} (h : B → R) (b : B) (x : Said) → unlessRefused x (h b) ≡ then (unlessRefused x b) (λ b. Good (h b))
+unless-then h b (said.Special x) = refl
+unless-then h b said.Corrected = refl
+unless-then h b (said.Correction x) = refl
+unless-then h b said.Station = refl
+unless-then h b (said.Time x) = refl
+unless-then h b said.Nil = refl
+unless-then h b said.Automatic = refl
+unless-then h b (said.Period x) = refl
+unless-then h b said.Cancelled = refl
+unless-then h b (said.Wind x) = refl
+unless-then h b (said.Variation x) = refl
+unless-then h b (said.Visibility x) = refl
+unless-then h b (said.Runway x) = refl
+unless-then h b (said.Weather x) = refl
+unless-then h b said.Nsw = refl
+unless-then h b (said.Layer x) = refl
+unless-then h b (said.Cover x) = refl
+unless-then h b (said.Temperatures x) = refl
+unless-then h b (said.Qnh x) = refl
+unless-then h b (said.Recent x) = refl
+unless-then h b said.Nothing = refl
+unless-then h b (said.Refused f) = refl
+
+-- what is of the body, or a refusal, by its tag
+pub tag-in : (ks : List ℕ) → T (hasKey ks 9) → T (hasKey ks 11) → T (hasKey ks 13) → T (hasKey ks 14) → T (hasKey ks 15) → T (hasKey ks 16) → T (hasKey ks 21) → (x : Said) → isOfBody x ≡ true
+    → OneOf ks (tagOf says.the-type x)
+tag-in ks wind view weather nsw layer cover bad (said.Special x) own = absurd (false≢true own)
+tag-in ks wind view weather nsw layer cover bad said.Corrected own = absurd (false≢true own)
+tag-in ks wind view weather nsw layer cover bad (said.Correction x) own = absurd (false≢true own)
+tag-in ks wind view weather nsw layer cover bad said.Station own = absurd (false≢true own)
+tag-in ks wind view weather nsw layer cover bad (said.Time x) own = absurd (false≢true own)
+tag-in ks wind view weather nsw layer cover bad said.Nil own = absurd (false≢true own)
+tag-in ks wind view weather nsw layer cover bad said.Automatic own = absurd (false≢true own)
+tag-in ks wind view weather nsw layer cover bad (said.Period x) own = absurd (false≢true own)
+tag-in ks wind view weather nsw layer cover bad said.Cancelled own = absurd (false≢true own)
+tag-in ks wind view weather nsw layer cover bad (said.Wind x) own = hit ks 9 wind
+tag-in ks wind view weather nsw layer cover bad (said.Variation x) own = absurd (false≢true own)
+tag-in ks wind view weather nsw layer cover bad (said.Visibility x) own = hit ks 11 view
+tag-in ks wind view weather nsw layer cover bad (said.Runway x) own = absurd (false≢true own)
+tag-in ks wind view weather nsw layer cover bad (said.Weather x) own = hit ks 13 weather
+tag-in ks wind view weather nsw layer cover bad said.Nsw own = hit ks 14 nsw
+tag-in ks wind view weather nsw layer cover bad (said.Layer x) own = hit ks 15 layer
+tag-in ks wind view weather nsw layer cover bad (said.Cover x) own = hit ks 16 cover
+tag-in ks wind view weather nsw layer cover bad (said.Temperatures x) own = absurd (false≢true own)
+tag-in ks wind view weather nsw layer cover bad (said.Qnh x) own = absurd (false≢true own)
+tag-in ks wind view weather nsw layer cover bad (said.Recent x) own = absurd (false≢true own)
+tag-in ks wind view weather nsw layer cover bad said.Nothing own = absurd (false≢true own)
+tag-in ks wind view weather nsw layer cover bad (said.Refused f) own = hit ks 21 bad

@@ -1,0 +1,17 @@
+-- `taf_write::judge::opening_fits` meets its contract, case by case.
+-- Assumes nothing.
+use borrow.Author.Needs.{needs}
+use Rattle.taf_write.proofs.judge.opening_fits.Statement.{statement}
+use Rattle.taf_write.proofs.judge.opening_fits.Tie as tie
+
+pub opening-fits-spec : {M : Type 1} → statement M
+opening-fits-spec =
+    tie.close
+    (tie.spec
+    (λ c. search needs) (λ c. search needs) (λ c κs. tt) (λ c. search needs) (λ c κs. tt) (λ c. search needs) (λ c κs. tt) (λ c. search needs)
+    (λ c κs. tt) (λ c. search needs) (λ c κs. tt) (λ c κs. tt) (λ c. search needs)
+    (λ c. rw (c .before .enum-told2 .given .1, c .period-fits .ensures))
+    (λ c. rw (c .before .enum-told3 .given .1, c .period-fits2 .ensures))
+    (λ c. rw (c .before .before .o .given .1, c .period-fits3 .ensures))
+    (λ c. rw (c .before .before .o2 .given .1, c .period-fits4 .ensures))
+    (λ c. rw (c .before .before .enum-told4 .given .1, c .before .instant-fits .ensures, c .is-blank .ensures)))
