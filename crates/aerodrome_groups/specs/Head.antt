@@ -62,8 +62,11 @@ showTime t = fieldText 2 (fieldOf (t .day)) ++ fieldText 2 (fieldOf (t .hour)) +
 unfoldable pub judgeStation : Station → Judged
 judgeStation s = judge (eqb (length (s .letters)) 4 && every isLetter (s .letters)) true
 
+abbrev pub instantFits : Instant → Bool
+instantFits t = present isDay (t .day) && present isHour (t .hour) && present isMinute (t .minute)
+
 unfoldable pub judgeTime : Instant → Judged
-judgeTime t = judge (present isDay (t .day) && present isHour (t .hour) && present isMinute (t .minute)) true
+judgeTime t = judge (instantFits t) true
 
 -- ---- the places
 

@@ -16,7 +16,7 @@ ghost use mathlib.Core.Bool.{false, _&&_};
 ghost use Prim.Native.Nat.{_≤_};
 ghost use lib.ListN.{take};
 ghost use Rattle.elements.specs.Judge.{metresFit};
-ghost use Rattle.aerodrome_groups.specs.Head.{judgeStation, judgeTime};
+ghost use Rattle.aerodrome_groups.specs.Head.{judgeStation, instantFits, judgeTime};
 ghost use Rattle.aerodrome_groups.specs.Runway.{isRunway, judgeEachRunway, judgeRunways};
 ghost use Rattle.aerodrome_groups.specs.Temperatures.{tenthsFit, judgeTemperatures, judgeQnh};
 
@@ -29,16 +29,20 @@ pub fn judge_station(s: Station) -> Judged
     judge(first & last, true)
 }
 
-pub fn judge_time(t: Instant) -> Judged
-    ensures { λ r. ⌜ r ≡ judgeTime t ⌝ }
+// A day, an hour and a minute are there, each in its range.
+pub fn instant_fits(t: Instant) -> bool
+    ensures { λ r. ⌜ r ≡ instantFits t ⌝ }
 {
     let day = t.day;
     let hour = t.hour;
     let minute = t.minute;
-    judge(
-        day.is_between(1, 31) & hour.is_up_to(23) & minute.is_up_to(59),
-        true,
-    )
+    day.is_between(1, 31) & hour.is_up_to(23) & minute.is_up_to(59)
+}
+
+pub fn judge_time(t: Instant) -> Judged
+    ensures { λ r. ⌜ r ≡ judgeTime t ⌝ }
+{
+    judge(instant_fits(t), true)
 }
 
 // ---- runway visual ranges

@@ -29,7 +29,7 @@ use Rattle.elements.specs.Wind.{showWind, judgeWind, classWind}
 use Rattle.elements.specs.Visibility.{isCavok, showVisibility, judgeVisibility, classVisibility}
 use Rattle.elements.specs.Weather.{weatherCover, hasWeather}
 use Rattle.elements.specs.Sky.{judgeSky, classSky}
-use Rattle.elements.specs.Body.{Terms, leftOut, windPlace, visibilityPlace, isNsw, hasForecast, withNsw, bodyRow, unlessAbsent, windJudged, visibilityJudged, weatherJudged, skyJudged, judgeBody, hasElement, classBody}
+use Rattle.elements.specs.Body.{Terms, leftOut, windPlace, visibilityPlace, isNsw, hasWeatherOrNsw, withNsw, bodyRow, unlessAbsent, windJudged, visibilityJudged, weatherJudged, skyJudged, judgeBody, hasElement, classBody}
 use Rattle.elements.proofs.Classed.{cavok-classed, view-classed, cover-classed}
 use Rattle.wind.proofs.RoundTripWind.{wind-covered, wind-again, wind-classed}
 use Rattle.wind.proofs.RoundTripVisibility.{visibility-again, visibility-classed}
@@ -56,9 +56,9 @@ fair-body t b e =
 
 -- ---- the row
 
-forecast-covered : (t : Terms) (g : Group) → hasForecast t g ≡ true → hasAny (withNsw t weatherCover) g ≡ true
+weather-or-nsw-covered : (t : Terms) (g : Group) → hasWeatherOrNsw t g ≡ true → hasAny (withNsw t weatherCover) g ≡ true
 unfolding hasAny
-forecast-covered t g h = or-cases (isNsw t g) (hasWeather g) h (go (t .forecast)) (λ e. with-nsw t weatherCover g (weather-covered g e))
+weather-or-nsw-covered t g h = or-cases (isNsw t g) (hasWeather g) h (go (t .forecast)) (λ e. with-nsw t weatherCover g (weather-covered g e))
   where
     go : (f : Bool) → (f && hasPattern g (bytes "NSW")) ≡ true → hasAny (cond f (bytes "NSW" ∷ weatherCover) weatherCover) g ≡ true
     go true e = rw e
@@ -66,7 +66,7 @@ forecast-covered t g h = or-cases (isNsw t g) (hasWeather g) h (go (t .forecast)
 
 -- WHAT HAS THE SHAPE OF A PLACE FITS THE PATTERNS THAT COVER IT.
 pub body-covered : (t : Terms) → Covered (bodyRow t)
-body-covered t = (wind-covered, ((λ g h. h), (forecast-covered t, (sky-covered, tt))))
+body-covered t = (wind-covered, ((λ g h. h), (weather-or-nsw-covered t, (sky-covered, tt))))
 
 -- the bytes that a group may have at each place
 abbrev pub bodySizes : List ℕ

@@ -35,7 +35,7 @@ use Rattle.elements.specs.Wind.{windShape, showWind, judgeWind, classWind}
 use Rattle.elements.specs.Visibility.{visibilityShapes, isCavok, showVisibility, judgeVisibility, classVisibility}
 use Rattle.elements.specs.Weather.{codesOf, weatherCover, weatherSpoken, hasWeather, hasUnknown, phenomenaFit, readWeather, withWeather, showWeather, showWeathers, judgeWeather, threeFit, judgeWeathers}
 use Rattle.elements.specs.Sky.{layerShape, aloneShapes, hasSky, readSky, showSky, classSky}
-use Rattle.elements.specs.Body.{Terms, leftOut, windPlace, visibilityPlace, isNsw, hasForecast, withNsw, besideOthers, readForecast, showForecast, weatherPlace, skyPlace, unlessAbsent, windJudged, visibilityJudged, nswAgrees, weatherJudged, skyJudged}
+use Rattle.elements.specs.Body.{Terms, leftOut, windPlace, visibilityPlace, isNsw, hasWeatherOrNsw, withNsw, besideOthers, readWeatherOrNsw, showWeatherOrNsw, weatherPlace, skyPlace, unlessAbsent, windJudged, visibilityJudged, nswAgrees, weatherJudged, skyJudged}
 use Rattle.elements.proofs.Fills.{filled, filled-items}
 use Rattle.wind.proofs.RoundTripWind.{wind-shaped, wind-back}
 use Rattle.wind.proofs.RoundTripVisibility.{visibility-shaped, visibility-back}
@@ -53,7 +53,7 @@ pub record Live (t : Terms) : Type 0 where
   -- wind and visibility stand, or what is blank is left out
   pub stands : (t .forecast || t .required) ≡ true
   -- NSW stands only where it is known
-  pub known : t .nsw ≡ true → t .forecast ≡ true
+  pub known : t .mayNsw ≡ true → t .forecast ≡ true
 
 -- what is left out is blank, in a forecast
 pub left-out : (t : Terms) → Live t → (z : Bool) → leftOut t z ≡ true → (t .forecast ≡ true) × (z ≡ true)
@@ -226,7 +226,7 @@ fill-same p q (g ∷ gs) a k acc = rw (a .0 k acc) (go (λ b. fill-same p q gs (
     go rest (Good b) = rest b
     go rest (Bad f) = refl
 
-module _ (t : Terms) (known : t .nsw ≡ true → t .forecast ≡ true) (b acc : Body) (bare : acc .weathers ≡ blankWeathers) (off : acc .nsw ≡ false)
+module _ (t : Terms) (known : t .mayNsw ≡ true → t .forecast ≡ true) (b acc : Body) (bare : acc .weathers ≡ blankWeathers) (off : acc .nsw ≡ false)
     (seen : isCavok (acc .visibility) ≡ isCavok (b .visibility)) (three : length (b .weathers .items) ≡ 3) where
   abbrev stood : Bool
   stood = isCavok (b .visibility) || b .nsw
@@ -241,14 +241,14 @@ module _ (t : Terms) (known : t .nsw ≡ true → t .forecast ≡ true) (b acc :
   abbrev alone : Place Body
   alone =
       record {
-        has = hasForecast t;
+        has = hasWeatherOrNsw t;
         cover = [];
         spoken = [];
         most = 3;
         must = false;
         ends = false;
         read = λ k g b. then (besideOthers b (readWeather (t .forecast) (t .automatic) g)) (λ x. Good (setWeathers (withWeather k (b .weathers) x) b));
-        show = showForecast;
+        show = showWeatherOrNsw;
         put = λ b acc. acc;
       }
 
@@ -263,7 +263,7 @@ module _ (t : Terms) (known : t .nsw ≡ true → t .forecast ≡ true) (b acc :
       rw (weather-back (t .forecast) (t .automatic) stood x h, seen, free .0, off)
 
   weathers-filled : judgeWeathers test (b .weathers) ≡ judged.Fine → fill (weatherPlace t) 0 (showWeathers (b .weathers)) acc ≡ Good (setWeathers (b .weathers) acc)
-  unfolding showWeathers readForecast
+  unfolding showWeathers readWeatherOrNsw
   weathers-filled e =
       fill-same (weatherPlace t) alone (showWeathers (b .weathers))
       (weathers-all showWeather test (b .weathers) e (λ g. (k : ℕ) (q : Body) → weatherPlace t .read k g q ≡ alone .read k g q)
@@ -278,7 +278,7 @@ module _ (t : Terms) (known : t .nsw ≡ true → t .forecast ≡ true) (b acc :
   kept-weathers none e =
       keep-each refl
       (rw none
-      (weathers-all showWeather test (b .weathers) e (λ g. (hasForecast t g ≡ true) × (hasAny (withNsw t weatherSpoken) g ≡ true))
+      (weathers-all showWeather test (b .weathers) e (λ g. (hasWeatherOrNsw t g ≡ true) × (hasAny (withNsw t weatherSpoken) g ≡ true))
       (λ x h.
       (or-right (isNsw t (showWeather x)) (hasWeather (showWeather x)) (weather-shaped (t .forecast) (t .automatic) stood x h), with-nsw t weatherSpoken (showWeather x) (weather-spoken (t .forecast) (t .automatic) stood x h)))))
       (rw none
@@ -287,9 +287,9 @@ module _ (t : Terms) (known : t .nsw ≡ true → t .forecast ≡ true) (b acc :
       (rw none (weathers-three showWeather test (b .weathers) e three))
       (rw none (weathers-filled e ∙ ap Good (sym (set-nsw false (setWeathers (b .weathers) acc) off))))
 
-  kept-nsw : b .nsw ≡ true → t .nsw ≡ true → isCavok (b .visibility) ≡ false → judgeWeathers (judgeWeather (t .forecast) (t .automatic) true) (b .weathers) ≡ judged.Fine
+  kept-nsw : b .nsw ≡ true → t .mayNsw ≡ true → isCavok (b .visibility) ≡ false → judgeWeathers (judgeWeather (t .forecast) (t .automatic) true) (b .weathers) ≡ judged.Fine
       → Kept (weatherPlace t) 9 b acc
-  unfolding readForecast hasAny hasPattern fits low high
+  unfolding readWeatherOrNsw hasAny hasPattern fits low high
   kept-nsw is may sky e =
       let none = none-beside (t .forecast) (t .automatic) (b .weathers) three e in
       let f = known may in
@@ -312,5 +312,5 @@ module _ (t : Terms) (known : t .nsw ≡ true → t .forecast ≡ true) (b acc :
       go false n = kept-weathers n (weather-judged e .1)
       go true n =
           let j = weather-judged e in
-          let a = both (t .nsw) (not (isCavok (b .visibility))) (rw n at (j .0)) in
+          let a = both (t .mayNsw) (not (isCavok (b .visibility))) (rw n at (j .0)) in
           kept-nsw n (a .0) (not-true (isCavok (b .visibility)) (a .1)) (rw (n, or-true (isCavok (b .visibility))) at (j .1))

@@ -29,7 +29,7 @@ use Rattle.elements.specs.Wind.{readWind}
 use Rattle.elements.specs.Visibility.{readVisibility, isCavok}
 use Rattle.elements.specs.Weather.{readWeather, withWeather}
 use Rattle.elements.specs.Sky.{layerShape, readLayer, readAlone, rises, addLayer, withLayer, withAlone, readSky}
-use Rattle.elements.specs.Body.{Terms, besideOthers, readForecast, bodyRow}
+use Rattle.elements.specs.Body.{Terms, besideOthers, readWeatherOrNsw, bodyRow}
 use Rattle.elements.specs.Answers.{asSaid, asWind, asVisibility, unlessWrong, layerSaid, aloneSaid, skySaid}
 use Rattle.elements.proofs.Answers.{said-put}
 use Rattle.body.specs.Said.{unlessRefused, putSaid, withSaid, weatherSaid, isOfBody, Says}
@@ -55,8 +55,8 @@ own-alone : (cavok : Bool) (k : ℕ) (x : Read Cover) → isOfBody (aloneSaid ca
 own-alone cavok k (Good c) = own-unless (not cavok && eqb k 0) (said.Cover c) refl
 own-alone cavok k (Bad f) = refl
 
-module _ (forecast nsw automatic : Bool) (k : ℕ) (g : Group) (b : Body) where
-  pub says-wind : Says forecast nsw automatic 0 k g b (asWind (readWind forecast g))
+module _ (forecast may automatic : Bool) (k : ℕ) (g : Group) (b : Body) where
+  pub says-wind : Says forecast may automatic 0 k g b (asWind (readWind forecast g))
   unfolding putSaid
   says-wind =
       record {
@@ -64,7 +64,7 @@ module _ (forecast nsw automatic : Bool) (k : ℕ) (g : Group) (b : Body) where
         puts = λ required silent. said-put said.Wind (λ x. withSaid k x b) (λ x. setWind x b) (λ x. refl) (λ f. refl) (readWind forecast g);
       }
 
-  pub says-visibility : Says forecast nsw automatic 1 k g b (asVisibility (readVisibility forecast g))
+  pub says-visibility : Says forecast may automatic 1 k g b (asVisibility (readVisibility forecast g))
   unfolding putSaid
   says-visibility =
       record {
@@ -91,18 +91,18 @@ module _ (forecast nsw automatic : Bool) (k : ℕ) (g : Group) (b : Body) where
       go false false = refl
 
   abbrev terms : Bool → Bool → Terms
-  terms required silent = record { forecast = forecast; required = required; nsw = nsw; automatic = automatic; silent = silent }
+  terms required silent = record { forecast = forecast; required = required; mayNsw = may; automatic = automatic; silent = silent }
 
   abbrev stands : Bool
-  stands = nsw && eqb k 0 && not (isCavok (b .visibility))
+  stands = may && eqb k 0 && not (isCavok (b .visibility))
 
-  pub says-nsw : (forecast && hasPattern g (bytes "NSW")) ≡ true → Says forecast nsw automatic 2 k g b (unlessWrong stands said.Nsw)
-  unfolding readForecast
+  pub says-nsw : (forecast && hasPattern g (bytes "NSW")) ≡ true → Says forecast may automatic 2 k g b (unlessWrong stands said.Nsw)
+  unfolding readWeatherOrNsw
   says-nsw is = record { own = own-unless stands said.Nsw refl; puts = λ required silent. rw is (nsw-said stands) }
 
   pub says-weather : (forecast && hasPattern g (bytes "NSW")) ≡ false
-      → Says forecast nsw automatic 2 k g b (weatherSaid (isCavok (b .visibility) || b .nsw) (readWeather forecast automatic g))
-  unfolding readForecast
+      → Says forecast may automatic 2 k g b (weatherSaid (isCavok (b .visibility) || b .nsw) (readWeather forecast automatic g))
+  unfolding readWeatherOrNsw
   says-weather is =
       record {
         own = own-weather (isCavok (b .visibility) || b .nsw) (readWeather forecast automatic g);
@@ -134,7 +134,7 @@ module _ (forecast nsw automatic : Bool) (k : ℕ) (g : Group) (b : Body) where
   abbrev cavok : Bool
   cavok = isCavok (b .visibility)
 
-  pub says-sky : Says forecast nsw automatic 3 k g b (skySaid forecast cavok k g (b .sky))
+  pub says-sky : Says forecast may automatic 3 k g b (skySaid forecast cavok k g (b .sky))
   unfolding skySaid readSky
   says-sky = record { own = mine (hasShape layerShape g); puts = λ required silent. go (hasShape layerShape g) }
     where
@@ -148,7 +148,7 @@ module _ (forecast nsw automatic : Bool) (k : ℕ) (g : Group) (b : Body) where
       go false = alone-said (readAlone forecast g)
 
   -- past the row no group is taken
-  pub says-nothing : (i : ℕ) → 4 ≤ i → Says forecast nsw automatic i k g b (said.Refused refusal.Shape)
+  pub says-nothing : (i : ℕ) → 4 ≤ i → Says forecast may automatic i k g b (said.Refused refusal.Shape)
   says-nothing i h =
       record {
         own = refl;
@@ -156,9 +156,9 @@ module _ (forecast nsw automatic : Bool) (k : ℕ) (g : Group) (b : Body) where
       }
 
 -- a place by its number
-pub says-at : (forecast nsw automatic : Bool) (j k : ℕ) (g : Group) (b : Body) {i : ℕ} {x y : Said} → i ≡ j → x ≡ y → Says forecast nsw automatic j k g b y
-    → Says forecast nsw automatic i k g b x
-says-at forecast nsw automatic j k g b p q s = rw (p, q) s
+pub says-at : (forecast may automatic : Bool) (j k : ℕ) (g : Group) (b : Body) {i : ℕ} {x y : Said} → i ≡ j → x ≡ y → Says forecast may automatic j k g b y
+    → Says forecast may automatic i k g b x
+says-at forecast may automatic j k g b p q s = rw (p, q) s
 
 -- what is no part of the body leaves it as it is, and so does a refusal
 abbrev elsewhere : List ℕ

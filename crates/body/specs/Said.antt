@@ -99,7 +99,7 @@ isOfBody (said.Refused f) = true
 
 -- A group at place i of the body's row, where k groups stand, says this. Whether wind and visibility must stand and whether anything is written have no
 -- part in reading.
-pub record Says (forecast nsw automatic : Bool) (i k : ℕ) (g : Group) (b : Body) (x : Said) : Type 0 where
+pub record Says (forecast may automatic : Bool) (i k : ℕ) (g : Group) (b : Body) (x : Said) : Type 0 where
   pub own : isOfBody x ≡ true
   pub puts : (required silent : Bool)
-      → withSaid k x b ≡ placeAt (bodyRow (record { forecast = forecast; required = required; nsw = nsw; automatic = automatic; silent = silent })) i .read k g b
+      → withSaid k x b ≡ placeAt (bodyRow (record { forecast = forecast; required = required; mayNsw = may; automatic = automatic; silent = silent })) i .read k g b

@@ -22,14 +22,14 @@ fn unless_absent(required: bool, absent: bool, j: Judged) -> Judged
 }
 
 pub fn wind_judged(forecast: bool, required: bool, b: Body) -> Judged
-    ensures { λ j. ⌜ ((nsw automatic silent : Bool) → j ≡ windJudged (record { forecast = forecast; required = required; nsw = nsw; automatic = automatic; silent = silent }) b) ⌝ }
+    ensures { λ j. ⌜ ((may automatic silent : Bool) → j ≡ windJudged (record { forecast = forecast; required = required; mayNsw = may; automatic = automatic; silent = silent }) b) ⌝ }
 {
     let wind = b.wind;
     unless_absent(required, wind.is_blank(), judge_wind(forecast, wind))
 }
 
 pub fn visibility_judged(forecast: bool, required: bool, b: Body) -> Judged
-    ensures { λ j. ⌜ ((nsw automatic silent : Bool) → j ≡ visibilityJudged (record { forecast = forecast; required = required; nsw = nsw; automatic = automatic; silent = silent }) b) ⌝ }
+    ensures { λ j. ⌜ ((may automatic silent : Bool) → j ≡ visibilityJudged (record { forecast = forecast; required = required; mayNsw = may; automatic = automatic; silent = silent }) b) ⌝ }
 {
     let visibility = b.visibility;
     let view = visibility.is;
@@ -42,7 +42,7 @@ pub fn visibility_judged(forecast: bool, required: bool, b: Body) -> Judged
 
 // NSW where it may stand, and not beside CAVOK; then the weathers, beside neither.
 pub fn weather_judged(forecast: bool, may: bool, automatic: bool, b: Body) -> Judged
-    ensures { λ j. ⌜ ((required silent : Bool) → j ≡ weatherJudged (record { forecast = forecast; required = required; nsw = may; automatic = automatic; silent = silent }) b) ⌝ }
+    ensures { λ j. ⌜ ((required silent : Bool) → j ≡ weatherJudged (record { forecast = forecast; required = required; mayNsw = may; automatic = automatic; silent = silent }) b) ⌝ }
 {
     let visibility = b.visibility;
     let weathers = b.weathers;
@@ -56,7 +56,7 @@ pub fn weather_judged(forecast: bool, may: bool, automatic: bool, b: Body) -> Ju
 }
 
 pub fn sky_judged(forecast: bool, b: Body) -> Judged
-    ensures { λ j. ⌜ ((required nsw automatic silent : Bool) → j ≡ skyJudged (record { forecast = forecast; required = required; nsw = nsw; automatic = automatic; silent = silent }) b) ⌝ }
+    ensures { λ j. ⌜ ((required may automatic silent : Bool) → j ≡ skyJudged (record { forecast = forecast; required = required; mayNsw = may; automatic = automatic; silent = silent }) b) ⌝ }
 {
     let visibility = b.visibility;
     let sky = b.sky;
@@ -65,7 +65,7 @@ pub fn sky_judged(forecast: bool, b: Body) -> Judged
 
 // The elements in written order.
 pub fn judge_body(forecast: bool, required: bool, may: bool, automatic: bool, b: Body) -> Judged
-    ensures { λ j. ⌜ ((silent : Bool) → j ≡ judgeBody (record { forecast = forecast; required = required; nsw = may; automatic = automatic; silent = silent }) b) ⌝ }
+    ensures { λ j. ⌜ ((silent : Bool) → j ≡ judgeBody (record { forecast = forecast; required = required; mayNsw = may; automatic = automatic; silent = silent }) b) ⌝ }
 {
     let weather = weather_judged(forecast, may, automatic, b);
     let from_weather = and_then(weather, sky_judged(forecast, b));

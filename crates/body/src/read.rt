@@ -52,7 +52,14 @@ fn say_weather(forecast: bool, automatic: bool, beside: bool, g: &[u8]) -> Said
 }
 
 // Weather, or in a forecast NSW.
-fn say_forecast(forecast: bool, may: bool, automatic: bool, count: usize, g: &[u8], b: Body) -> Said
+fn say_weather_or_nsw(
+    forecast: bool,
+    may: bool,
+    automatic: bool,
+    count: usize,
+    g: &[u8],
+    b: Body,
+) -> Said
     ensures { λ r. ⌜ Says forecast may automatic 2 count (now (g .entry)) b r ⌝ }
 {
     let visibility = b.visibility;
@@ -80,7 +87,7 @@ pub fn say(
     match place {
         0 => read_wind(forecast, g),
         1 => read_visibility(forecast, g),
-        2 => say_forecast(forecast, may, automatic, count, g, b),
+        2 => say_weather_or_nsw(forecast, may, automatic, count, g, b),
         3 => {
             let visibility = b.visibility;
             let cavok = is_cavok(visibility);

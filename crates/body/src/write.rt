@@ -14,7 +14,7 @@ ghost use Rattle.text.specs.Groups.{written};
 ghost use Rattle.places.specs.Engine.{written as groupsAt};
 ghost use Rattle.elements.specs.Wind.{showWind};
 ghost use Rattle.elements.specs.Visibility.{showVisibility};
-ghost use Rattle.elements.specs.Body.{showForecast, bodyRow};
+ghost use Rattle.elements.specs.Body.{showWeatherOrNsw, bodyRow};
 
 // A wind, unless it is left out.
 pub fn put_wind_unless(out: &mut [u8], at: usize, left: bool, w: Wind) -> usize
@@ -31,8 +31,8 @@ pub fn put_visibility_unless(out: &mut [u8], at: usize, left: bool, v: Visibilit
 }
 
 // NSW, and the weathers.
-pub fn put_forecast(out: &mut [u8], at: usize, b: Body) -> usize
-    ensures { λ n. ⌜ Put (now (out .entry)) at (written at (showForecast b)) n (now (out .exit)) ⌝ }
+pub fn put_weather_or_nsw(out: &mut [u8], at: usize, b: Body) -> usize
+    ensures { λ n. ⌜ Put (now (out .entry)) at (written at (showWeatherOrNsw b)) n (now (out .exit)) ⌝ }
 {
     let nsw = b.nsw;
     let weathers = b.weathers;
@@ -42,7 +42,7 @@ pub fn put_forecast(out: &mut [u8], at: usize, b: Body) -> usize
 
 // The body of a forecast: what is blank of it is not written.
 pub fn put_body(out: &mut [u8], at: usize, b: Body) -> usize
-    ensures { λ n. ⌜ ((required nsw automatic silent : Bool) → Put (now (out .entry)) at (written at (groupsAt (bodyRow (record { forecast = true; required = required; nsw = nsw; automatic = automatic; silent = silent })) b)) n (now (out .exit))) ⌝ }
+    ensures { λ n. ⌜ ((required may automatic silent : Bool) → Put (now (out .entry)) at (written at (groupsAt (bodyRow (record { forecast = true; required = required; mayNsw = may; automatic = automatic; silent = silent })) b)) n (now (out .exit))) ⌝ }
 {
     let wind = b.wind;
     let visibility = b.visibility;
@@ -50,6 +50,6 @@ pub fn put_body(out: &mut [u8], at: usize, b: Body) -> usize
     let sky = b.sky;
     let blown = put_wind_unless(out, at, wind.is_blank(), wind);
     let seen = put_visibility_unless(out, blown, view.is_missing(), visibility);
-    let weathered = put_forecast(out, seen, b);
+    let weathered = put_weather_or_nsw(out, seen, b);
     put_sky(out, weathered, sky)
 }

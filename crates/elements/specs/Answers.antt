@@ -1,9 +1,7 @@
 -- What the functions that read a group answer: the definition's reading, as what the group says; and of weather and clouds the parts of it.
 -- Assumes nothing: these are definitions.
 use Prim.Native.Nat.{ℕ}
-use mathlib.Core.Bool.{Bool, cond, not, _&&_}
-use lib.ListN.{take}
-use lib.Dec.{eqb}
+use mathlib.Core.Bool.{Bool, cond}
 use Rattle.text.specs.declared.kinds.Refusal.the-variants as refusal
 use Rattle.shapes.specs.Shape.{hasShape}
 use Rattle.places.specs.Engine.{Group, Read, Good, Bad}
@@ -19,7 +17,6 @@ use Rattle.record.specs.declared.aerodrome.Period.{Period}
 use Rattle.record.specs.declared.aerodrome.Runway.{Runway}
 use Rattle.record.specs.declared.aerodrome.Temperatures.{Temperatures}
 use Rattle.record.specs.declared.aerodrome.Qnh.{Qnh}
-use Rattle.record.specs.SilentAerodrome.{isLayers}
 use Rattle.elements.specs.declared.kinds.Said.{Said}
 use Rattle.elements.specs.declared.kinds.Said.the-variants as said
 use Rattle.elements.specs.declared.kinds.WeatherRead.{WeatherRead}
@@ -28,7 +25,7 @@ use Rattle.elements.specs.declared.kinds.LayerRead.{LayerRead}
 use Rattle.elements.specs.declared.kinds.LayerRead.the-variants as layer
 use Rattle.elements.specs.declared.kinds.CoverRead.{CoverRead}
 use Rattle.elements.specs.declared.kinds.CoverRead.the-variants as cover
-use Rattle.elements.specs.Sky.{layerShape, readLayer, readAlone, rises}
+use Rattle.elements.specs.Sky.{layerShape, readLayer, readAlone, layerAgrees, aloneAgrees}
 
 -- a value as what its group says, or the group's refusal
 abbrev pub asSaid : {A : Type 0} → (A → Said) → Read A → Said
@@ -77,11 +74,11 @@ abbrev pub unlessWrong : Bool → Said → Said
 unlessWrong agrees x = cond agrees x (said.Refused refusal.Disagreement)
 
 abbrev pub layerSaid : Bool → ℕ → Sky → Read Layer → Said
-layerSaid cavok k s (Good l) = unlessWrong (not cavok && isLayers (s .cover) && rises (take k (s .layers)) (l .height)) (said.Layer l)
+layerSaid cavok k s (Good l) = unlessWrong (layerAgrees cavok k s l) (said.Layer l)
 layerSaid cavok k s (Bad f) = said.Refused f
 
 abbrev pub aloneSaid : Bool → ℕ → Read Cover → Said
-aloneSaid cavok k (Good c) = unlessWrong (not cavok && eqb k 0) (said.Cover c)
+aloneSaid cavok k (Good c) = unlessWrong (aloneAgrees cavok k) (said.Cover c)
 aloneSaid cavok k (Bad f) = said.Refused f
 
 unfoldable pub skySaid : Bool → Bool → ℕ → Group → Sky → Said

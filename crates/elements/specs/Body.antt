@@ -30,7 +30,7 @@ pub record Terms : Type 0 where
   -- wind and visibility must stand
   pub required : Bool
   -- NSW may stand, "only in change bodies (else 7)"
-  pub nsw : Bool
+  pub mayNsw : Bool
   -- UP may stand: "UP without AUTO is 7."
   pub automatic : Bool
   -- nothing is written, in a NIL report
@@ -75,8 +75,8 @@ visibilityPlace t =
 abbrev pub isNsw : Terms → Group → Bool
 isNsw t g = t .forecast && hasPattern g (bytes "NSW")
 
-abbrev pub hasForecast : Terms → Group → Bool
-hasForecast t g = isNsw t g || hasWeather g
+abbrev pub hasWeatherOrNsw : Terms → Group → Bool
+hasWeatherOrNsw t g = isNsw t g || hasWeather g
 
 -- NSW before the patterns of weather, where it is known
 abbrev pub withNsw : Terms → List Pattern → List Pattern
@@ -89,27 +89,27 @@ besideOthers b (Bad f) = Bad f
 
 -- where it is allowed, before any weather, not beside CAVOK
 abbrev pub nswStands : Terms → ℕ → Visibility → Bool
-nswStands t k v = t .nsw && eqb k 0 && not (isCavok v)
+nswStands t k v = t .mayNsw && eqb k 0 && not (isCavok v)
 
-unfoldable pub readForecast : Terms → ℕ → Group → Body → Read Body
-readForecast t k g b =
+unfoldable pub readWeatherOrNsw : Terms → ℕ → Group → Body → Read Body
+readWeatherOrNsw t k g b =
     cond (isNsw t g) (agreeing (nswStands t k (b .visibility)) (Good (setNsw true b)))
     (then (besideOthers b (readWeather (t .forecast) (t .automatic) g)) (λ w. Good (setWeathers (withWeather k (b .weathers) w) b)))
 
-abbrev pub showForecast : Body → List Group
-showForecast b = cond (b .nsw) (bytes "NSW" ∷ []) [] ++ showWeathers (b .weathers)
+abbrev pub showWeatherOrNsw : Body → List Group
+showWeatherOrNsw b = cond (b .nsw) (bytes "NSW" ∷ []) [] ++ showWeathers (b .weathers)
 
 abbrev pub weatherPlace : Terms → Place Body
 weatherPlace t =
     record {
-      has = hasForecast t;
+      has = hasWeatherOrNsw t;
       cover = withNsw t weatherCover;
       spoken = withNsw t weatherSpoken;
       most = 3;
       must = false;
       ends = false;
-      read = λ k g b. readForecast t k g b;
-      show = showForecast;
+      read = λ k g b. readWeatherOrNsw t k g b;
+      show = showWeatherOrNsw;
       put = λ b acc. setNsw (b .nsw) (setWeathers (b .weathers) acc);
     }
 
@@ -147,7 +147,7 @@ visibilityJudged t b = unlessAbsent t (noView (b .visibility .is)) (judgeVisibil
 
 -- NSW where it may stand, and not beside CAVOK
 abbrev pub nswAgrees : Terms → Body → Bool
-nswAgrees t b = not (b .nsw) || (t .nsw && not (isCavok (b .visibility)))
+nswAgrees t b = not (b .nsw) || (t .mayNsw && not (isCavok (b .visibility)))
 
 -- the count, NSW, then each weather group
 abbrev pub weatherJudged : Terms → Body → Judged

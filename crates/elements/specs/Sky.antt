@@ -88,12 +88,19 @@ rises (l ∷ ls) h = notAbove (l .height) h && rises ls h
 abbrev pub addLayer : ℕ → Sky → Layer → Sky
 addLayer k s l = cond (ltb k 4) (record { cover = cover.Layers; layers = set (s .layers) k l; count = k + 1 }) s
 
--- `cavok` stands for the clouds
+-- `cavok` stands for the clouds: beside it no layer, none beside what stands alone, and none below one before it
+abbrev pub layerAgrees : Bool → ℕ → Sky → Layer → Bool
+layerAgrees cavok k s l = not cavok && isLayers (s .cover) && rises (take k (s .layers)) (l .height)
+
 abbrev pub withLayer : Bool → ℕ → Sky → Layer → Read Sky
-withLayer cavok k s l = agreeing (not cavok && isLayers (s .cover) && rises (take k (s .layers)) (l .height)) (Good (addLayer k s l))
+withLayer cavok k s l = agreeing (layerAgrees cavok k s l) (Good (addLayer k s l))
+
+-- "SKC, NSC, NCD or VVhhh stands alone"
+abbrev pub aloneAgrees : Bool → ℕ → Bool
+aloneAgrees cavok k = not cavok && eqb k 0
 
 abbrev pub withAlone : Bool → ℕ → Sky → Cover → Read Sky
-withAlone cavok k s c = agreeing (not cavok && eqb k 0) (Good (record { cover = c; layers = s .layers; count = 0 }))
+withAlone cavok k s c = agreeing (aloneAgrees cavok k) (Good (record { cover = c; layers = s .layers; count = 0 }))
 
 unfoldable pub readSky : Bool → Bool → ℕ → Group → Sky → Read Sky
 readSky forecast cavok k g s =

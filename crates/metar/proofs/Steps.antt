@@ -98,7 +98,7 @@ of-body k g x r own = rw (← others k g x (tag-in elsewhere tt tt tt tt tt tt t
 pub says-body : (i j k : ℕ) (g : Group) (automatic : Bool) (b : Body) {x : Said} → BodySays false false automatic j k g b x
     → ((r : Metar) → placeAt row i .read k g r ≡ then (placeAt (bodyRow (observed r)) j .read k g (r .body)) (λ b. Good (setBody b r))) → Says i k g automatic b x
 says-body i j k g automatic b {x} s reads r same at =
-    let e = by-same (λ a b. withSaid k x b ≡ placeAt (bodyRow (record { forecast = false; required = true; nsw = false; automatic = a; silent = r .nil })) j .read k g b)
+    let e = by-same (λ a b. withSaid k x b ≡ placeAt (bodyRow (record { forecast = false; required = true; mayNsw = false; automatic = a; silent = r .nil })) j .read k g b)
     same at (s .puts true (r .nil)) in
     of-body k g x r (s .own) ∙ ap (λ (y : Read Body). then y (λ b. Good (setBody b r))) e ∙ sym (reads r)
 

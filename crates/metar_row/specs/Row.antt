@@ -37,7 +37,7 @@ isName g = hasPattern g (bytes "METAR") || hasPattern g (bytes "SPECI")
 -- visibility are written unless the report is NIL
 
 abbrev pub observed : Metar → Terms
-observed r = record { forecast = false; required = true; nsw = false; automatic = r .automatic; silent = r .nil }
+observed r = record { forecast = false; required = true; mayNsw = false; automatic = r .automatic; silent = r .nil }
 
 abbrev pub ofBody : (Terms → Place Body) → Place Metar
 ofBody p = liftIn (λ (r : Metar). r .body) setBody observed (observed blankMetar) p

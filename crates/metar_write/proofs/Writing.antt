@@ -18,14 +18,14 @@ use Rattle.places.proofs.Rows.{groups-split}
 use Rattle.places.proofs.Sizes.{Sizes}
 use Rattle.record.specs.declared.aerodrome.Metar.{Metar}
 use Rattle.elements.specs.Sky.{showSky}
-use Rattle.elements.specs.Body.{showForecast}
+use Rattle.elements.specs.Body.{showWeatherOrNsw}
 use Rattle.metar_row.specs.Row.{row}
 use Rattle.metar.specs.Write.{judgeOf, canonicalOf, writtenOf, bufferOf}
 
 -- ---- the row in parts
 
 -- the row as the writer prints it
-pub row-in-parts : (r : Metar) → groupsAt row r ≡ groupsAt (take 6 row) r ++ (groupsAt (take 4 (drop 6 row)) r ++ (showForecast (r .body) ++ (showSky (r .body .sky) ++ groupsAt (drop 12 row) r)))
+pub row-in-parts : (r : Metar) → groupsAt row r ≡ groupsAt (take 6 row) r ++ (groupsAt (take 4 (drop 6 row)) r ++ (showWeatherOrNsw (r .body) ++ (showSky (r .body .sky) ++ groupsAt (drop 12 row) r)))
 row-in-parts r =
     groups-split r 6 row
     ∙ ap (λ (gs : List Group). groupsAt (take 6 row) r ++ gs) (groups-split r 4 (drop 6 row) ∙ ap (λ (gs : List Group). groupsAt (take 4 (drop 6 row)) r ++ gs) (unfold row in refl))

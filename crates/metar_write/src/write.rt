@@ -5,8 +5,8 @@ use aerodrome_groups::write::put_runways;
 use aerodrome_groups::write::put_station;
 use aerodrome_groups::write::put_temperatures;
 use aerodrome_groups::write::put_time;
-use body::write::put_forecast;
 use body::write::put_visibility_unless;
+use body::write::put_weather_or_nsw;
 use body::write::put_wind_unless;
 use record::aerodrome::Metar;
 use sky::write::put_sky;
@@ -99,7 +99,7 @@ fn put_report(out: &mut [u8], r: Metar) -> usize
     let sky = body.sky;
     let headed = put_head(out, r);
     let seen = put_seen(out, headed, r);
-    let weathered = put_forecast(out, seen, body);
+    let weathered = put_weather_or_nsw(out, seen, body);
     let clouded = put_sky(out, weathered, sky);
     let told = put_last(out, clouded, r);
     close_report(out, told)

@@ -59,8 +59,6 @@ beyond b (suc n) i h e =
     omega arith
 
 -- of the first n + 1 places the one that is left
-pub last-left : (n i : ℕ) → i < n + 1 → Others 0 n i → i ≡ n
-last-left n i h e = let low = beyond 0 n i zero-le e in omega arith
 
 module _ {R : Type 0} (row : List (Place R)) (g : Group) where
   -- the shape of a place by its number, and that past the row there is none

@@ -1,5 +1,5 @@
--- The place engine: one reading of a report's groups against its row of places, and one writing, for every report kind. Refusals 4, 6, 8 and 9
--- come from here and from nowhere else; 5 and 7 from a place's own reading of a group.
+-- The place engine: one reading of a report's groups against its row of places, and one writing, for every report kind. Refusals 4 and 8 come from here
+-- and from nowhere else, and so do 6 and 9, but where a place's own reading of a group answers them; 5 and 7 come from such a reading alone.
 -- Assumes nothing: these are definitions.
 use Prim.Native.Nat.{ℕ, _+_}
 use mathlib.Core.Bool.{Bool, true, false, cond}
@@ -19,7 +19,7 @@ use Rattle.places.specs.Seek.{Stand, findOf, owed, refusalOf}
 abbrev pub Group : Type 0
 Group = List ℕ
 
--- What a group adds to a record: the record with it, or the group's refusal, 5 or 7.
+-- What a group adds to a record: the record with it, or the group's refusal.
 pub data Read (R : Type 0) : Type 0 where
   Good : R → Read R
   Bad : Refusal → Read R

@@ -121,7 +121,7 @@ unfolding figures.figures figures.scan figures.fieldAt figures.numberText figure
     section.section
     synop-read.withHead synop-read.signOf synop-read.posts synop-read.walk synop-read.groupsRead
     synop-write.foreignBlank synop-write.judgeSite synop-write.judgeSection synop-write.judgeSurface synop-write.judgeOf synop-write.siteGroups synop-write.surfaceGroups synop-write.groupsOf synop-write.canonicalOf
-    body.readForecast body.judgeBody
+    body.readWeatherOrNsw body.judgeBody
     sky.readLayer sky.readAlone sky.readSky sky.showLayer sky.showSky sky.judgeSky
     visibility.readVisibility visibility.showVisibility visibility.judgeVisibility
     weather.codesOf weather.areCodes weather.signedCodes weather.hasWeather weather.hasRecent weather.saidWeather weather.readWeather weather.readRecent weather.showWeather weather.showRecent weather.showWeathers weather.showRecents weather.judgeWeather weather.judgeRecent weather.judgeWeathers

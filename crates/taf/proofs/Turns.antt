@@ -45,7 +45,7 @@ use Rattle.taf.specs.declared.kinds.PartRead.{PartRead}
 use Rattle.taf.specs.declared.kinds.Ahead.{Ahead}
 use Rattle.taf.specs.declared.kinds.Reading.{Reading}
 use Rattle.taf_row.specs.Row.{word, row, changeWords}
-use Rattle.taf_row.specs.Tests.{joins, lacks}
+use Rattle.taf_row.specs.Tests.{joins, owesIn}
 use Rattle.taf.specs.Read.{probableGroup, fromGroup, openedBy, afterProbable, partOf, changeOf, partIn, changePart, changes, groupsRead, behindName, answer}
 use Rattle.taf.specs.Step.{begunBy, Begins, partBy, changeFrom, bodyFrom, refusedAt, atEnd, outcomeOf, afterPart, MetWord, PartDone, noneAhead, ReadAhead}
 
@@ -138,15 +138,15 @@ module _ {text : List ℕ} {w : Part} {n first : ℕ} {r₀ : Leg} {start c k : 
   abbrev done : PartRead → Type 0
   done x = PartDone text w n first r₀ start x
 
-  pub part-over : {x : PartRead} → groupsFrom text at ≡ [] → x ≡ record { next = atEnd (tailOf text) (length text) (lacks w c k r); leg = r } → done x
+  pub part-over : {x : PartRead} → groupsFrom text at ≡ [] → x ≡ record { next = atEnd (tailOf text) (length text) (owesIn w c k r); leg = r } → done x
   unfolding goes-on
   part-over none e =
       record {
         reads = λ takes.
             reached .same takes
             ∙ within-over changes text (partIn w takes) (16 - n) c k r at none
-            ∙ rw e (end-is text (tailOf text) n (length text) (lacks w c k r) (takes r));
-        ahead = λ o q to z. absurd (end-stays (tailOf text) (length text) (lacks w c k r) o q to (rw e at z));
+            ∙ rw e (end-is text (tailOf text) n (length text) (owesIn w c k r) (takes r));
+        ahead = λ o q to z. absurd (end-stays (tailOf text) (length text) (owesIn w c k r) o q to (rw e at z));
       }
 
   module _ {from to : ℕ} {g : Group} {u : Turn} (follows : Follows text at from to) (cut : g ≡ bytesOf text from to) (turns : u ≡ turnAt (row w) (hasAny changeWords) c k g) where
@@ -156,7 +156,7 @@ module _ {text : List ℕ} {w : Part} {n first : ℕ} {r₀ : Leg} {start c k : 
     steps : stepBy (row w) (hasAny changeWords) c k r g ≡ turnStep (row w) r g u
     steps = rw turns (turn-steps (row w) (hasAny changeWords) c k g r)
 
-    pub part-word : {x : PartRead} → u ≡ turn.Halt → (x .leg ≡ r) × MetWord g from to n (lacks w c k r) (x .next) → done x
+    pub part-word : {x : PartRead} → u ≡ turn.Halt → (x .leg ≡ r) × MetWord g from to n (owesIn w c k r) (x .next) → done x
     unfolding goes-on comes
     part-word o (is, met) =
         record {

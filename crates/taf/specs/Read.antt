@@ -1,7 +1,7 @@
 -- Reading a TAF: a report of parts (places, Parts), its main part, then its change groups, each with a part of its own.
 -- Assumes nothing: these are definitions.
 use Prim.Native.Nat.{ℕ, _+_}
-use mathlib.Core.Bool.{cond, not, _&&_, _||_}
+use mathlib.Core.Bool.{Bool, cond, not, _&&_, _||_}
 use mathlib.Core.List.{List}
 use lib.ListN.{set}
 use lib.Dec.{ltb, eqb}
@@ -27,9 +27,8 @@ use Rattle.aerodrome_groups.specs.Head.{isDay, isHour, isMinute}
 use Rattle.taf_row.specs.declared.kinds.Part.{Part}
 use Rattle.taf_row.specs.declared.kinds.Part.the-variants as part
 use Rattle.taf.specs.declared.kinds.Reading.{Reading}
-use Rattle.taf_row.specs.Row.{isMain, word, row, changeWords}
+use Rattle.taf_row.specs.Row.{elementStands, word, row, changeWords}
 use Rattle.taf_row.specs.Tests.{joins}
-use Rattle.elements.specs.Body.{hasElement}
 
 -- ---- what a change word opens: "BECMG, TEMPO, PROB30, PROB40, .. or FMYYGGgg"
 
@@ -47,9 +46,12 @@ fromGroup g =
     (setPeriod (record { from = record { day = number.Is d; hour = number.Is h; minute = number.Is m }; to = blankInstant }) blankLeg)))))
 
 -- PROB30, PROB40
+abbrev pub isChance : ℕ → Bool
+isChance n = eqb n 30 || eqb n 40
+
 abbrev pub probableGroup : Group → Read (Begun Opening Leg)
 probableGroup g =
-    figured (fieldAt g 4 2) (λ n. provided (eqb n 30 || eqb n 40) (opened (opening.Probable n) blankLeg))
+    figured (fieldAt g 4 2) (λ n. provided (isChance n) (opened (opening.Probable n) blankLeg))
 
 unfoldable pub openedBy : Group → Read (Begun Opening Leg)
 openedBy g =
@@ -91,7 +93,7 @@ partIn w takes =
     record {
       row = row w;
       halts = hasAny changeWords;
-      lacks = λ r. not (isMain w) && not (hasElement (r .body));
+      lacks = λ r. not (elementStands w (r .body));
       takes = takes;
       word = λ t g. Opens (openedBy g);
     }

@@ -4,7 +4,7 @@ use Prim.Native.Nat.{ℕ}
 use mathlib.Core.Bool.{Bool, true, false, cond, not, _&&_, _||_}
 use mathlib.Core.List.{List, [], _∷_, _++_, map}
 use lib.ListN.{take, drop}
-use lib.Dec.{leb, eqb}
+use lib.Dec.{leb}
 use Rattle.figures.specs.Quote.{bytes}
 use Rattle.figures.specs.Figures.{numberText, fieldText, every}
 use Rattle.text.specs.declared.kinds.Judged.{Judged}
@@ -26,17 +26,17 @@ use Rattle.record.specs.declared.aerodrome.Taf.{Taf}
 use Rattle.record.specs.Taf.{blankInstant, blankLeg, setPeriod, setBody}
 use Rattle.record.specs.Missing.{isMissing, present}
 use Rattle.record.specs.SilentAerodrome.{isBlankBody, noInstant, noPeriod, isBlankChange, noChanges}
-use Rattle.elements.specs.Body.{judgeBody, hasElement}
-use Rattle.aerodrome_groups.specs.Head.{fieldOf, isDay, isHour, isMinute, judgeStation, judgeTime}
+use Rattle.elements.specs.Body.{judgeBody}
+use Rattle.aerodrome_groups.specs.Head.{fieldOf, isDay, isHour, instantFits, judgeStation, judgeTime}
 use Rattle.taf_row.specs.declared.kinds.Part.{Part}
 use Rattle.taf_row.specs.declared.kinds.Part.the-variants as part
-use Rattle.taf_row.specs.Row.{isMain, forecastIn, isEndHour, row}
-use Rattle.taf.specs.Read.{partOf, changeOf}
+use Rattle.taf_row.specs.Row.{elementStands, forecastIn, isEndHour, row}
+use Rattle.taf.specs.Read.{isChance, partOf, changeOf}
 
 -- ---- a part: its body in written order; "A change body needs one element, under FM wind and visibility."
 
 unfoldable pub judgePart : Part → Body → Judged
-judgePart w b = andThen (judgeBody (forecastIn w) b) (judge (isMain w || hasElement b) true)
+judgePart w b = andThen (judgeBody (forecastIn w) b) (judge (elementStands w b) true)
 
 -- ---- periods and what opens a change
 
@@ -45,12 +45,6 @@ isHourOf hour t = present isDay (t .day) && present hour (t .hour) && isMissing 
 
 abbrev pub periodFits : Period → Bool
 periodFits p = isHourOf isHour (p .from) && isHourOf isEndHour (p .to)
-
-abbrev pub instantFits : Instant → Bool
-instantFits t = present isDay (t .day) && present isHour (t .hour) && present isMinute (t .minute)
-
-abbrev pub isChance : ℕ → Bool
-isChance n = eqb n 30 || eqb n 40
 
 -- the opening and its period: under FM a time and no end, else a period without minutes
 abbrev pub openingFits : Opening → Period → Bool

@@ -14,7 +14,7 @@ use record::aerodrome::Period;
 use record::blank_aerodrome::blank_leg;
 use taf_row::kinds::Part;
 use taf_row::tests::is_full;
-use taf_row::tests::lacks;
+use taf_row::tests::owes;
 use text::kinds::Cut;
 use text::kinds::Refusal;
 use text::kinds::Tail;
@@ -23,7 +23,7 @@ ghost use mathlib.Core.Path.{_≡_};
 ghost use lib.ListN.{length};
 ghost use Rattle.text.specs.Text.{tailOf};
 ghost use Rattle.record.specs.Taf.{blankLeg, setPeriod};
-ghost use Rattle.taf_row.specs.Tests.{lacks};
+ghost use Rattle.taf_row.specs.Tests.{owesIn};
 ghost use Rattle.taf.specs.Step.{refusedAt, atEnd, MetWord, PartDone};
 
 fn refuse(refusal: Refusal, place: usize) -> Next
@@ -73,9 +73,9 @@ fn after_word(g: &[u8], start: usize, end: usize, n: usize, lacking: bool) -> Ne
 // ---- the part with what follows it, which the loop hands over in one piece
 
 fn end_part(text: &[u8], part: Part, place: usize, count: usize, leg: Leg) -> PartRead
-    ensures { λ r. ⌜ r ≡ record { next = atEnd (tailOf (now (text .entry))) (length (now (text .entry))) (lacks part place count leg); leg = leg } ⌝ }
+    ensures { λ r. ⌜ r ≡ record { next = atEnd (tailOf (now (text .entry))) (length (now (text .entry))) (owesIn part place count leg); leg = leg } ⌝ }
 {
-    let next = after_end(text, lacks(part, place, count, leg));
+    let next = after_end(text, owes(part, place, count, leg));
     PartRead { next, leg }
 }
 
@@ -89,9 +89,9 @@ fn meet_word(
     count: usize,
     leg: Leg,
 ) -> PartRead
-    ensures { λ r. ⌜ (r .leg ≡ leg) × MetWord (now (g .entry)) start end n (lacks part place count leg) (r .next) ⌝ }
+    ensures { λ r. ⌜ (r .leg ≡ leg) × MetWord (now (g .entry)) start end n (owesIn part place count leg) (r .next) ⌝ }
 {
-    let next = after_word(g, start, end, n, lacks(part, place, count, leg));
+    let next = after_word(g, start, end, n, owes(part, place, count, leg));
     PartRead { next, leg }
 }
 

@@ -29,8 +29,9 @@ use Rattle.record.specs.Taf.{blankChange}
 use Rattle.taf_row.specs.declared.kinds.Part.{Part}
 use Rattle.taf_row.specs.declared.kinds.Part.the-variants as part
 use Rattle.taf_row.specs.Row.{isMain, row}
-use Rattle.taf.specs.Read.{partOf}
-use Rattle.taf.specs.Write.{periodFits, instantFits, isChance, openingFits, legOf, judgeChange, judgeEach, judgeChanges, showChance, showFrom, showOpening, showChange, showEach}
+use Rattle.taf.specs.Read.{partOf, isChance}
+use Rattle.aerodrome_groups.specs.Head.{instantFits}
+use Rattle.taf.specs.Write.{periodFits, openingFits, legOf, judgeChange, judgeEach, judgeChanges, showChance, showFrom, showOpening, showChange, showEach}
 use Rattle.record.specs.SilentAerodrome.{noInstant, isBlankChange, noChanges}
 use Rattle.figures.specs.Figures.{every}
 use Rattle.record.specs.Arrays.{BodyArrays, EachArrays, TafArrays}

@@ -21,7 +21,8 @@ use Rattle.taf_row.specs.declared.kinds.Part.{Part}
 use Rattle.taf_row.specs.declared.kinds.Part.the-variants as part
 use Rattle.taf_row.specs.Row.{forecastIn, row}
 use Rattle.taf.specs.Read.{partOf, changeOf}
-use Rattle.taf.specs.Write.{judgePart, instantFits, openingFits, legOf, judgeChange, judgeEach, showOpening, showChange, showEach, openedLeg, classChange}
+use Rattle.aerodrome_groups.specs.Head.{instantFits}
+use Rattle.taf.specs.Write.{judgePart, openingFits, legOf, judgeChange, judgeEach, showOpening, showChange, showEach, openedLeg, classChange}
 use Rattle.taf_laws.proofs.Periods.{no-end}
 use Rattle.taf_laws.proofs.Places.{live}
 use Rattle.taf_laws.proofs.Parts.{FairPart, FairChange, fair-change}

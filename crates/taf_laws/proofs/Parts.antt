@@ -34,22 +34,22 @@ use Rattle.body.proofs.Bodies.{FairBody, fair-body, bodySizes, kept-body, eleme
 use Rattle.aerodrome_groups.specs.Head.{judgeStation, judgeTime}
 use Rattle.taf_row.specs.declared.kinds.Part.{Part}
 use Rattle.taf_row.specs.declared.kinds.Part.the-variants as part
-use Rattle.taf_row.specs.Row.{isMain, forecastIn, row}
-use Rattle.taf.specs.Read.{partOf}
-use Rattle.taf.specs.Write.{judgePart, periodFits, isChance, openingFits, legOf, judgeChange, judgeChanges, foreignBlank, judgeOf, openedLeg}
+use Rattle.taf_row.specs.Row.{isMain, elementStands, forecastIn, row}
+use Rattle.taf.specs.Read.{partOf, isChance}
+use Rattle.taf.specs.Write.{judgePart, periodFits, openingFits, legOf, judgeChange, judgeChanges, foreignBlank, judgeOf, openedLeg}
 use Rattle.taf_laws.proofs.Places.{station-lens, time-lens, body-lens, live, kept-name, kept-correction, kept-nil, kept-period, kept-cancelled}
 
 -- ---- what is judged fine
 
 pub record FairPart (w : Part) (b : Body) : Type 0 where
   pub body : FairBody (forecastIn w) b
-  pub element : (isMain w || hasElement b) ≡ true
+  pub element : elementStands w b ≡ true
 
 pub fair-part : (w : Part) (b : Body) → judgePart w b ≡ judged.Fine → FairPart w b
 unfolding judgePart
 fair-part w b e =
-    let t = and-then (judgeBody (forecastIn w) b) (judge (isMain w || hasElement b) true) e in
-    record { body = fair-body (forecastIn w) b (t .0); element = fine (isMain w || hasElement b) true (t .1) .0 }
+    let t = and-then (judgeBody (forecastIn w) b) (judge (elementStands w b) true) e in
+    record { body = fair-body (forecastIn w) b (t .0); element = fine (elementStands w b) true (t .1) .0 }
 
 pub record FairChange (c : Change) : Type 0 where
   pub opens : openingFits (c .opening) (c .period) ≡ true

@@ -22,14 +22,14 @@ use Rattle.record.specs.declared.aerodrome.Instant.{Instant}
 use Rattle.record.specs.declared.aerodrome.Period.{Period}
 use Rattle.record.specs.declared.aerodrome.Opening.the-variants as opening
 use Rattle.record.specs.Taf.{blankInstant, blankLeg, setPeriod}
-use Rattle.aerodrome_groups.specs.Head.{isDay, isHour, isMinute}
+use Rattle.aerodrome_groups.specs.Head.{isDay, isHour, isMinute, instantFits}
 use Rattle.record.specs.Missing.{present, isMissing}
 use Rattle.record.proofs.Blanks.{number-blank}
 use Rattle.record.specs.SilentAerodrome.{noInstant}
 use Rattle.record.proofs.AerodromeBlanks.{instant-blank}
 use Rattle.taf_row.specs.Row.{periodShape, isEndHour, hourOf, readPeriod, showPeriod}
-use Rattle.taf.specs.Read.{openedBy, opened}
-use Rattle.taf.specs.Write.{isHourOf, periodFits, instantFits, isChance, showChance, showFrom}
+use Rattle.taf.specs.Read.{openedBy, opened, isChance}
+use Rattle.taf.specs.Write.{isHourOf, periodFits, showChance, showFrom}
 
 abbrev text : Field → List ℕ
 text f = fieldText 2 f

@@ -36,9 +36,10 @@ use Rattle.taf_row.specs.declared.kinds.Part.the-variants as part
 use Rattle.taf_row.specs.Row.{word, row, changeWords}
 use Rattle.taf_row.specs.Tests.{isProbable}
 use Rattle.elements.specs.Body.{hasElement}
-use Rattle.taf.specs.Read.{openedBy, partOf, mainPart, changePart, changes, groupsRead}
+use Rattle.taf.specs.Read.{openedBy, partOf, mainPart, changePart, changes, groupsRead, isChance}
 use Rattle.record.specs.SilentAerodrome.{noInstant}
-use Rattle.taf.specs.Write.{periodFits, instantFits, isChance, openingFits, legOf, judgeChange, judgeEach, judgeOf, showChance, showFrom, showOpening, showChange, showEach, groupsOf, openedLeg, classChange, classedOf}
+use Rattle.aerodrome_groups.specs.Head.{instantFits}
+use Rattle.taf.specs.Write.{periodFits, openingFits, legOf, judgeChange, judgeEach, judgeOf, showChance, showFrom, showOpening, showChange, showEach, groupsOf, openedLeg, classChange, classedOf}
 use Rattle.taf_row.proofs.Sound.{row-sound, row-covered}
 use Rattle.taf_laws.proofs.Periods.{chance-shaped, chance-opened, from-shaped, from-opened}
 use Rattle.record.specs.Arrays.{BodyArrays, EachArrays, TafArrays}

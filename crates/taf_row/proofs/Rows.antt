@@ -1,4 +1,4 @@
--- The laws of a part's row: its arrays in the code, its change words, and what a part lacks.
+-- The laws of a part's row: its arrays in the code, its change words, and what a part owes.
 -- Assumes nothing.
 use Prim.Native.Nat.{ℕ}
 use mathlib.Core.Path.{_≡_, refl, sym}
@@ -14,7 +14,7 @@ use Rattle.taf_row.specs.declared.kinds.Part.{Part}
 use Rattle.taf_row.specs.declared.kinds.Part.the-variants as part
 use Rattle.taf_row.specs.Row.{isMain, isWhole, hasPeriod, row, changeWords}
 use Rattle.elements.specs.Body.{hasElement}
-use Rattle.taf_row.specs.Tests.{lacks}
+use Rattle.taf_row.specs.Tests.{owesIn}
 
 -- ---- the row
 
@@ -49,8 +49,8 @@ pub change-word : (g : Group) {a b c d : Bool}
 unfolding changeWords hasAny
 change-word g {a} {b} {c} {d} p q r s = rw (← p, ← q, ← r, ← s) (any-of a b c d)
 
--- ---- what a part lacks
+-- ---- what a part owes
 
-pub lacks-by : (w : Part) (c k : ℕ) (r : Leg) {us : List Bool} {o m e : Bool} → us ≡ mustsOf (row w) → o ≡ owed k (drop c us) → m ≡ isMain w → e ≡ hasElement (r .body)
-    → (o || (not m && not e)) ≡ lacks w c k r
-lacks-by w c k r p q m e = rw (q, p, m, e)
+pub owes-by : (w : Part) (c k : ℕ) (r : Leg) {us : List Bool} {o m e : Bool} → us ≡ mustsOf (row w) → o ≡ owed k (drop c us) → m ≡ isMain w → e ≡ hasElement (r .body)
+    → (o || not (m || e)) ≡ owesIn w c k r
+owes-by w c k r p q m e = rw (q, p, m, e)

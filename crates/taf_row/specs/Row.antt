@@ -10,7 +10,7 @@ use Rattle.figures.specs.Quote.{bytes}
 use Rattle.figures.specs.Figures.{fieldAt, fieldText}
 use Rattle.shapes.specs.Pattern.{Pattern, hasPattern}
 use Rattle.places.specs.Engine.{Group, Read, Good, Place}
-use Rattle.places.specs.Lift.{lift}
+use Rattle.places.specs.Lift.{lift, openIn}
 use Rattle.record.specs.declared.values.Number.the-variants as number
 use Rattle.record.specs.declared.aerodrome.Correction.{Correction}
 use Rattle.record.specs.declared.aerodrome.Correction.the-variants as correction
@@ -20,7 +20,7 @@ use Rattle.record.specs.declared.aerodrome.Body.{Body}
 use Rattle.record.specs.declared.aerodrome.Leg.{Leg}
 use Rattle.record.specs.Taf.{setCorrection, setStation, setTime, setNil, setPeriod, setCancelled, setBody}
 use Rattle.elements.specs.Parts.{figured, provided, then}
-use Rattle.elements.specs.Body.{Terms, windPlace, visibilityPlace, weatherPlace, skyPlace}
+use Rattle.elements.specs.Body.{Terms, windPlace, visibilityPlace, weatherPlace, skyPlace, hasElement}
 use Rattle.aerodrome_groups.specs.Head.{wordPlace, stationPlace, timePlace, fieldOf, isDay, isHour}
 use Rattle.taf_row.specs.declared.kinds.Part.{Part}
 use Rattle.taf_row.specs.declared.kinds.Part.the-variants as part
@@ -44,26 +44,15 @@ hasPeriod part.Main = true
 hasPeriod part.Changing = true
 hasPeriod part.From = false
 
+-- "A change body needs one element"
+abbrev pub elementStands : Part → Body → Bool
+elementStands w b = isMain w || hasElement b
+
 -- the body of a forecast: no missing forms, no UP, wind and visibility required in the main part and under FM, NSW "only in change bodies"
 abbrev pub forecastIn : Part → Terms
-forecastIn w = record { forecast = true; required = isWhole w; nsw = not (isMain w); automatic = false; silent = false }
+forecastIn w = record { forecast = true; required = isWhole w; mayNsw = not (isMain w); automatic = false; silent = false }
 
 -- ---- places
-
--- a place that is open in some parts only: elsewhere its groups are known and never taken
-abbrev pub openIn : Bool → Place Leg → Place Leg
-openIn is p =
-    record {
-      has = p .has;
-      cover = p .cover;
-      spoken = p .spoken;
-      most = cond is (p .most) 0;
-      must = is && p .must;
-      ends = p .ends;
-      read = p .read;
-      show = λ r. cond is (p .show r) [];
-      put = λ r acc. cond is (p .put r acc) acc;
-    }
 
 -- for one group: its shape and the patterns that cover it, whether it must stand; how it is read, how it is written and what it is read back as
 abbrev pub placeFor : (Group → Bool) → List Pattern → Bool → (Group → Leg → Read Leg) → (Leg → List Group) → (Leg → Leg → Leg) → Place Leg

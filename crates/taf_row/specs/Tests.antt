@@ -10,9 +10,8 @@ use Rattle.places.specs.Engine.{Group, placeAt, mustsOf}
 use Rattle.record.specs.declared.aerodrome.Opening.{Opening}
 use Rattle.record.specs.declared.aerodrome.Opening.the-variants as opening
 use Rattle.record.specs.declared.aerodrome.Leg.{Leg}
-use Rattle.elements.specs.Body.{hasElement}
 use Rattle.taf_row.specs.declared.kinds.Part.{Part}
-use Rattle.taf_row.specs.Row.{isMain, word, row}
+use Rattle.taf_row.specs.Row.{elementStands, word, row}
 
 -- ---- the row
 
@@ -33,11 +32,10 @@ isProbable opening.From = false
 abbrev pub joins : Opening → Group → Bool
 joins o g = isProbable o && word "TEMPO" g
 
--- ---- the end of a body: a required group is absent, or a change body has no element
+-- ---- the end of a part, where k groups stand at place c: a required group is absent, or a change body has no element
 
--- "A change body needs one element, under FM wind and visibility."
-abbrev pub lacks : Part → ℕ → ℕ → Leg → Bool
-lacks w c k r = owed k (drop c (mustsOf (row w))) || (not (isMain w) && not (hasElement (r .body)))
+abbrev pub owesIn : Part → ℕ → ℕ → Leg → Bool
+owesIn w c k r = owed k (drop c (mustsOf (row w))) || not (elementStands w (r .body))
 
 -- ---- "up to .. 16 change groups": there is no room for one more
 

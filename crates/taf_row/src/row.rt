@@ -17,7 +17,7 @@ ghost use Rattle.places.specs.Seek.{answers, fitFrom, findOf};
 ghost use Rattle.places.specs.Engine.{placeAt, standsOf, mustsOf, mostsOf};
 ghost use Rattle.taf_row.specs.Row.{isMain, isWhole, hasPeriod, isCorrection, forecastIn, row, changeWords};
 ghost use Rattle.taf_row.specs.declared.kinds.Part.the-variants as part;
-ghost use Rattle.elements.specs.Body.{hasForecast};
+ghost use Rattle.elements.specs.Body.{hasWeatherOrNsw};
 ghost use Rattle.taf_row.specs.Tests.{HasAt};
 
 pub fn is_main(part: Part) -> bool
@@ -51,8 +51,8 @@ fn has_period(part: Part) -> bool
     }
 }
 
-fn has_forecast(g: &[u8]) -> bool
-    ensures { λ r. ⌜ r ≡ hasForecast (forecastIn part.Main) (now (g .entry)) ⌝ }
+fn has_weather_or_nsw(g: &[u8]) -> bool
+    ensures { λ r. ⌜ r ≡ hasWeatherOrNsw (forecastIn part.Main) (now (g .entry)) ⌝ }
 {
     let nsw = has_pattern(g, b"NSW");
     let weather = has_weather(g);
@@ -91,7 +91,7 @@ fn has_at(place: usize, g: &[u8]) -> bool
         6 => has_pattern(g, b"CNL"),
         7 => has_wind(g),
         8 => has_visibility(g),
-        9 => has_forecast(g),
+        9 => has_weather_or_nsw(g),
         10 => has_sky(g),
         _ => false,
     }

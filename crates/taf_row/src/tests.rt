@@ -7,7 +7,7 @@ use record::aerodrome::Leg;
 use record::aerodrome::Opening;
 use shapes::has_pattern;
 ghost use mathlib.Core.Path.{_≡_};
-ghost use Rattle.taf_row.specs.Tests.{isProbable, joins, lacks, isFull};
+ghost use Rattle.taf_row.specs.Tests.{isProbable, joins, owesIn, isFull};
 
 // ---- at a group
 
@@ -36,15 +36,15 @@ pub fn does_join(opening: Opening, g: &[u8]) -> bool
 // ---- at a part's end
 
 // Is a required group absent, or has a change body no element?
-pub fn lacks(part: Part, place: usize, count: usize, r: Leg) -> bool
-    ensures { λ b. ⌜ b ≡ lacks part place count r ⌝ }
+pub fn owes(part: Part, place: usize, count: usize, r: Leg) -> bool
+    ensures { λ b. ⌜ b ≡ owesIn part place count r ⌝ }
 {
     let must = musts(part);
     let owed = places::is_owed(&must, place, count);
     let main = is_main(part);
     let body = r.body;
     let some = has_element(body);
-    owed | (!main & !some)
+    owed | !(main | some)
 }
 
 // There is no room for one change more.

@@ -1,5 +1,6 @@
 // What the writer judges of a TAF before it writes anything: that a NIL report has nothing after its time and a cancelled one nothing after its
 // period, then each group in written order.
+use aerodrome_groups::judge::instant_fits;
 use aerodrome_groups::judge::judge_station;
 use aerodrome_groups::judge::judge_time;
 use body::judge::has_element;
@@ -26,7 +27,7 @@ ghost use lib.Dec.{leb};
 ghost use Rattle.text.specs.declared.kinds.Judged.the-variants as judged;
 ghost use Rattle.text.specs.Judge.{judge, andThen};
 ghost use Rattle.taf_row.specs.declared.kinds.Part.the-variants as part;
-ghost use Rattle.taf.specs.Write.{judgePart, isHourOf, periodFits, instantFits, openingFits, judgeChange, judgeEach, judgeChanges, foreignBlank, judgeOf};
+ghost use Rattle.taf.specs.Write.{judgePart, isHourOf, periodFits, openingFits, judgeChange, judgeEach, judgeChanges, foreignBlank, judgeOf};
 
 // ---- a part
 
@@ -57,15 +58,6 @@ fn period_fits(p: Period) -> bool
     let from = p.from;
     let to = p.to;
     is_hour(from, 23) & is_hour(to, 24)
-}
-
-fn instant_fits(t: Instant) -> bool
-    ensures { λ r. ⌜ r ≡ instantFits t ⌝ }
-{
-    let day = t.day;
-    let hour = t.hour;
-    let minute = t.minute;
-    day.is_between(1, 31) & hour.is_up_to(23) & minute.is_up_to(59)
 }
 
 fn opening_fits(o: Opening, p: Period) -> bool

@@ -8,5 +8,5 @@ pub judge-time-spec : {M : Type 1} → statement M
 judge-time-spec =
     tie.close
     (tie.spec
-    (λ c κs. tt) (λ c κs. tt) (λ c κs. tt) (λ c κs. tt)
-    (λ c. unfold judgeTime in rw (c .judge .ensures, c .before .before .before .is-between .ensures, c .before .before .is-up-to .ensures, c .before .is-up-to2 .ensures)))
+    (λ c κs. tt) (λ c κs. tt)
+    (λ c. unfold judgeTime in rw (c .judge .ensures, c .before .instant-fits .ensures)))

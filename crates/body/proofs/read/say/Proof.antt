@@ -25,7 +25,7 @@ say-spec =
     (says-visibility (a .forecast) (a .may) (a .automatic) (a .count) (a .g .now) (a .b)))
     (λ c.
     let a = c .before .before .before .args in
-    says-at (a .forecast) (a .may) (a .automatic) 2 (a .count) (a .g .now) (a .b) {y = c .say-forecast .result} (c .before .match .keys3) refl (c .say-forecast .ensures))
+    says-at (a .forecast) (a .may) (a .automatic) 2 (a .count) (a .g .now) (a .b) {y = c .say-weather-or-nsw .result} (c .before .match .keys3) refl (c .say-weather-or-nsw .ensures))
     (λ c.
     let a = c .before .before .before .before .before .before .args in
     says-at (a .forecast) (a .may) (a .automatic) 3 (a .count) (a .g .now) (a .b)

@@ -11,7 +11,7 @@ all : tie.Need-returns
 all c required nsw automatic silent =
     rw (← c .before .before .before .before .before .before .before .before .before .before .before .before .before .before .before .before .is-blank .ensures, ← c .before .before .before .before .before .before .before .before .before .before .before .is-missing .ensures)
     (write-groups _ _ (c .before .before .before .before .before .before .before .before .before .before .before .before .before .before .before .put-wind-unless .ensures)
-    (write-groups _ _ (c .before .before .before .before .before .before .before .before .before .before .put-visibility-unless .ensures) (write-groups _ _ (c .before .before .before .before .before .before .put-forecast .ensures) (rw (append-nil _) (c .before .before .put-sky .ensures)))))
+    (write-groups _ _ (c .before .before .before .before .before .before .before .before .before .before .put-visibility-unless .ensures) (write-groups _ _ (c .before .before .before .before .before .before .put-weather-or-nsw .ensures) (rw (append-nil _) (c .before .before .put-sky .ensures)))))
 
 pub put-body-spec : {M : Type 1} → statement M
 put-body-spec =

@@ -12,7 +12,7 @@ all c =
     (then
     (write-groups _ _ (c .before .before .before .before .before .before .before .before .before .before .before .before .before .before .before .before .before .before .before .before .before .before .put-head .ensures)
     (write-groups _ _ (c .before .before .before .before .before .before .before .before .before .before .before .before .before .before .before .before .before .before .put-seen .ensures)
-    (write-groups _ _ (c .before .before .before .before .before .before .before .before .before .before .before .before .before .before .put-forecast .ensures)
+    (write-groups _ _ (c .before .before .before .before .before .before .before .before .before .before .before .before .before .before .put-weather-or-nsw .ensures)
     (write-groups _ _ (c .before .before .before .before .before .before .before .before .before .before .put-sky .ensures) (c .before .before .before .before .before .before .put-last .ensures)))))
     (c .before .before .close-report .ensures))
 

@@ -1,4 +1,4 @@
--- `taf::part::end_part` meets its contract: what the part lacks is asked of it.
+-- `taf::part::end_part` meets its contract: what the part owes is asked of it.
 -- Assumes nothing.
 use borrow.Author.Needs.{needs}
 use Rattle.taf.proofs.part.end_part.Statement.{statement}
@@ -9,4 +9,4 @@ end-part-spec =
     tie.close
     (tie.spec
     (λ c κs. search needs) (λ c κs. search needs)
-    (λ c. rw (c .after-end .ensures, c .before .lacks .ensures)))
+    (λ c. rw (c .after-end .ensures, c .before .owes .ensures)))

@@ -1,4 +1,4 @@
--- `taf::part::meet_word` meets its contract: what the part lacks is asked of it.
+-- `taf::part::meet_word` meets its contract: what the part owes is asked of it.
 -- Assumes nothing.
 use borrow.Author.Needs.{needs}
 use mathlib.Core.Path.{refl}
@@ -10,4 +10,4 @@ meet-word-spec =
     tie.close
     (tie.spec
     (λ c κs. search needs) (λ c κs. search needs)
-    (λ c. (refl, rw (c .before .lacks .ensures) at (c .after-word .ensures))))
+    (λ c. (refl, rw (c .before .owes .ensures) at (c .after-word .ensures))))

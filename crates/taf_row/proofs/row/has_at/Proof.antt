@@ -21,6 +21,6 @@ has-at-spec =
     (λ c w. let a = c .before .before .before .before .args in has-at (row w) (a .g .now) 6 (c .before .before .match .keys7) (unfold row in c .has-pattern6 .ensures))
     (λ c w. let a = c .before .before .before .args in has-at (row w) (a .g .now) 7 (c .before .match .keys8) (unfold row in c .has-wind .ensures))
     (λ c w. let a = c .before .before .before .args in has-at (row w) (a .g .now) 8 (c .before .match .keys9) (unfold row in c .has-visibility .ensures))
-    (λ c w. let a = c .before .before .before .args in has-at (row w) (a .g .now) 9 (c .before .match .keys10) (unfold row in c .has-forecast .ensures))
+    (λ c w. let a = c .before .before .before .args in has-at (row w) (a .g .now) 9 (c .before .match .keys10) (unfold row in c .has-weather-or-nsw .ensures))
     (λ c w. let a = c .before .before .before .args in has-at (row w) (a .g .now) 10 (c .before .match .keys11) (unfold row in c .has-sky .ensures))
     (λ c w. let a = c .before .before .args in has-nowhere (row w) (a .g .now) (a .place) (unfold row in beyond 0 11 (a .place) zero-le (c .match .rest))))

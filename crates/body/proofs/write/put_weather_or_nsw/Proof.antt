@@ -1,12 +1,12 @@
--- `body::write::put_forecast` meets its contract: NSW and then the weathers.
+-- `body::write::put_weather_or_nsw` meets its contract: NSW and then the weathers.
 -- Assumes nothing.
 use borrow.Author.Needs.{needs}
 use Rattle.text.proofs.Writes.{write-groups}
-use Rattle.body.proofs.write.put_forecast.Statement.{statement}
-use Rattle.body.proofs.write.put_forecast.Tie as tie
+use Rattle.body.proofs.write.put_weather_or_nsw.Statement.{statement}
+use Rattle.body.proofs.write.put_weather_or_nsw.Tie as tie
 
-pub put-forecast-spec : {M : Type 1} → statement M
-put-forecast-spec =
+pub put-weather-or-nsw-spec : {M : Type 1} → statement M
+put-weather-or-nsw-spec =
     tie.close
     (tie.spec
     (λ c. search needs) (λ c κs. tt) (λ c κs. tt) (λ c. search needs)

@@ -1,13 +1,13 @@
--- `body::read::say_forecast` meets its contract, by whether the group is NSW.
+-- `body::read::say_weather_or_nsw` meets its contract, by whether the group is NSW.
 -- Assumes nothing.
 use borrow.Author.Needs.{needs}
 use mathlib.Core.Path.{sym, _∙_}
 use Rattle.body.proofs.Says.{says-nsw, says-weather}
-use Rattle.body.proofs.read.say_forecast.Statement.{statement}
-use Rattle.body.proofs.read.say_forecast.Tie as tie
+use Rattle.body.proofs.read.say_weather_or_nsw.Statement.{statement}
+use Rattle.body.proofs.read.say_weather_or_nsw.Tie as tie
 
-pub say-forecast-spec : {M : Type 1} → statement M
-say-forecast-spec =
+pub say-weather-or-nsw-spec : {M : Type 1} → statement M
+say-weather-or-nsw-spec =
     tie.close
     (tie.spec
     (λ c κs. search needs) (λ c. search needs) (λ c κs. search needs) (λ c κs. search needs) (λ c κs. search needs)

@@ -1,7 +1,7 @@
--- `taf_write::judge::instant_fits` meets its contract, part by part.
+-- `judge::instant_fits` meets its contract, part by part.
 -- Assumes nothing.
-use Rattle.taf_write.proofs.judge.instant_fits.Statement.{statement}
-use Rattle.taf_write.proofs.judge.instant_fits.Tie as tie
+use Rattle.aerodrome_groups.proofs.judge.instant_fits.Statement.{statement}
+use Rattle.aerodrome_groups.proofs.judge.instant_fits.Tie as tie
 
 pub instant-fits-spec : {M : Type 1} → statement M
 instant-fits-spec =

@@ -1,0 +1,12 @@
+-- `taf_row::row::has_weather_or_nsw` meets its contract: NSW or weather.
+-- Assumes nothing.
+use borrow.Author.Needs.{needs}
+use Rattle.taf_row.proofs.row.has_weather_or_nsw.Statement.{statement}
+use Rattle.taf_row.proofs.row.has_weather_or_nsw.Tie as tie
+
+pub has-weather-or-nsw-spec : {M : Type 1} → statement M
+has-weather-or-nsw-spec =
+    tie.close
+    (tie.spec
+    (λ c. search needs) (λ c κs. search needs) (λ c κs. search needs)
+    (λ c. rw (c .has-weather .ensures, c .before .has-pattern .ensures)))
