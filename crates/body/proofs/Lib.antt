@@ -2,3 +2,4 @@ pub mod Places
 pub mod Bodies
 pub mod Promises
 pub mod Says
+pub mod Meets

@@ -1,9 +1,10 @@
--- The laws of reading a METAR: what a group says goes into the record as its place reads it, and the name at the row's first place.
+-- The laws of reading a METAR: what a group says goes into the record as its place reads it, how reading goes on from there, and the name at the row's first
+-- place.
 -- Assumes nothing.
-use Prim.Native.Nat.{ℕ, _≤_}
+use Prim.Native.Nat.{ℕ, _+_, _≤_, _<_}
 use native.Mathlib.Omega.{arith}
 use mathlib.Core.Path.{_≡_, refl, sym, ap, _∙_}
-use mathlib.Core.Bool.{Bool, true, false, cond, false≢true}
+use mathlib.Core.Bool.{Bool, true, false, cond}
 use mathlib.Core.List.{List, [], _∷_}
 use lib.ListN.{length, List·getD-eq-default}
 use types.Run.{OneOf, miss}
@@ -11,14 +12,15 @@ use denote.Enum.Declared.{tagOf}
 use Rattle.text.specs.declared.kinds.Refusal.{Refusal}
 use Rattle.text.specs.declared.kinds.Refusal.the-variants as refusal
 use Rattle.text.specs.declared.kinds.Tail.{Tail}
-use Rattle.text.specs.Groups.{Piece}
+use Rattle.text.specs.Groups.{Piece, partOf}
+use Rattle.text.specs.Text.{tailOf}
 use Rattle.figures.specs.Quote.{bytes}
 use Rattle.shapes.specs.Pattern.{low, high, fits, hasPattern, hasAny, clash, clashEach, allApart}
 use Rattle.shapes.proofs.Patterns.{or-right, excluded, all-excluded}
-use Rattle.places.specs.Engine.{Group, Read, Good, Bad, then, Place, nowhere, placeAt, On, step, run}
+use Rattle.places.specs.Engine.{Group, Read, Good, then, Place, nowhere, placeAt, onward, On, step, Fault, closed, over, run}
 use Rattle.places.proofs.ReadBack.{two-patterns}
-use Rattle.places.proofs.Going.{step-first}
-use Rattle.places.proofs.Loop.{atMost}
+use Rattle.places.proofs.Going.{step-first, going-on, going-halt, going-fault}
+use Rattle.places.proofs.Loop.{atMost, goes-on, reads-over}
 use Rattle.record.specs.declared.aerodrome.Body.{Body}
 use Rattle.record.specs.declared.aerodrome.Metar.{Metar}
 use Rattle.record.specs.Metar.{blankMetar, setSpecial, setTime, setBody, setVariation, setRunways, setTemperatures, setQnh, setRecents}
@@ -35,10 +37,14 @@ use Rattle.elements.proofs.Answers.{said-put}
 use Rattle.elements.specs.Body.{bodyRow}
 use Rattle.body.specs.Said.{unlessRefused, putSaid, withSaid, isOfBody}
 use Rattle.body.specs.Said.{Says as BodySays}
-use Rattle.body.proofs.Says.{said-fine, not-refused, unless-then, tag-in}
+use Rattle.body.specs.declared.kinds.Saying.{Saying}
+use Rattle.body.specs.declared.kinds.Met.{Met}
+use Rattle.body.specs.declared.kinds.Met.the-variants as met
+use Rattle.body.specs.Met.{Meets}
+use Rattle.body.proofs.Says.{unless-then, tag-in}
 use Rattle.metar_row.specs.Row.{isName, observed, row, stopWords}
 use Rattle.metar.specs.Said.{ontoBody, reportSaid, Says}
-use Rattle.metar.specs.Read.{groupsRead, behindName}
+use Rattle.metar.specs.Read.{groupsRead, behindName, answer}
 
 -- ---- the row
 
@@ -173,17 +179,36 @@ pub row-few : atMost 4 row ≡ true
 unfolding row
 row-few = refl
 
--- what is said at a place is what the place reads: a refusal, or the record with it
-pub said-bad : (i k : ℕ) (g : Group) (r : Metar) {x : Said} {f : Refusal} → Says i k g (r .automatic) (r .body) x → x ≡ said.Refused f → placeAt row i .read k g r ≡ Bad f
-said-bad i k g r s is = sym (rw is at (s r refl refl))
+-- ---- how reading goes on from the next group, as the loop meets it
 
-pub said-good : (i k : ℕ) (g : Group) (r : Metar) (x : Said) {a : Metar} → Says i k g (r .automatic) (r .body) x → OneOf said-fine (tagOf says.the-type x)
-    → a ≡ reportSaid k g x r → placeAt row i .read k g r ≡ Good a
-said-good i k g r x s fine is = rw is (sym (s r refl refl) ∙ not-refused (reportSaid k g x r) x fine)
+module _ (t : List ℕ) (c k : ℕ) (r : Metar) (at : ℕ) (m : Met)
+    (meets : Meets row (hasAny stopWords) reportSaid c k (λ (a : Metar). (a .automatic ≡ r .automatic) × (a .body ≡ r .body)) t at m) where
+  pub met-over : m ≡ met.Over → goes-on answer row stopWords t c k r at ≡ answer (over row (tailOf t) (length t) c k r)
+  met-over is = reads-over answer row stopWords t c k r at (rw is at meets)
 
--- by what the group was found to say
-pub put-by : (k : ℕ) (g : Group) (r : Metar) {x y : Said} → x ≡ y → reportSaid k g y r ≡ reportSaid k g x r
-put-by k g r q = rw q
+  pub met-halt : {s e : ℕ} → m ≡ met.Halt s e → goes-on answer row stopWords t c k r at ≡ answer (closed row s c k r)
+  unfolding goes-on step
+  met-halt {s} {e} is =
+      let (lies, halts) = rw is at meets in
+      ap answer (going-halt row stopWords t c k r at s e (partOf t s e) (lies .groups) (halts r (refl, refl)))
+
+  pub met-fault : {f : Refusal} {s : ℕ} → m ≡ met.Refused f s → goes-on answer row stopWords t c k r at ≡ answer (Fault f s)
+  unfolding goes-on step
+  met-fault {f} {s} is =
+      let (e, lies, stops) = rw is at meets in
+      ap answer (going-fault row stopWords t c k r at s e (partOf t s e) (lies .groups) f (stops r (refl, refl)))
+
+  -- the group is taken: reading goes on behind it, with what it says in the record
+  module _ {x : Saying} (is : m ≡ met.Says x) where
+    pub met-ahead : (at < x .end) × (x .end ≤ length t) × (x .count < 4)
+    met-ahead = let (lies, few, goes) = rw is at meets in (lies .ahead, lies .within, few)
+
+    pub met-on : {p : ℕ} {y : Said} {a : Metar} → p ≡ onward row (x .place) → x .said ≡ y → a ≡ reportSaid (x .count) (partOf t (x .start) (x .end)) y r
+        → goes-on answer row stopWords t c k r at ≡ goes-on answer row stopWords t p (x .count + 1) a (x .end)
+    unfolding goes-on step
+    met-on past tells put =
+        let (lies, few, goes) = rw is at meets in
+        rw (past, put, ← tells) (ap answer (going-on row stopWords t c k r at (x .start) (x .end) _ (lies .groups) _ _ _ (goes r (refl, refl))))
 
 -- ---- the name, at the row's first place
 

@@ -1,11 +1,8 @@
-// One group: where it goes in the row of places, which the record has no part in, what it says there, and the record with it.
-use aerodrome_groups::read::add_runway;
+// One group: where it goes in the row of places, which the record has no part in, and what it says there.
 use aerodrome_groups::read::read_qnh;
 use aerodrome_groups::read::read_runway;
 use aerodrome_groups::read::read_temperatures;
 use aerodrome_groups::read::read_time;
-use aerodrome_groups::read::station_of;
-use body::read::put;
 use body::read::say;
 use elements::kinds::Said;
 use elements::kinds::WeatherRead;
@@ -14,10 +11,8 @@ use metar_row::is_stop_word;
 use places::kinds::Turn;
 use places::turn_by;
 use record::aerodrome::Body;
-use record::aerodrome::Metar;
 use shapes::has_pattern;
 use text::kinds::Refusal;
-use weather::read::add_weather;
 use weather::read::read_recent;
 use wind::read::read_variation;
 ghost use mathlib.Core.Path.{_≡_};
@@ -27,7 +22,7 @@ ghost use Rattle.elements.specs.declared.kinds.Said.the-variants as said;
 ghost use Rattle.elements.specs.Weather.{readRecent};
 ghost use Rattle.elements.specs.Answers.{asSaid};
 ghost use Rattle.metar_row.specs.Row.{row, stopWords};
-ghost use Rattle.metar.specs.Said.{reportSaid, Says};
+ghost use Rattle.metar.specs.Said.{Says};
 
 // The group's turn, where `count` groups stand at `place`.
 pub fn decide(place: usize, count: usize, g: &[u8]) -> Turn
@@ -75,26 +70,4 @@ pub fn say_at(place: usize, count: usize, g: &[u8], automatic: bool, b: Body) ->
         14 => say_recent(automatic, g),
         _ => Said::Refused(Refusal::Shape),
     }
-}
-
-// The record with what the group says, where `count` groups stand at its place.
-pub fn with_said(said: Said, count: usize, g: &[u8], r: Metar) -> Metar
-    ensures { λ a. ⌜ a ≡ reportSaid count (now (g .entry)) said r ⌝ }
-{
-    let mut a = r;
-    match said {
-        Said::Special(x) => a.special = x,
-        Said::Corrected => a.corrected = true,
-        Said::Station => a.station = station_of(g),
-        Said::Time(x) => a.time = x,
-        Said::Nil => a.nil = true,
-        Said::Automatic => a.automatic = true,
-        Said::Variation(x) => a.variation = x,
-        Said::Runway(x) => a.runways = add_runway(count, r.runways, x),
-        Said::Temperatures(x) => a.temperatures = x,
-        Said::Qnh(x) => a.qnh = x,
-        Said::Recent(x) => a.recents = add_weather(count, r.recents, x),
-        _ => a.body = put(said, count, r.body),
-    }
-    a
 }

@@ -6,6 +6,11 @@ use Rattle.text.specs.declared.kinds.Verdict.{Verdict}
 use Rattle.text.specs.declared.kinds.Verdict.the-variants as verdict
 use Rattle.places.specs.Engine.{Outcome, Done, Fault}
 
+-- a verdict with the record that it accepts
+abbrev pub outcomeOf : {R : Type 0} → Verdict → R → Outcome R
+outcomeOf (verdict.Accepted rest) r = Done rest r
+outcomeOf (verdict.Refused f at) r = Fault f at
+
 -- `make` puts a verdict and a record together, `blank` is the blank record
 module _ {R A : Type 0} (make : Verdict → R → A) (blank : R) where
   abbrev pub acceptedAs : ℕ → R → A

@@ -15,6 +15,7 @@ use Rattle.places.specs.Engine.{Group, Fault}
 use Rattle.record.specs.declared.surface.CallSign.{CallSign}
 use Rattle.record.specs.declared.surface.Synop.{Synop}
 use Rattle.record.specs.Set.{setSign, setSite}
+use Rattle.synop_section.specs.declared.kinds.Reading.{Reading}
 use Rattle.synop_section.specs.Answer.{begun, refused, answer}
 use Rattle.synop.specs.Read.{isCallSign, signOf, posts, cutShort, afterNil, walk, groupsRead}
 use Rattle.synop.specs.Head.{named, postOf}
@@ -37,27 +38,31 @@ module _ (t : List ℕ) (at : ℕ) (r : Synop) where
 pub short-by : (end : ℕ) {x y z : Tail} → y ≡ x → y ≡ z → answer (cutShort x end) ≡ answer (cutShort z end)
 short-by end p q = rw (← p, q)
 
--- ---- a ship's call sign
+-- ---- a ship's call sign comes before the groups known by position
 
-module _ (t : List ℕ) (at : ℕ) where
-  pub sign-over : groupsFrom t at ≡ [] → answer (cutShort (tailOf t) (length t)) ≡ answer (groupsRead true (tailOf t) (length t) (groupsFrom t at))
+-- what the groups come to from a position on, those known by position
+abbrev from-posts : List ℕ → Synop → ℕ → Reading
+from-posts t r at = answer (walk (map postOf (named (r .ship))) r (tailOf t) (length t) (groupsFrom t at))
+
+module _ (t : List ℕ) (at : ℕ) (ship : Bool) where
+  -- what all groups of the report come to
+  abbrev whole : Reading
+  whole = answer (groupsRead ship (tailOf t) (length t) (groupsFrom t at))
+
+  pub sign-over : ship ≡ true → groupsFrom t at ≡ [] → answer (cutShort (tailOf t) (length t)) ≡ whole
   unfolding groupsRead posts walk
-  sign-over none = rw none
+  sign-over sea none = rw (sea, none)
 
-  module _ (from to : ℕ) {g : Group} (follows : Follows t at from to) (cut : g ≡ partOf t from to) where
-    pub sign-other : isCallSign g ≡ false → refused refusal.Shape from ≡ answer (groupsRead true (tailOf t) (length t) (groupsFrom t at))
+  module _ (from to : ℕ) {g : Group} (sea : ship ≡ true) (follows : Follows t at from to) (cut : g ≡ partOf t from to) where
+    pub sign-other : isCallSign g ≡ false → refused refusal.Shape from ≡ whole
     unfolding groupsRead posts walk
-    sign-other e = rw (follows .groups, ← cut, e)
+    sign-other e = rw (sea, follows .groups, ← cut, e)
 
-    pub sign-stands : {b : Synop} {s : CallSign} → isCallSign g ≡ true → b ≡ begun true → s ≡ signOf g
-        → answer (walk (map postOf (named (b .ship))) (setSite (setSign s (b .site)) b) (tailOf t) (length t) (groupsFrom t to))
-        ≡ answer (groupsRead true (tailOf t) (length t) (groupsFrom t at))
+    pub sign-stands : {b r : Synop} {s : CallSign} {next : ℕ} → isCallSign g ≡ true → b ≡ begun ship → s ≡ signOf g → r ≡ setSite (setSign s (b .site)) b → next ≡ to
+        → from-posts t r next ≡ whole
     unfolding groupsRead posts walk
-    sign-stands e is sign = rw (follows .groups, ← cut, e, is, sign)
+    sign-stands e begins sign is past = rw (is, past, begins, sea, follows .groups, ← cut, e, sign)
 
--- ---- a land report
-
-pub land-walks : (t : List ℕ) (at : ℕ) {ship : Bool} {b : Synop} → ship ≡ false → b ≡ begun false
-    → answer (walk (map postOf (named (b .ship))) b (tailOf t) (length t) (groupsFrom t at)) ≡ answer (groupsRead ship (tailOf t) (length t) (groupsFrom t at))
-unfolding groupsRead posts
-land-walks t at e is = rw (e, is)
+  pub land-walks : {b r : Synop} {next : ℕ} → ship ≡ false → b ≡ begun ship → r ≡ b → next ≡ at → from-posts t r next ≡ whole
+  unfolding groupsRead posts
+  land-walks land begins is past = rw (is, past, begins, land)

@@ -11,7 +11,6 @@ use text::kinds::Cut;
 use text::kinds::Refusal;
 use text::kinds::Tail;
 ghost use mathlib.Core.Path.{_≡_};
-ghost use mathlib.Core.Bool.{true};
 ghost use mathlib.Core.List.{map};
 ghost use lib.ListN.{length};
 ghost use Rattle.text.specs.Text.{tailOf};
@@ -100,34 +99,27 @@ fn read_posts(text: &[u8], at: usize, report: Synop) -> Reading
     section::read_section(text, from, synop_of(ship, site, surface))
 }
 
-// A ship's call sign comes before them.
-fn read_ship(text: &[u8], at: usize) -> Reading
-    ensures { λ r. ⌜ r ≡ answer (groupsRead true (tailOf (now (text .entry))) (length (now (text .entry))) (groupsFrom (now (text .entry)) at)) ⌝ }
-{
-    let Cut::Group { start, end } = text::next_group(text, at) else {
-        return end_short(text);
-    };
-    let g = text::part(text, start, end);
-    if head::is_call_sign(g) {
-        let mut report = answer::begin(true);
-        let mut site = report.site;
-        let sign = head::sign_of(g);
-        site.sign = sign;
-        report.site = site;
-        read_posts(text, end, report)
-    } else {
-        answer::refuse(Refusal::Shape, start)
-    }
-}
-
-// What the groups come to, from a position behind AAXX or, of a ship, BBXX on.
+// What the groups come to, from a position behind AAXX or, of a ship, BBXX on. A ship's call sign comes before the groups known by position, which are
+// read by one call for both, so that the compiler makes the record where it is answered and copies none.
 pub fn read_from(text: &[u8], at: usize, ship: bool) -> Reading
     ensures { λ r. ⌜ r ≡ answer (groupsRead ship (tailOf (now (text .entry))) (length (now (text .entry))) (groupsFrom (now (text .entry)) at)) ⌝ }
 {
+    let mut report = answer::begin(ship);
+    let mut from = at;
     if ship {
-        read_ship(text, at)
-    } else {
-        let report = answer::begin(false);
-        read_posts(text, at, report)
+        let Cut::Group { start, end } = text::next_group(text, at) else {
+            return end_short(text);
+        };
+        let g = text::part(text, start, end);
+        if head::is_call_sign(g) {
+            let mut site = report.site;
+            let sign = head::sign_of(g);
+            site.sign = sign;
+            report.site = site;
+            from = end;
+        } else {
+            return answer::refuse(Refusal::Shape, start);
+        }
     }
+    read_posts(text, from, report)
 }

@@ -9,24 +9,47 @@ use types.Run.{OneOf, miss}
 use denote.Enum.Declared.{tagOf}
 use Rattle.text.specs.declared.kinds.Refusal.{Refusal}
 use Rattle.text.specs.declared.kinds.Refusal.the-variants as refusal
-use Rattle.places.specs.Engine.{Group, Good, Bad, Place, nowhere, placeAt, onward, Outcome}
+use Rattle.text.specs.declared.kinds.Tail.{Tail}
+use Rattle.text.specs.declared.kinds.Verdict.{Verdict}
+use Rattle.text.specs.declared.kinds.Verdict.the-variants as verdict
+use Rattle.text.specs.Groups.{Piece}
+use Rattle.places.specs.Engine.{Group, Good, Bad, Place, nowhere, placeAt, onward, Outcome, run}
+use Rattle.places.specs.Answer.{outcomeOf}
 use Rattle.places.proofs.Rows.{Others, beyond, endless}
 use Rattle.places.proofs.Loop.{atMost}
 use Rattle.record.specs.declared.surface.Surface.{Surface}
 use Rattle.record.specs.declared.surface.Synop.{Synop}
+use Rattle.record.specs.Set.{setSurface}
 use Rattle.synop_groups.specs.declared.kinds.Said.{Said}
 use Rattle.synop_groups.specs.declared.kinds.Said.the-variants as said
 use Rattle.synop_groups.proofs.kinds.Said as saids
 use Rattle.synop_row.specs.declared.kinds.Needs.{Needs}
-use Rattle.synop_row.specs.Row.{withSaid, row}
+use Rattle.synop_row.specs.Row.{needsOf, withSaid, row, stopWords}
 use Rattle.synop_row.proofs.Tests.{row-length}
-use Rattle.synop_section.specs.declared.kinds.Reading.{Reading}
-use Rattle.synop_section.specs.Answer.{ontoReport, answer}
+use Rattle.synop_section.specs.declared.kinds.SectionRead.{SectionRead}
+use Rattle.synop_section.specs.Answer.{ontoReport, section, answer}
 use Rattle.synop_section.specs.Section.{Says, saidOnto}
 
--- the answer to a report, by what its section 1 comes to
-abbrev pub answerOn : Synop → Outcome Surface → Reading
-answerOn r o = answer (ontoReport r o)
+-- what section 1 comes to is a reading's end as it stands
+abbrev pub ended : Outcome Surface → Outcome Surface
+ended o = o
+
+-- what the loop hands over, by the verdict and the surface in it
+pub handed : {x : SectionRead} {v : Verdict} {s : Surface} {o : Outcome Surface} → x ≡ record { verdict = v; surface = s } → outcomeOf v s ≡ o
+    → outcomeOf (x .verdict) (x .surface) ≡ o
+handed p q = rw p q
+
+-- a verdict with a surface put onto the report
+onto : (r : Synop) (v : Verdict) (s : Surface) → outcomeOf v (setSurface s r) ≡ ontoReport r (outcomeOf v s)
+onto r (verdict.Accepted rest) s = refl
+onto r (verdict.Refused f at) s = refl
+
+-- the answer with what the groups of section 1 come to
+pub answered : (r : Synop) (x : SectionRead) (n : Needs) (tail : Tail) (end : ℕ) (gs : List Piece) → n ≡ needsOf (r .surface)
+    → outcomeOf (x .verdict) (x .surface) ≡ run (row n) stopWords tail end 0 0 (r .surface) gs
+    → answer (outcomeOf (x .verdict) (setSurface (x .surface) r)) ≡ answer (section r tail end gs)
+unfolding section
+answered r x n tail end gs p q = ap answer (onto r (x .verdict) (x .surface) ∙ ap (ontoReport r) (rw p at q))
 
 -- ---- the row
 

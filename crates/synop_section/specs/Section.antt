@@ -2,7 +2,9 @@
 -- Assumes nothing: these are definitions.
 use Prim.Native.Nat.{ℕ}
 use mathlib.Core.Path.{_≡_}
-use Rattle.places.specs.Engine.{Group, Read, Good, Bad, placeAt}
+use Rattle.text.specs.declared.kinds.Verdict.{Verdict}
+use Rattle.places.specs.Engine.{Group, Read, Good, Bad, placeAt, Outcome}
+use Rattle.places.specs.Answer.{outcomeOf}
 use Rattle.record.specs.declared.surface.Surface.{Surface}
 use Rattle.synop_groups.specs.declared.kinds.Said.{Said}
 use Rattle.synop_row.specs.declared.kinds.Needs.{Needs}
@@ -20,3 +22,7 @@ orElse s (Bad f) = s
 -- the surface with what a group says
 abbrev pub saidOnto : Said → Surface → Surface
 saidOnto x s = orElse s (withSaid x s)
+
+-- a verdict is a reading's end, whatever was read
+abbrev pub Ends : Verdict → (Surface → Outcome Surface) → Type 0
+Ends v end = (s : Surface) → outcomeOf v s ≡ end s

@@ -7,7 +7,8 @@ use record::surface::Synop;
 use text::kinds::Refusal;
 use text::kinds::Verdict;
 ghost use mathlib.Core.Path.{_≡_};
-ghost use Rattle.synop_section.specs.Answer.{begun, accepted, refused};
+ghost use Rattle.places.specs.Answer.{outcomeOf};
+ghost use Rattle.synop_section.specs.Answer.{begun, accepted, refused, answer};
 
 // A blank record of a land station's or a ship's report.
 pub fn begin(ship: bool) -> Synop
@@ -38,5 +39,15 @@ pub fn accept(rest: usize, report: Synop) -> Reading
     Reading {
         verdict: Verdict::Accepted { rest },
         report,
+    }
+}
+
+// The answer by a verdict: the report that it accepts, or its refusal.
+pub fn by_verdict(verdict: Verdict, report: Synop) -> Reading
+    ensures { λ r. ⌜ r ≡ answer (outcomeOf verdict report) ⌝ }
+{
+    match verdict {
+        Verdict::Accepted { rest } => accept(rest, report),
+        Verdict::Refused { refusal, place } => refuse(refusal, place),
     }
 }

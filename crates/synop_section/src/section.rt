@@ -1,6 +1,7 @@
 // Section 1 after Nddff: 00fff and the groups 1 to 9, each read at its place of the row, up to a stop word or the end.
 use crate::answer;
 use crate::kinds::Reading;
+use crate::kinds::SectionRead;
 use places::kinds::Turn;
 use places::turn_by;
 use record::surface::Surface;
@@ -14,16 +15,19 @@ use synop_row::row;
 use text::kinds::Cut;
 use text::kinds::Refusal;
 use text::kinds::Tail;
+use text::kinds::Verdict;
 ghost use mathlib.Core.Path.{_≡_};
 ghost use lib.ListN.{length};
+ghost use Rattle.text.specs.declared.kinds.Verdict.the-variants as verdict;
 ghost use Rattle.text.specs.Text.{tailOf};
 ghost use Rattle.text.specs.Groups.{groupsFrom};
 ghost use Rattle.shapes.specs.Pattern.{hasAny};
-ghost use Rattle.places.specs.Engine.{closed, over};
+ghost use Rattle.places.specs.Engine.{closed, over, run};
+ghost use Rattle.places.specs.Answer.{outcomeOf};
 ghost use Rattle.places.specs.Turn.{turnAt};
 ghost use Rattle.synop_row.specs.Row.{row, stopWords};
-ghost use Rattle.synop_section.specs.Answer.{ontoReport, section, answer};
-ghost use Rattle.synop_section.specs.Section.{Says, saidOnto};
+ghost use Rattle.synop_section.specs.Answer.{section, answer};
+ghost use Rattle.synop_section.specs.Section.{Says, saidOnto, Ends};
 
 // What the group says at its place.
 fn said_at(place: usize, needs: Needs, g: &[u8]) -> Said
@@ -91,70 +95,73 @@ fn decide(needs: Needs, place: usize, count: usize, g: &[u8]) -> Turn
 }
 
 // Reading ends at a position of the text: a required group is absent, or the unread rest begins there.
-fn close(
-    at: usize,
-    needs: Needs,
-    place: usize,
-    count: usize,
-    surface: Surface,
-    report: Synop,
-) -> Reading
-    ensures { λ r. ⌜ r ≡ answer (ontoReport report (closed (row needs) at place count surface)) ⌝ }
+fn close(at: usize, needs: Needs, place: usize, count: usize) -> Verdict
+    ensures { λ v. ⌜ Ends v (closed (row needs) at place count) ⌝ }
 {
     let must = row::musts_of(needs);
     if places::is_owed(&must, place, count) {
-        answer::refuse(Refusal::Absence, at)
+        Verdict::Refused {
+            refusal: Refusal::Absence,
+            place: at,
+        }
     } else {
-        let mut r = report;
-        r.surface = surface;
-        answer::accept(at, r)
+        Verdict::Accepted { rest: at }
     }
 }
 
 // The groups are over: what follows the "=" is refused first, an absence last.
-fn finish(
-    text: &[u8],
-    needs: Needs,
-    place: usize,
-    count: usize,
-    surface: Surface,
-    report: Synop,
-) -> Reading
-    ensures { λ r. ⌜ r ≡ answer (ontoReport report (over (row needs) (tailOf (now (text .entry))) (length (now (text .entry))) place count surface)) ⌝ }
+fn finish(text: &[u8], needs: Needs, place: usize, count: usize) -> Verdict
+    ensures { λ v. ⌜ Ends v (over (row needs) (tailOf (now (text .entry))) (length (now (text .entry))) place count) ⌝ }
 {
     let tail = text::tail(text);
     match tail {
-        Tail::Junk(junk) => answer::refuse(Refusal::Shape, junk),
-        Tail::Clear => close(text.len(), needs, place, count, surface, report),
+        Tail::Junk(junk) => Verdict::Refused {
+            refusal: Refusal::Shape,
+            place: junk,
+        },
+        Tail::Clear => close(text.len(), needs, place, count),
     }
 }
 
-// Section 1 from a position of the text on. The surface is the loop's own: what each group says goes into it, and nothing of it is asked to find the
-// group's place.
-pub fn read_section(text: &[u8], from: usize, report: Synop) -> Reading
-    ensures { λ r. ⌜ r ≡ answer (section report (tailOf (now (text .entry))) (length (now (text .entry))) (groupsFrom (now (text .entry)) from)) ⌝ }
+// ---- the surface with the verdict, which the loop hands over in one piece
+
+fn end_section(verdict: Verdict, surface: Surface) -> SectionRead
+    ensures { λ r. ⌜ r ≡ record { verdict = verdict; surface = surface } ⌝ }
 {
-    let mut surface = report.surface;
-    let needs = row::needs_of(surface);
+    SectionRead { verdict, surface }
+}
+
+fn refuse_section(refusal: Refusal, place: usize, surface: Surface) -> SectionRead
+    ensures { λ r. ⌜ r ≡ record { verdict = verdict.Refused refusal place; surface = surface } ⌝ }
+{
+    end_section(Verdict::Refused { refusal, place }, surface)
+}
+
+// The groups of section 1 from a position of the text on. The surface is the loop's own: what each group says goes into it, and nothing of it is asked to
+// find the group's place.
+fn read_groups(text: &[u8], from: usize, needs: Needs, earlier: Surface) -> SectionRead
+    ensures { λ r. ⌜ outcomeOf (r .verdict) (r .surface) ≡ run (row needs) stopWords (tailOf (now (text .entry))) (length (now (text .entry))) 0 0 earlier (groupsFrom (now (text .entry)) from) ⌝ }
+{
+    let mut surface = earlier;
     let mut place = 0;
     let mut count = 0;
     let mut at = from;
     while at < text.len() {
         let Cut::Group { start, end } = text::next_group(text, at) else {
-            return finish(text, needs, place, count, surface, report);
+            return end_section(finish(text, needs, place, count), surface);
         };
         let g = text::part(text, start, end);
         let turn = decide(needs, place, count, g);
         match turn {
-            Turn::Halt => return close(start, needs, place, count, surface, report),
-            Turn::Refused(refusal) => return answer::refuse(refusal, start),
+            Turn::Halt => return end_section(close(start, needs, place, count), surface),
+            Turn::Refused(refusal) => return refuse_section(refusal, start, surface),
             Turn::At {
                 place: there,
                 count: standing,
             } => {
                 let said = said_at(there, needs, g);
                 if let Said::Refused(refusal) = said {
-                    return answer::refuse(refusal, start);
+                    return refuse_section(refusal, start, surface);
                 }
                 surface = with_said(said, surface);
                 place = there;
@@ -163,5 +170,19 @@ pub fn read_section(text: &[u8], from: usize, report: Synop) -> Reading
             }
         }
     }
-    finish(text, needs, place, count, surface, report)
+    end_section(finish(text, needs, place, count), surface)
+}
+
+// Section 1 from a position of the text on. The report is put together once, behind the loop, so that the loop copies none.
+pub fn read_section(text: &[u8], from: usize, report: Synop) -> Reading
+    ensures { λ r. ⌜ r ≡ answer (section report (tailOf (now (text .entry))) (length (now (text .entry))) (groupsFrom (now (text .entry)) from)) ⌝ }
+{
+    let earlier = report.surface;
+    let needs = row::needs_of(earlier);
+    let read = read_groups(text, from, needs, earlier);
+    let verdict = read.verdict;
+    let surface = read.surface;
+    let mut r = report;
+    r.surface = surface;
+    answer::by_verdict(verdict, r)
 }

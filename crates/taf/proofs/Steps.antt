@@ -1,18 +1,16 @@
--- The laws of one group of a TAF's part: what it says goes into the part as its place reads it, and where reading stands past it.
+-- The laws of one group of a TAF's part: what it says goes into the part as its place reads it.
 -- Assumes nothing.
-use Prim.Native.Nat.{ℕ, zero, suc, _≤_}
+use Prim.Native.Nat.{ℕ, _≤_}
 use mathlib.Core.Path.{_≡_, refl, sym, ap, _∙_}
-use mathlib.Core.Bool.{Bool, true, false, not, cond, _||_, or-false, false≢true}
-use mathlib.Core.List.{List, [], _∷_, _++_}
-use lib.ListN.{getD, replicate, List·getD-eq-default, List·getD-map}
-use lib.Dec.{eqb}
+use mathlib.Core.Bool.{Bool, true, false, not}
+use mathlib.Core.List.{List, [], _∷_}
+use lib.ListN.{List·getD-eq-default}
+use lib.Dec.{T}
+use mir.Val.{hasKey}
 use types.Run.{OneOf, miss}
 use denote.Enum.Declared.{tagOf}
-use Rattle.text.specs.declared.kinds.Refusal.{Refusal}
 use Rattle.text.specs.declared.kinds.Refusal.the-variants as refusal
-use Rattle.places.specs.Engine.{Group, Read, Good, Bad, then, Place, nowhere, placeAt, onward}
-use Rattle.places.proofs.Rows.{only-at}
-use Rattle.places.proofs.Loop.{atMost}
+use Rattle.places.specs.Engine.{Group, Read, Good, then, Place, nowhere, placeAt}
 use Rattle.record.specs.declared.aerodrome.Body.{Body}
 use Rattle.record.specs.declared.aerodrome.Leg.{Leg}
 use Rattle.record.specs.Taf.{setTime, setPeriod, setBody}
@@ -25,45 +23,11 @@ use Rattle.elements.specs.Body.{bodyRow}
 use Rattle.aerodrome_groups.specs.Head.{readTime}
 use Rattle.body.specs.Said.{unlessRefused, putSaid, withSaid, isOfBody}
 use Rattle.body.specs.Said.{Says as BodySays}
-use Rattle.body.proofs.Says.{said-fine, not-refused, unless-then, tag-in}
+use Rattle.body.proofs.Says.{unless-then, tag-in}
 use Rattle.taf_row.specs.declared.kinds.Part.{Part}
-use Rattle.taf_row.specs.declared.kinds.Part.the-variants as part
 use Rattle.taf_row.proofs.Rows.{row-length}
 use Rattle.taf_row.specs.Row.{isMain, isWhole, forecastIn, correctionOf, readPeriod, row}
 use Rattle.taf.specs.Said.{ontoBody, partSaid, Says}
-
--- ---- the row
-
--- no place has more than four groups
-pub row-few : (w : Part) → atMost 4 (row w) ≡ true
-unfolding row
-row-few part.Main = refl
-row-few part.Changing = refl
-row-few part.From = refl
-
--- NIL and CNL end the report: where either of two lists of tests holds
-abbrev either : List Bool → List Bool → List Bool
-either [] ys = ys
-either (x ∷ xs) [] = x ∷ xs
-either (x ∷ xs) (y ∷ ys) = (x || y) ∷ either xs ys
-
-either-at : (xs ys : List Bool) (i : ℕ) → (getD xs i false || getD ys i false) ≡ getD (either xs ys) i false
-either-at [] ys i = refl
-either-at (x ∷ xs) [] i = or-false (getD (x ∷ xs) i false)
-either-at (x ∷ xs) (y ∷ ys) zero = refl
-either-at (x ∷ xs) (y ∷ ys) (suc i) = either-at xs ys i
-
-abbrev alone : ℕ → ℕ → List Bool
-alone n m = replicate n false ++ (true ∷ replicate m false)
-
-ends-by : (w : Part) (i : ℕ) → (eqb i 4 || eqb i 6) ≡ placeAt (row w) i .ends
-unfolding row
-ends-by w i =
-    rw (only-at 4 (alone 4 6) i refl, only-at 6 (alone 6 4) i refl)
-    (either-at (alone 4 6) (alone 6 4) i ∙ List·getD-map (λ (p : Place Leg). p .ends) (row w) i nowhere)
-
-pub past-end : (w : Part) (i : ℕ) (b : Bool) → (eqb i 4 || eqb i 6) ≡ b → cond b 11 i ≡ onward (row w) i
-past-end w i b e = rw (row-length w, ← ends-by w i, e)
 
 -- ---- what a group says
 
@@ -71,41 +35,43 @@ past-end w i b e = rw (row-length w, ← ends-by w i, e)
 pub says-at : (w : Part) (j k : ℕ) (g : Group) (b : Body) {i : ℕ} {x y : Said} → i ≡ j → x ≡ y → Says w j k g b y → Says w i k g b x
 says-at w j k g b p q s = rw (p, q) s
 
--- what is none of the head is of the body
-abbrev elsewhere : List ℕ
-elsewhere = 0 ∷ 1 ∷ 6 ∷ 9 ∷ 10 ∷ 11 ∷ 12 ∷ 13 ∷ 14 ∷ 15 ∷ 16 ∷ 17 ∷ 18 ∷ 19 ∷ 20 ∷ 21 ∷ []
-
-pub others : (k : ℕ) (g : Group) (x : Said) → OneOf elsewhere (tagOf says.the-type x) → (r : Leg) → ontoBody k x r ≡ partSaid k g x r
-unfolding partSaid
-others k g (said.Special x) told r = refl
-others k g said.Corrected told r = refl
-others k g (said.Correction x) told r = absurd (miss elsewhere 2 tt told)
-others k g said.Station told r = absurd (miss elsewhere 3 tt told)
-others k g (said.Time x) told r = absurd (miss elsewhere 4 tt told)
-others k g said.Nil told r = absurd (miss elsewhere 5 tt told)
-others k g said.Automatic told r = refl
-others k g (said.Period x) told r = absurd (miss elsewhere 7 tt told)
-others k g said.Cancelled told r = absurd (miss elsewhere 8 tt told)
-others k g (said.Wind x) told r = refl
-others k g (said.Variation x) told r = refl
-others k g (said.Visibility x) told r = refl
-others k g (said.Runway x) told r = refl
-others k g (said.Weather x) told r = refl
-others k g said.Nsw told r = refl
-others k g (said.Layer x) told r = refl
-others k g (said.Cover x) told r = refl
-others k g (said.Temperatures x) told r = refl
-others k g (said.Qnh x) told r = refl
-others k g (said.Recent x) told r = refl
-others k g said.Nothing told r = refl
-others k g (said.Refused f) told r = refl
+-- what is none of the head is of the body; by tags of which none is the head's
+module _ (ks : List ℕ) (correction : T (not (hasKey ks 2))) (station : T (not (hasKey ks 3))) (time : T (not (hasKey ks 4))) (nil : T (not (hasKey ks 5)))
+    (period : T (not (hasKey ks 7))) (cancelled : T (not (hasKey ks 8))) where
+  pub others : (k : ℕ) (g : Group) (x : Said) → OneOf ks (tagOf says.the-type x) → (r : Leg) → ontoBody k x r ≡ partSaid k g x r
+  unfolding partSaid
+  others k g (said.Special x) told r = refl
+  others k g said.Corrected told r = refl
+  others k g (said.Correction x) told r = absurd (miss ks 2 correction told)
+  others k g said.Station told r = absurd (miss ks 3 station told)
+  others k g (said.Time x) told r = absurd (miss ks 4 time told)
+  others k g said.Nil told r = absurd (miss ks 5 nil told)
+  others k g said.Automatic told r = refl
+  others k g (said.Period x) told r = absurd (miss ks 7 period told)
+  others k g said.Cancelled told r = absurd (miss ks 8 cancelled told)
+  others k g (said.Wind x) told r = refl
+  others k g (said.Variation x) told r = refl
+  others k g (said.Visibility x) told r = refl
+  others k g (said.Runway x) told r = refl
+  others k g (said.Weather x) told r = refl
+  others k g said.Nsw told r = refl
+  others k g (said.Layer x) told r = refl
+  others k g (said.Cover x) told r = refl
+  others k g (said.Temperatures x) told r = refl
+  others k g (said.Qnh x) told r = refl
+  others k g (said.Recent x) told r = refl
+  others k g said.Nothing told r = refl
+  others k g (said.Refused f) told r = refl
 
 -- what a group of the body says
 by-same : (F : Body → Type 0) {b d : Body} → d ≡ b → F b → F d
 by-same F q h = rw q h
 
+abbrev body-tags : List ℕ
+body-tags = 9 ∷ 11 ∷ 13 ∷ 14 ∷ 15 ∷ 16 ∷ 21 ∷ []
+
 of-body : (k : ℕ) (g : Group) (x : Said) (r : Leg) → isOfBody x ≡ true → unlessRefused x (partSaid k g x r) ≡ then (withSaid k x (r .body)) (λ b. Good (setBody b r))
-of-body k g x r own = rw (← others k g x (tag-in elsewhere tt tt tt tt tt tt tt x own) r) (unless-then (λ b. setBody b r) (putSaid k x (r .body)) x)
+of-body k g x r own = rw (← others body-tags tt tt tt tt tt tt k g x (tag-in body-tags tt tt tt tt tt tt tt x own) r) (unless-then (λ b. setBody b r) (putSaid k x (r .body)) x)
 
 -- whether NSW may stand, as the code asked it
 pub body-says : (w : Part) {m : Bool} {j k : ℕ} {g : Group} {b : Body} {x : Said} → m ≡ isMain w → BodySays true (not m) false j k g b x → BodySays true (not (isMain w)) false j k g b x
@@ -166,15 +132,3 @@ module _ (w : Part) (k : ℕ) (g : Group) (b : Body) where
   -- past the row no group is taken
   pub says-nothing : (i : ℕ) → 11 ≤ i → Says w i k g b (said.Refused refusal.Shape)
   says-nothing i h r at = ap (λ (p : Place Leg). p .read k g r) (sym (List·getD-eq-default (row w) nowhere (rw (row-length w) h)))
-
--- what is said at a place is what the place reads: a refusal, or the part with it
-pub said-bad : (w : Part) (i k : ℕ) (g : Group) (r : Leg) {x : Said} {f : Refusal} → Says w i k g (r .body) x → x ≡ said.Refused f → placeAt (row w) i .read k g r ≡ Bad f
-said-bad w i k g r s is = sym (rw is at (s r refl))
-
-pub said-good : (w : Part) (i k : ℕ) (g : Group) (r : Leg) (x : Said) {a : Leg} → Says w i k g (r .body) x → OneOf said-fine (tagOf says.the-type x) → a ≡ partSaid k g x r
-    → placeAt (row w) i .read k g r ≡ Good a
-said-good w i k g r x s fine is = rw is (sym (s r refl) ∙ not-refused (partSaid k g x r) x fine)
-
--- by what the group was found to say
-pub put-by : (k : ℕ) (g : Group) (r : Leg) {x y : Said} → x ≡ y → partSaid k g y r ≡ partSaid k g x r
-put-by k g r q = rw q

@@ -21,11 +21,8 @@ use Rattle.figures.specs.Quote.{bytes}
 use Rattle.figures.proofs.Impossible.{impossible}
 use Rattle.shapes.specs.Pattern.{low, high, fits, hasAny, clash, clashEach}
 use Rattle.shapes.proofs.Patterns.{excluded-each}
-use Rattle.places.specs.Engine.{Group, Good, Bad, placeAt, onward, taken, On, step, Outcome}
-use Rattle.places.specs.declared.kinds.Turn.{Turn}
-use Rattle.places.specs.declared.kinds.Turn.the-variants as turn
-use Rattle.places.specs.Turn.{turnAt}
-use Rattle.places.proofs.Loop.{turnStep, turn-steps}
+use Rattle.places.specs.Engine.{Group, onward, On, step, Outcome}
+use Rattle.places.specs.Answer.{outcomeOf}
 use Rattle.places.specs.Parts.{runTo, stepBy, ended, further, reportOf}
 use Rattle.places.proofs.Going.{step-first}
 use Rattle.places.proofs.Turns.{comes, within, within-over, within-on, within-fault, within-halt}
@@ -36,6 +33,10 @@ use Rattle.record.specs.declared.aerodrome.Leg.{Leg}
 use Rattle.record.specs.declared.aerodrome.Change.{Change}
 use Rattle.record.specs.declared.aerodrome.Taf.{Taf}
 use Rattle.record.specs.Taf.{blankPeriod, blankLeg, blankTaf, setPeriod}
+use Rattle.body.specs.declared.kinds.Saying.{Saying}
+use Rattle.body.specs.declared.kinds.Met.{Met}
+use Rattle.body.specs.declared.kinds.Met.the-variants as met
+use Rattle.body.specs.Met.{Meets}
 use Rattle.taf_row.specs.declared.kinds.Part.{Part}
 use Rattle.taf_row.specs.declared.kinds.Part.the-variants as part
 use Rattle.taf.specs.declared.kinds.Opened.{Opened}
@@ -46,8 +47,9 @@ use Rattle.taf.specs.declared.kinds.Ahead.{Ahead}
 use Rattle.taf.specs.declared.kinds.Reading.{Reading}
 use Rattle.taf_row.specs.Row.{word, row, changeWords}
 use Rattle.taf_row.specs.Tests.{joins, owesIn}
+use Rattle.taf.specs.Said.{partSaid}
 use Rattle.taf.specs.Read.{probableGroup, fromGroup, openedBy, afterProbable, partOf, changeOf, partIn, changePart, changes, groupsRead, behindName, answer}
-use Rattle.taf.specs.Step.{begunBy, Begins, partBy, changeFrom, bodyFrom, refusedAt, atEnd, outcomeOf, afterPart, MetWord, PartDone, noneAhead, ReadAhead}
+use Rattle.taf.specs.Step.{begunBy, Begins, partBy, changeFrom, bodyFrom, refusedAt, atEnd, afterPart, MetWord, PartDone, noneAhead, ReadAhead}
 
 -- ---- what a change word opens
 
@@ -134,69 +136,69 @@ end-stays (Junk at) end b o q to e = impossible (cc)
 end-stays Clear end true o q to e = impossible (cc)
 end-stays Clear end false o q to e = impossible (cc)
 
+-- by the next group, as the part with this body meets it
 module _ {text : List ℕ} {w : Part} {n first : ℕ} {r₀ : Leg} {start c k : ℕ} {r : Leg} {at : ℕ} (reached : Reached text w n first r₀ start c k r at) where
+  abbrev meeting : Met → Type 0
+  meeting m = Meets (row w) (hasAny changeWords) partSaid c k (λ (a : Leg). a .body ≡ r .body) text at m
+
   abbrev done : PartRead → Type 0
   done x = PartDone text w n first r₀ start x
 
-  pub part-over : {x : PartRead} → groupsFrom text at ≡ [] → x ≡ record { next = atEnd (tailOf text) (length text) (owesIn w c k r); leg = r } → done x
-  unfolding goes-on
-  part-over none e =
-      record {
-        reads = λ takes.
-            reached .same takes
-            ∙ within-over changes text (partIn w takes) (16 - n) c k r at none
-            ∙ rw e (end-is text (tailOf text) n (length text) (owesIn w c k r) (takes r));
-        ahead = λ o q to z. absurd (end-stays (tailOf text) (length text) (owesIn w c k r) o q to (rw e at z));
-      }
+  module _ {m : Met} (meets : meeting m) where
+    met-as : {v : Met} → m ≡ v → meeting v
+    met-as is = rw is at meets
 
-  module _ {from to : ℕ} {g : Group} {u : Turn} (follows : Follows text at from to) (cut : g ≡ bytesOf text from to) (turns : u ≡ turnAt (row w) (hasAny changeWords) c k g) where
-    groups : groupsFrom text at ≡ record { start = from; bytes = g } ∷ groupsFrom text to
-    groups = rw cut (follows .groups)
-
-    steps : stepBy (row w) (hasAny changeWords) c k r g ≡ turnStep (row w) r g u
-    steps = rw turns (turn-steps (row w) (hasAny changeWords) c k g r)
-
-    pub part-word : {x : PartRead} → u ≡ turn.Halt → (x .leg ≡ r) × MetWord g from to n (owesIn w c k r) (x .next) → done x
-    unfolding goes-on comes
-    part-word o (is, met) =
+    pub part-over : {x : PartRead} → m ≡ met.Over → x ≡ record { next = atEnd (tailOf text) (length text) (owesIn w c k r); leg = r } → done x
+    unfolding goes-on
+    part-over is e =
         record {
           reads = λ takes.
               reached .same takes
-              ∙ within-halt changes text (partIn w takes) (16 - n) c k r at from to g groups (steps ∙ rw o)
-              ∙ rw is (met .reads text (takes r));
-          ahead = λ o q at′ z.
-              let m = met .ahead o q at′ z in
-              (omega (arith, m .0, reached .later, follows .after, follows .some), omega (arith, m .0, follows .within), m .1);
+              ∙ within-over changes text (partIn w takes) (16 - n) c k r at (met-as is)
+              ∙ rw e (end-is text (tailOf text) n (length text) (owesIn w c k r) (takes r));
+          ahead = λ o q to z. absurd (end-stays (tailOf text) (length text) (owesIn w c k r) o q to (rw e at z));
         }
 
-    pub part-fault : {f : Refusal} {x : PartRead} → u ≡ turn.Refused f → x ≡ record { next = refusedAt f from; leg = r } → done x
-    unfolding goes-on
-    part-fault {f} o e =
+    pub part-word : {from to : ℕ} {x : PartRead} → m ≡ met.Halt from to
+        → (x .leg ≡ r) × MetWord (bytesOf text from to) from to n (owesIn w c k r) (x .next) → done x
+    unfolding goes-on comes
+    part-word {from} {to} is (same, word) =
+        let (lies, halts) = met-as is in
         record {
-          reads = λ takes. reached .same takes ∙ within-fault changes text (partIn w takes) (16 - n) c k r at from to g groups f (steps ∙ rw o) ∙ rw e;
-          ahead = λ o q at′ z. impossible (let y = rw e at z in cc);
+          reads = λ takes.
+              reached .same takes
+              ∙ within-halt changes text (partIn w takes) (16 - n) c k r at from to _ (lies .groups) (halts r refl)
+              ∙ rw same (word .reads text (takes r));
+          ahead = λ o q at′ z.
+              let h = word .ahead o q at′ z in
+              (omega (arith, h .0, reached .later, lies .ahead), omega (arith, h .0, lies .within), h .1);
         }
 
-    module _ {i j : ℕ} (o : u ≡ turn.At i j) where
-      goes : stepBy (row w) (hasAny changeWords) c k r g ≡ taken (onward (row w) i) (j + 1) (placeAt (row w) i .read j g r)
-      goes = steps ∙ rw o
+    pub part-fault : {f : Refusal} {from : ℕ} {x : PartRead} → m ≡ met.Refused f from → x .next ≡ refusedAt f from → done x
+    unfolding goes-on
+    part-fault {f} {from} is e =
+        let (to, lies, stops) = met-as is in
+        record {
+          reads = λ takes.
+              reached .same takes ∙ within-fault changes text (partIn w takes) (16 - n) c k r at from to _ (lies .groups) f (stops r refl) ∙ rw e;
+          ahead = λ o q at′ z. impossible (let y = sym e ∙ z in cc);
+        }
 
-      pub part-on : {c′ : ℕ} {r′ : Leg} → placeAt (row w) i .read j g r ≡ Good r′ → c′ ≡ onward (row w) i → Reached text w n first r₀ start c′ (j + 1) r′ to
+    -- the group is taken
+    module _ {x : Saying} (is : m ≡ met.Says x) where
+      pub part-ahead : (at < x .end) × (x .end ≤ length text) × (x .count < 4)
+      part-ahead = let (lies, few, goes) = met-as is in (lies .ahead, lies .within, few)
+
+      pub part-on : {c′ : ℕ} {r′ : Leg} → c′ ≡ onward (row w) (x .place) → r′ ≡ partSaid (x .count) (bytesOf text (x .start) (x .end)) (x .said) r
+          → Reached text w n first r₀ start c′ (x .count + 1) r′ (x .end)
       unfolding goes-on
-      part-on {r′ = r′} good is =
+      part-on past put =
+          let (lies, few, goes) = met-as is in
           record {
             same = λ takes.
                 reached .same takes
-                ∙ rw is (within-on changes text (partIn w takes) (16 - n) c k r at from to g groups (onward (row w) i) (j + 1) r′ (goes ∙ rw good));
-            later = omega (arith, reached .later, follows .after, follows .some);
-          }
-
-      pub part-bad : {f : Refusal} {z : PartRead} → placeAt (row w) i .read j g r ≡ Bad f → z ≡ record { next = refusedAt f from; leg = r } → done z
-      unfolding goes-on
-      part-bad {f} bad e =
-          record {
-            reads = λ takes. reached .same takes ∙ within-fault changes text (partIn w takes) (16 - n) c k r at from to g groups f (goes ∙ rw bad) ∙ rw e;
-            ahead = λ o q at′ v. impossible (let s = rw e at v in cc);
+                ∙ rw (past, put) (within-on changes text (partIn w takes) (16 - n) c k r at (x .start) (x .end) _ (lies .groups) _ _ _ (goes r refl));
+            later = omega (arith, reached .later, lies .ahead);
           }
 
 -- ---- what is read from a change on

@@ -14,7 +14,8 @@ use Rattle.text.specs.declared.kinds.Verdict.{Verdict}
 use Rattle.text.specs.declared.kinds.Verdict.the-variants as verdict
 use Rattle.text.specs.Groups.{groupsFrom}
 use Rattle.text.specs.Text.{tailOf}
-use Rattle.places.specs.Engine.{Group, Read, Good, Bad, onward, Outcome, Done, Fault}
+use Rattle.places.specs.Engine.{Group, Read, Good, Bad, Outcome}
+use Rattle.places.specs.Answer.{outcomeOf}
 use Rattle.places.specs.Parts.{Begun, Further, unless, partFrom, begins, further}
 use Rattle.record.specs.declared.aerodrome.Period.{Period}
 use Rattle.record.specs.declared.aerodrome.Leg.{Leg}
@@ -32,14 +33,7 @@ use Rattle.taf.specs.declared.kinds.Next.{Next}
 use Rattle.taf.specs.declared.kinds.Next.the-variants as next
 use Rattle.taf.specs.declared.kinds.PartRead.{PartRead}
 use Rattle.taf.specs.declared.kinds.Ahead.{Ahead}
-use Rattle.taf_row.specs.Row.{row}
 use Rattle.taf.specs.Read.{openedBy, partIn, changePart, changes}
-
--- ---- one group
-
--- where reading stands past place i, in any part
-abbrev pub Onward : ℕ → ℕ → Type 0
-Onward i j = (w : Part) → j ≡ onward (row w) i
 
 -- ---- what a change word opens
 
@@ -86,11 +80,6 @@ abbrev pub atEnd : Tail → ℕ → Bool → Next
 atEnd (Junk at) end lacking = refusedAt refusal.Shape at
 atEnd Clear end true = refusedAt refusal.Absence end
 atEnd Clear end false = next.End (verdict.Accepted end)
-
--- a verdict with the report that it accepts
-abbrev pub outcomeOf : Verdict → Taf → Outcome Taf
-outcomeOf (verdict.Accepted rest) t = Done rest t
-outcomeOf (verdict.Refused f at) t = Fault f at
 
 abbrev pub afterPart : List ℕ → ℕ → Taf → Next → Outcome Taf
 afterPart text n t (next.End v) = outcomeOf v t

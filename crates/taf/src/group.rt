@@ -1,7 +1,5 @@
-// One group of a part: where it goes in the row of places, which what was read before has no part in, what it says there, and the part with it.
+// One group of a part: where it goes in the row of places, which what was read before has no part in, and what it says there.
 use aerodrome_groups::read::read_time;
-use aerodrome_groups::read::station_of;
-use body::read::put;
 use body::read::say;
 use elements::kinds::Said;
 use figures::field;
@@ -11,7 +9,6 @@ use places::turn_by;
 use record::aerodrome::Body;
 use record::aerodrome::Correction;
 use record::aerodrome::Instant;
-use record::aerodrome::Leg;
 use record::aerodrome::Period;
 use record::values::Number;
 use shapes::has_pattern;
@@ -23,11 +20,9 @@ use text::kinds::Refusal;
 ghost use mathlib.Core.Path.{_≡_};
 ghost use Rattle.shapes.specs.Pattern.{hasAny};
 ghost use Rattle.places.specs.Turn.{turnAt};
-ghost use Rattle.record.specs.Taf.{setCorrection};
 ghost use Rattle.elements.specs.Answers.{asPeriod};
 ghost use Rattle.taf_row.specs.Row.{correctionOf, hourOf, readPeriod, row, changeWords};
-ghost use Rattle.taf.specs.Said.{partSaid, Says};
-ghost use Rattle.taf.specs.Step.{Onward};
+ghost use Rattle.taf.specs.Said.{Says};
 
 // ---- its place
 
@@ -42,17 +37,6 @@ pub fn decide(part: Part, place: usize, count: usize, g: &[u8]) -> Turn
         return Turn::Halt;
     }
     turn_by(find(part, place, count, g))
-}
-
-// Past NIL and past CNL reading is past the row.
-pub fn go_past(place: usize) -> usize
-    ensures { λ r. ⌜ Onward place r ⌝ }
-{
-    if (place == 4) | (place == 6) {
-        11
-    } else {
-        place
-    }
 }
 
 // ---- what it says
@@ -122,39 +106,4 @@ pub fn say_at(part: Part, place: usize, count: usize, g: &[u8], b: Body) -> Said
         10 => say(3, true, change, false, count, g, b),
         _ => Said::Refused(Refusal::Shape),
     }
-}
-
-fn with_correction(correction: Correction, r: Leg) -> Leg
-    ensures { λ a. ⌜ a ≡ setCorrection correction r ⌝ }
-{
-    let station = r.station;
-    let time = r.time;
-    let period = r.period;
-    let body = r.body;
-    Leg {
-        correction,
-        station,
-        time,
-        nil: r.nil,
-        period,
-        cancelled: r.cancelled,
-        body,
-    }
-}
-
-// The part with what the group says, where `count` groups stand at its place.
-pub fn with_said(said: Said, count: usize, g: &[u8], r: Leg) -> Leg
-    ensures { λ a. ⌜ a ≡ partSaid count (now (g .entry)) said r ⌝ }
-{
-    let mut a = r;
-    match said {
-        Said::Correction(x) => a = with_correction(x, r),
-        Said::Station => a.station = station_of(g),
-        Said::Time(x) => a.time = x,
-        Said::Nil => a.nil = true,
-        Said::Period(x) => a.period = x,
-        Said::Cancelled => a.cancelled = true,
-        _ => a.body = put(said, count, r.body),
-    }
-    a
 }

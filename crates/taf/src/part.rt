@@ -1,29 +1,41 @@
 // The groups of one part, the main part too, up to the change word that opens the next one or up to the end of the text.
 use crate::group::decide;
-use crate::group::go_past;
 use crate::group::say_at;
-use crate::group::with_said;
 use crate::kinds::Next;
 use crate::kinds::Opened;
 use crate::kinds::PartRead;
 use crate::word::open_change;
+use aerodrome_groups::read::station_of;
+use body::kinds::Met;
+use body::kinds::Saying;
+use body::read::put;
 use elements::kinds::Said;
 use places::kinds::Turn;
+use record::aerodrome::Body;
+use record::aerodrome::Correction;
 use record::aerodrome::Leg;
 use record::aerodrome::Period;
 use record::blank_aerodrome::blank_leg;
+use sky::read::add_layer;
 use taf_row::kinds::Part;
+use taf_row::row::go_past;
 use taf_row::tests::is_full;
 use taf_row::tests::owes;
 use text::kinds::Cut;
 use text::kinds::Refusal;
 use text::kinds::Tail;
 use text::kinds::Verdict;
+use weather::read::add_weather;
 ghost use mathlib.Core.Path.{_≡_};
 ghost use lib.ListN.{length};
+ghost use Rattle.text.specs.Groups.{partOf};
 ghost use Rattle.text.specs.Text.{tailOf};
-ghost use Rattle.record.specs.Taf.{blankLeg, setPeriod};
+ghost use Rattle.record.specs.Taf.{blankLeg, setCorrection, setPeriod, setBody};
+ghost use Rattle.shapes.specs.Pattern.{hasAny};
+ghost use Rattle.body.specs.Met.{Meets};
+ghost use Rattle.taf_row.specs.Row.{row, changeWords};
 ghost use Rattle.taf_row.specs.Tests.{owesIn};
+ghost use Rattle.taf.specs.Said.{partSaid};
 ghost use Rattle.taf.specs.Step.{refusedAt, atEnd, MetWord, PartDone};
 
 fn refuse(refusal: Refusal, place: usize) -> Next
@@ -72,15 +84,24 @@ fn after_word(g: &[u8], start: usize, end: usize, n: usize, lacking: bool) -> Ne
 
 // ---- the part with what follows it, which the loop hands over in one piece
 
-fn end_part(text: &[u8], part: Part, place: usize, count: usize, leg: Leg) -> PartRead
-    ensures { λ r. ⌜ r ≡ record { next = atEnd (tailOf (now (text .entry))) (length (now (text .entry))) (owesIn part place count leg); leg = leg } ⌝ }
+fn with_body(body: Body, leg: Leg) -> Leg
+    ensures { λ r. ⌜ r ≡ setBody body leg ⌝ }
 {
+    let mut whole = leg;
+    whole.body = body;
+    whole
+}
+
+fn end_part(text: &[u8], part: Part, place: usize, count: usize, leg: Leg, body: Body) -> PartRead
+    ensures { λ r. ⌜ r ≡ record { next = atEnd (tailOf (now (text .entry))) (length (now (text .entry))) (owesIn part place count (setBody body leg)); leg = setBody body leg } ⌝ }
+{
+    let leg = with_body(body, leg);
     let next = after_end(text, owes(part, place, count, leg));
     PartRead { next, leg }
 }
 
 fn meet_word(
-    g: &[u8],
+    text: &[u8],
     start: usize,
     end: usize,
     n: usize,
@@ -88,9 +109,12 @@ fn meet_word(
     place: usize,
     count: usize,
     leg: Leg,
+    body: Body,
 ) -> PartRead
-    ensures { λ r. ⌜ (r .leg ≡ leg) × MetWord (now (g .entry)) start end n (owesIn part place count leg) (r .next) ⌝ }
+    ensures { λ r. ⌜ (r .leg ≡ setBody body leg) × MetWord (partOf (now (text .entry)) start end) start end n (owesIn part place count (setBody body leg)) (r .next) ⌝ }
 {
+    let leg = with_body(body, leg);
+    let g = text::part(text, start, end);
     let next = after_word(g, start, end, n, owes(part, place, count, leg));
     PartRead { next, leg }
 }
@@ -102,36 +126,106 @@ fn refuse_part(refusal: Refusal, place: usize, leg: Leg) -> PartRead
     PartRead { next, leg }
 }
 
-// A part from a position of the text on, k groups at its first place, with the period that its word gave; the report that takes it in has n changes. The
-// part is the loop's own: what each group says goes into it, and nothing of it is asked to find the group's place.
-pub fn read_part(text: &[u8], at: usize, part: Part, n: usize, k: usize, period: Period) -> PartRead
-    ensures { λ r. ⌜ PartDone (now (text .entry)) part n k (setPeriod period blankLeg) at r ⌝ }
+// ---- from group to group
+
+// The next group of the text: where it goes in the part's row, and what it says there. Of the part it sees what a reading depends on.
+fn meet(text: &[u8], from: usize, part: Part, place: usize, count: usize, body: Body) -> Met
+    ensures { λ m. ⌜ Meets (row part) (hasAny changeWords) partSaid place count (λ r. r .body ≡ body) (now (text .entry)) from m ⌝ }
+{
+    let Cut::Group { start, end } = text::next_group(text, from) else {
+        return Met::Over;
+    };
+    let g = text::part(text, start, end);
+    let turn = decide(part, place, count, g);
+    match turn {
+        Turn::Halt => Met::Halt { start, end },
+        Turn::Refused(refusal) => Met::Refused { refusal, start },
+        Turn::At {
+            place: there,
+            count: standing,
+        } => {
+            let said = say_at(part, there, standing, g, body);
+            if let Said::Refused(refusal) = said {
+                return Met::Refused { refusal, start };
+            }
+            Met::Says(Saying {
+                said,
+                place: there,
+                count: standing,
+                start,
+                end,
+            })
+        }
+    }
+}
+
+// A part of which only the period is known.
+fn begin_leg(period: Period) -> Leg
+    ensures { λ r. ⌜ r ≡ setPeriod period blankLeg ⌝ }
 {
     let mut leg = blank_leg();
     leg.period = period;
+    leg
+}
+
+// AMD or COR. A field that is an enum is not stored to by itself, so this part is made anew.
+fn with_correction(correction: Correction, r: Leg) -> Leg
+    ensures { λ a. ⌜ a ≡ setCorrection correction r ⌝ }
+{
+    let station = r.station;
+    let time = r.time;
+    let period = r.period;
+    let body = r.body;
+    Leg {
+        correction,
+        station,
+        time,
+        nil: r.nil,
+        period,
+        cancelled: r.cancelled,
+        body,
+    }
+}
+
+// A part from a position of the text on, k groups at its first place, with the period that its word gave; the report that takes it in has n changes. The
+// part is the loop's own, its body beside it, so that what a group says is stored where it belongs with no copy of either; nothing of them is asked to find
+// the group's place.
+pub fn read_part(text: &[u8], at: usize, part: Part, n: usize, k: usize, period: Period) -> PartRead
+    ensures { λ r. ⌜ PartDone (now (text .entry)) part n k (setPeriod period blankLeg) at r ⌝ }
+{
+    let mut leg = begin_leg(period);
+    let mut body = leg.body;
     let mut here = 0;
     let mut standing = k;
     let mut from = at;
-    while from < text.len() {
-        let Cut::Group { start, end } = text::next_group(text, from) else {
-            return end_part(text, part, here, standing, leg);
-        };
-        let g = text::part(text, start, end);
-        let turn = decide(part, here, standing, g);
-        match turn {
-            Turn::Halt => return meet_word(g, start, end, n, part, here, standing, leg),
-            Turn::Refused(refusal) => return refuse_part(refusal, start, leg),
-            Turn::At { place, count } => {
-                let said = say_at(part, place, count, g, leg.body);
-                if let Said::Refused(refusal) = said {
-                    return refuse_part(refusal, start, leg);
+    loop {
+        let met = meet(text, from, part, here, standing, body);
+        match met {
+            Met::Over => return end_part(text, part, here, standing, leg, body),
+            Met::Halt { start, end } => {
+                return meet_word(text, start, end, n, part, here, standing, leg, body);
+            }
+            Met::Refused { refusal, start } => return refuse_part(refusal, start, leg),
+            Met::Says(group) => {
+                let said = group.said;
+                here = go_past(group.place);
+                standing = group.count + 1;
+                from = group.end;
+                let g = text::part(text, group.start, group.end);
+                match said {
+                    Said::Correction(x) => leg = with_correction(x, leg),
+                    Said::Station => leg.station = station_of(g),
+                    Said::Time(x) => leg.time = x,
+                    Said::Nil => leg.nil = true,
+                    Said::Period(x) => leg.period = x,
+                    Said::Cancelled => leg.cancelled = true,
+                    Said::Wind(x) => body.wind = x,
+                    Said::Visibility(x) => body.visibility = x,
+                    Said::Weather(x) => body.weathers = add_weather(group.count, body.weathers, x),
+                    Said::Layer(x) => body.sky = add_layer(group.count, body.sky, x),
+                    _ => body = put(said, group.count, body),
                 }
-                leg = with_said(said, count, g, leg);
-                here = go_past(place);
-                standing = count + 1;
-                from = end;
             }
         }
     }
-    end_part(text, part, here, standing, leg)
 }

@@ -24,7 +24,8 @@ ghost use Rattle.text.specs.Text.{tailOf};
 ghost use Rattle.text.specs.Groups.{groupsFrom};
 ghost use Rattle.record.specs.Taf.{blankTaf};
 ghost use Rattle.taf.specs.Read.{behindName, answer};
-ghost use Rattle.taf.specs.Step.{outcomeOf, noneAhead, changeFrom, bodyFrom, ReadAhead};
+ghost use Rattle.places.specs.Answer.{outcomeOf};
+ghost use Rattle.taf.specs.Step.{noneAhead, changeFrom, bodyFrom, ReadAhead};
 
 // No change is read ahead.
 fn none(verdict: Verdict, count: usize) -> Ahead

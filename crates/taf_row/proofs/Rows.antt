@@ -1,14 +1,17 @@
--- The laws of a part's row: its arrays in the code, its change words, and what a part owes.
+-- The laws of a part's row: its arrays in the code, where reading stands past a place, its change words, and what a part owes.
 -- Assumes nothing.
-use Prim.Native.Nat.{ℕ}
-use mathlib.Core.Path.{_≡_, refl, sym}
-use mathlib.Core.Bool.{Bool, true, false, not, cond, _&&_, _||_, or-false}
-use mathlib.Core.List.{List, [], _∷_}
-use lib.ListN.{length, drop}
+use Prim.Native.Nat.{ℕ, zero, suc}
+use mathlib.Core.Path.{_≡_, refl, sym, _∙_}
+use mathlib.Core.Bool.{Bool, true, false, not, cond, _||_, or-false}
+use mathlib.Core.List.{List, [], _∷_, _++_}
+use lib.ListN.{length, drop, getD, replicate, List·getD-map}
+use lib.Dec.{eqb}
 use Rattle.figures.specs.Quote.{bytes}
 use Rattle.shapes.specs.Pattern.{hasPattern, hasAny}
 use Rattle.places.specs.Seek.{owed}
-use Rattle.places.specs.Engine.{Group, mustsOf, mostsOf}
+use Rattle.places.specs.Engine.{Group, Place, nowhere, placeAt, mustsOf, mostsOf, onward}
+use Rattle.places.proofs.Rows.{only-at}
+use Rattle.places.proofs.Loop.{atMost}
 use Rattle.record.specs.declared.aerodrome.Leg.{Leg}
 use Rattle.taf_row.specs.declared.kinds.Part.{Part}
 use Rattle.taf_row.specs.declared.kinds.Part.the-variants as part
@@ -36,6 +39,39 @@ pub mosts-by : (w : Part) {m p : Bool} {i j : ℕ} → m ≡ isMain w → i ≡ 
     → (i ∷ i ∷ i ∷ i ∷ i ∷ j ∷ i ∷ 1 ∷ 1 ∷ 3 ∷ 4 ∷ []) ≡ mostsOf (row w)
 unfolding row
 mosts-by w m i p j = rw (i, m, j, p)
+
+-- no place has more than four groups
+pub row-few : (w : Part) → atMost 4 (row w) ≡ true
+unfolding row
+row-few part.Main = refl
+row-few part.Changing = refl
+row-few part.From = refl
+
+-- NIL and CNL end the report: where either of two lists of tests holds
+abbrev either : List Bool → List Bool → List Bool
+either [] ys = ys
+either (x ∷ xs) [] = x ∷ xs
+either (x ∷ xs) (y ∷ ys) = (x || y) ∷ either xs ys
+
+either-at : (xs ys : List Bool) (i : ℕ) → (getD xs i false || getD ys i false) ≡ getD (either xs ys) i false
+either-at [] ys i = refl
+either-at (x ∷ xs) [] i = or-false (getD (x ∷ xs) i false)
+either-at (x ∷ xs) (y ∷ ys) zero = refl
+either-at (x ∷ xs) (y ∷ ys) (suc i) = either-at xs ys i
+
+abbrev alone : ℕ → ℕ → List Bool
+alone n m = replicate n false ++ (true ∷ replicate m false)
+
+ends-by : (w : Part) (i : ℕ) → (eqb i 4 || eqb i 6) ≡ placeAt (row w) i .ends
+unfolding row
+ends-by w i =
+    rw (only-at 4 (alone 4 6) i refl, only-at 6 (alone 6 4) i refl)
+    (either-at (alone 4 6) (alone 6 4) i ∙ List·getD-map (λ (p : Place Leg). p .ends) (row w) i nowhere)
+
+pub past-end : (w : Part) (i : ℕ) (b : Bool) → (eqb i 4 || eqb i 6) ≡ b → cond b 11 i ≡ onward (row w) i
+past-end w i b e = rw (row-length w, ← ends-by w i, e)
+
+-- ---- its change words
 
 any-of : (a b c d : Bool) → (((a || b) || c) || d) ≡ (a || (b || (c || (d || false))))
 any-of true b c d = refl

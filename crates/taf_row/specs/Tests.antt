@@ -6,7 +6,7 @@ use mathlib.Core.Bool.{Bool, true, false, not, _&&_, _||_}
 use lib.ListN.{drop}
 use lib.Dec.{leb}
 use Rattle.places.specs.Seek.{owed}
-use Rattle.places.specs.Engine.{Group, placeAt, mustsOf}
+use Rattle.places.specs.Engine.{Group, placeAt, mustsOf, onward}
 use Rattle.record.specs.declared.aerodrome.Opening.{Opening}
 use Rattle.record.specs.declared.aerodrome.Opening.the-variants as opening
 use Rattle.record.specs.declared.aerodrome.Leg.{Leg}
@@ -18,6 +18,10 @@ use Rattle.taf_row.specs.Row.{elementStands, word, row}
 -- whether place i has the group's shape, in any part
 abbrev pub HasAt : ℕ → Group → Bool → Type 0
 HasAt i g b = (w : Part) → b ≡ placeAt (row w) i .has g
+
+-- where reading stands past place i, in any part
+abbrev pub Onward : ℕ → ℕ → Type 0
+Onward i j = (w : Part) → j ≡ onward (row w) i
 
 -- ---- TEMPO at once after PROB30 or PROB40
 

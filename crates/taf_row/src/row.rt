@@ -18,7 +18,7 @@ ghost use Rattle.places.specs.Engine.{placeAt, standsOf, mustsOf, mostsOf};
 ghost use Rattle.taf_row.specs.Row.{isMain, isWhole, hasPeriod, isCorrection, forecastIn, row, changeWords};
 ghost use Rattle.taf_row.specs.declared.kinds.Part.the-variants as part;
 ghost use Rattle.elements.specs.Body.{hasWeatherOrNsw};
-ghost use Rattle.taf_row.specs.Tests.{HasAt};
+ghost use Rattle.taf_row.specs.Tests.{HasAt, Onward};
 
 pub fn is_main(part: Part) -> bool
     ensures { λ r. ⌜ r ≡ isMain part ⌝ }
@@ -179,5 +179,16 @@ pub fn find(part: Part, place: usize, count: usize, g: &[u8]) -> Found
         Found::Earlier
     } else {
         Found::Unknown
+    }
+}
+
+// Past NIL and past CNL reading is past the row.
+pub fn go_past(place: usize) -> usize
+    ensures { λ r. ⌜ Onward place r ⌝ }
+{
+    if (place == 4) | (place == 6) {
+        11
+    } else {
+        place
     }
 }

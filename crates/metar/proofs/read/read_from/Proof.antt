@@ -1,19 +1,22 @@
 -- `metar::read::read_from` meets its contract: the reading from a position on stays what the text is read as.
 -- Assumes nothing.
 use borrow.Author.Needs.{needs}
-use mathlib.Core.Path.{_≡_, sym, _∙_}
-use Prim.Native.Nat.{_-_}
+use mathlib.Core.Path.{_≡_, refl, sym, _∙_}
+use mathlib.Core.List.{List}
+use Prim.Native.Nat.{ℕ, _+_, _-_, _≤_, _<_}
 use native.Mathlib.Omega.{arith}
 use lib.ListN.{length}
 use Rattle.text.specs.Text.{tailOf}
-use Rattle.text.specs.Groups.{groupsFrom}
-use Rattle.text.proofs.Groups.{Follows, when-group, when-end, from-end}
-use Rattle.shapes.specs.Pattern.{hasAny}
+use Rattle.text.specs.Groups.{partOf, groupsFrom}
 use Rattle.places.proofs.Going.{going}
-use Rattle.places.proofs.Loop.{turn-room, goes-on, reads-over, reads-on, reads-bad, reads-halt, reads-fault}
+use Rattle.places.proofs.Loop.{goes-on}
+use Rattle.record.specs.declared.aerodrome.Metar.{Metar}
+use Rattle.elements.specs.declared.kinds.Said.{Said}
+use Rattle.body.specs.declared.kinds.Saying.{Saying}
 use Rattle.metar_row.specs.Row.{row, stopWords}
+use Rattle.metar.specs.Said.{reportSaid}
 use Rattle.metar.specs.Read.{behindName, answer}
-use Rattle.metar.proofs.Steps.{row-few, said-good, said-bad}
+use Rattle.metar.proofs.Steps.{met-over, met-halt, met-fault, met-ahead, met-on, others}
 use Rattle.metar.proofs.read.read_from.Statement.{statement}
 use Rattle.metar.proofs.read.read_from.Tie as tie
 
@@ -24,9 +27,28 @@ Inv text at special report₀ place₀ count₀ from₀ report place count from 
 abbrev μ : tie.MeasureT-loop
 μ text at special report₀ place₀ count₀ from₀ report place count from = length text - from
 
--- past the next group's cut
-follows : (c : tie.After-known-told Inv μ) → Follows (c .before .before .before .before .before .before .before .before .args .text .now) (c .before .before .before .before .before .loop .from) (c .before .start .given .0 .0) (c .before .start .given .0 .1 .0)
-follows c = when-group _ _ _ _ (sym (c .before .start .given .1) ∙ c .before .before .before .next-group .ensures)
+-- where a group is taken, before what it says is stored
+module _ (c : tie.After-struct-known Inv μ) where
+  abbrev text : List ℕ
+  text = c .before .before .before .before .before .before .before .before .before .args .text .now
+
+  abbrev next : Saying
+  next = c .before .before .before .met3 .given .0 .0
+
+  abbrev report : Metar
+  report = c .before .before .before .before .before .before .loop .report
+
+  ahead : (c .before .before .before .before .before .before .loop .from < next .end) × (next .end ≤ length text) × (next .count < 4)
+  ahead = met-ahead _ _ _ report _ _ (c .before .before .before .before .before .meet .ensures) (c .before .before .before .met3 .given .1)
+
+  less : length text - next .end < length text - c .before .before .before .before .before .before .loop .from
+  less = omega (arith, ahead)
+
+  -- reading goes on with the record that has what the group says
+  again : {y : Said} {a : Metar} → next .said ≡ y → a ≡ reportSaid (next .count) (partOf text (next .start) (next .end)) y report
+      → answer (behindName (c .before .before .before .before .before .before .before .before .before .args .special) (tailOf text) (length text) (groupsFrom text (c .before .before .before .before .before .before .before .before .before .args .at)))
+      ≡ goes-on answer row stopWords text (c .before .go-past .result) (next .count + 1) a (next .end)
+  again tells put = c .before .before .before .before .before .before .loop .inv ∙ met-on _ _ _ _ _ _ (c .before .before .before .before .before .meet .ensures) (c .before .before .before .met3 .given .1) (c .before .go-past .ensures) tells put
 
 pub read-from-spec : {M : Type 1} → statement M
 read-from-spec =
@@ -34,21 +56,23 @@ read-from-spec =
     (tie.spec Inv μ
     (λ c κs. search needs)
     (λ c. unfold behindName goes-on going in rw (c .blank-metar .ensures))
-    (λ c κs. search needs) (λ c. search needs) (λ c. search needs) (λ c κs. search needs)
-    (λ c. c .finish .ensures ∙ sym (c .before .before .before .before .before .loop .inv ∙ reads-over answer row stopWords _ _ _ _ _ (when-end _ _ _ (sym (c .before .enum-told .given .1) ∙ c .before .before .before .next-group .ensures))))
-    (λ c κs. search needs) (λ c κs. search needs) (λ c. search needs) (λ c κs. search needs)
-    (λ c. c .close .ensures ∙ sym (c .before .before .before .before .before .before .before .before .before .before .loop .inv ∙ reads-halt answer row stopWords _ _ _ _ _ (follows (c .before .before .before .before .before)) (c .before .before .before .before .part .ensures) (c .before .before .before .decide .ensures) (c .before .enum-told2 .given .1)))
+    (λ c κs. search needs) (λ c. search needs) (λ c κs. search needs)
+    (λ c. c .finish .ensures ∙ sym (c .before .before .before .before .loop .inv ∙ met-over _ _ _ _ _ _ (c .before .before .before .meet .ensures) (c .before .enum-told .given .1)))
     (λ c. search needs) (λ c κs. search needs)
-    (λ c. c .refuse .ensures ∙ sym (c .before .before .before .before .before .before .before .before .before .before .before .loop .inv ∙ reads-fault answer row stopWords _ _ _ _ _ (follows (c .before .before .before .before .before .before)) (c .before .before .before .before .before .part .ensures) (c .before .before .before .before .decide .ensures) (c .before .before .turn .given .1)))
-    (λ c. search needs) (λ c κs. search needs) (λ c. search needs) (λ c κs. search needs)
-    (λ c.
-    c .refuse2 .ensures
-    ∙ sym (c .before .before .before .before .before .before .before .before .before .before .before .before .before .before .before .loop .inv ∙ reads-bad answer row stopWords _ _ _ _ _ (follows (c .before .before .before .before .before .before .before .before .before .before)) (c .before .before .before .before .before .before .before .before .before .part .ensures) (c .before .before .before .before .before .before .before .before .decide .ensures) (c .before .before .before .before .before .before .turn2 .given .1) (said-bad _ _ _ _ (c .before .before .before .before .say-at .ensures) (c .before .before .said .given .1))))
-    (λ c κs. search needs) (λ c κs. search needs)
-    (λ c. omega (arith, turn-room row (hasAny stopWords) _ _ _ 4 row-few (c .before .before .before .before .before .before .before .decide .ensures) (c .before .before .before .before .before .turn2 .given .1)))
-    (λ c. omega (arith, follows (c .before .before .before .before .before .before .before .before .before)))
-    (λ c.
-    c .before .before .before .before .before .before .before .before .before .before .before .before .before .before .loop .inv
-    ∙ reads-on answer row stopWords _ _ _ _ _ (follows (c .before .before .before .before .before .before .before .before .before)) (c .before .before .before .before .before .before .before .before .part .ensures) (c .before .before .before .before .before .before .before .decide .ensures) (c .before .before .before .before .before .turn2 .given .1) (said-good _ _ _ _ (c .before .before .before .say-at .result) (c .before .before .before .say-at .ensures) (c .before .before .match3 .keys2) (c .before .with-said .ensures)) (c .go-past .ensures))
-    (λ c κs. search needs)
-    (λ c. c .finish2 .ensures ∙ sym (c .before .before .loop .inv ∙ reads-over answer row stopWords _ _ _ _ _ (from-end _ _ (c .before .loop-test .left)))))
+    (λ c. c .close .ensures ∙ sym (c .before .before .before .before .before .loop .inv ∙ met-halt _ _ _ _ _ _ (c .before .before .before .before .meet .ensures) (c .before .before .met .given .1)))
+    (λ c. search needs) (λ c κs. search needs)
+    (λ c. c .refuse .ensures ∙ sym (c .before .before .before .before .before .loop .inv ∙ met-fault _ _ _ _ _ _ (c .before .before .before .before .meet .ensures) (c .before .before .met2 .given .1)))
+    (λ c. search needs) (λ c κs. search needs)
+    (λ c. omega (arith, ahead c))
+    (λ c. search needs) (λ c. less (c .before .before .before)) (λ c. again (c .before .before .before) (c .before .said .given .1) (unfold reportSaid in refl))
+    (λ c. search needs) (λ c. less (c .before .before)) (λ c. again (c .before .before) (c .enum-told2 .given .1) (unfold reportSaid in refl))
+    (λ c. search needs) (λ c κs. search needs) (λ c κs. search needs) (λ c. less (c .before .before .before .before)) (λ c. again (c .before .before .before .before) (c .before .before .enum-told3 .given .1) (unfold reportSaid in rw (c .station-of .ensures, c .before .part .ensures)))
+    (λ c. search needs) (λ c. less (c .before .before .before)) (λ c. again (c .before .before .before) (c .before .said2 .given .1) (unfold reportSaid in refl))
+    (λ c. search needs) (λ c. less (c .before .before)) (λ c. again (c .before .before) (c .enum-told4 .given .1) (unfold reportSaid in refl))
+    (λ c. search needs) (λ c. less (c .before .before)) (λ c. again (c .before .before) (c .enum-told5 .given .1) (unfold reportSaid in refl))
+    (λ c. search needs) (λ c. less (c .before .before .before)) (λ c. again (c .before .before .before) (c .before .said3 .given .1) (unfold reportSaid in refl))
+    (λ c. search needs) (λ c κs. search needs) (λ c. less (c .before .before .before .before)) (λ c. again (c .before .before .before .before) (c .before .before .said4 .given .1) (unfold reportSaid in rw (c .add-runway .ensures)))
+    (λ c. search needs) (λ c. less (c .before .before .before)) (λ c. again (c .before .before .before) (c .before .said5 .given .1) (unfold reportSaid in refl))
+    (λ c. search needs) (λ c. less (c .before .before .before)) (λ c. again (c .before .before .before) (c .before .said6 .given .1) (unfold reportSaid in refl))
+    (λ c. search needs) (λ c κs. search needs) (λ c. less (c .before .before .before .before)) (λ c. again (c .before .before .before .before) (c .before .before .said7 .given .1) (unfold reportSaid in rw (c .add-weather .ensures)))
+    (λ c κs. search needs) (λ c. less (c .before .before)) (λ c. again (c .before .before) refl (rw (c .put .ensures) (others _ _ _ (c .before .match2 .keys12) _))))

@@ -8,5 +8,5 @@ pub end-part-spec : {M : Type 1} → statement M
 end-part-spec =
     tie.close
     (tie.spec
-    (λ c κs. search needs) (λ c κs. search needs)
-    (λ c. rw (c .after-end .ensures, c .before .owes .ensures)))
+    (λ c κs. search needs) (λ c κs. search needs) (λ c κs. search needs)
+    (λ c. rw (c .after-end .ensures, c .before .owes .ensures, c .before .before .with-body .ensures)))

@@ -1,7 +1,6 @@
 -- `taf::part::meet_word` meets its contract: what the part owes is asked of it.
 -- Assumes nothing.
 use borrow.Author.Needs.{needs}
-use mathlib.Core.Path.{refl}
 use Rattle.taf.proofs.part.meet_word.Statement.{statement}
 use Rattle.taf.proofs.part.meet_word.Tie as tie
 
@@ -9,5 +8,5 @@ pub meet-word-spec : {M : Type 1} → statement M
 meet-word-spec =
     tie.close
     (tie.spec
-    (λ c κs. search needs) (λ c κs. search needs)
-    (λ c. (refl, rw (c .before .owes .ensures) at (c .after-word .ensures))))
+    (λ c κs. search needs) (λ c κs. search needs) (λ c κs. search needs) (λ c κs. search needs)
+    (λ c. (c .before .before .before .with-body .ensures, rw (c .before .owes .ensures, c .before .before .part .ensures, c .before .before .before .with-body .ensures) at (c .after-word .ensures))))

@@ -1,9 +1,9 @@
--- `taf::group::go_past` meets its contract: NIL and CNL end the report.
+-- `taf_row::row::go_past` meets its contract: NIL and CNL end the report.
 -- Assumes nothing.
 use mathlib.Core.Bool.{true, false}
-use Rattle.taf.proofs.Steps.{past-end}
-use Rattle.taf.proofs.group.go_past.Statement.{statement}
-use Rattle.taf.proofs.group.go_past.Tie as tie
+use Rattle.taf_row.proofs.Rows.{past-end}
+use Rattle.taf_row.proofs.row.go_past.Statement.{statement}
+use Rattle.taf_row.proofs.row.go_past.Tie as tie
 
 returns : tie.Need-returns
 returns c w = past-end w _ true (c .if1 .taken)
