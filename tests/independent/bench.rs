@@ -56,6 +56,7 @@ const fn kind(name: &'static str, first_group: &'static str, own: Call) -> Kind 
 const SYNOP: Kind = kind("SYNOP", "AAXX", delgushar_synop);
 const SHIP: Kind = kind("SHIP", "BBXX", delgushar_synop);
 const METAR: Kind = kind("METAR", "METAR", delgushar_metar);
+const TREND: Kind = kind("METAR with a trend", "METAR", delgushar_metar);
 const TAF: Kind = kind("TAF", "TAF", delgushar_taf);
 
 /// Texts of one kind that are timed together.
@@ -89,15 +90,25 @@ fn bytes_of_line(line: &str) -> Vec<u8> {
     (0..line.len()).step_by(2).map(byte).collect()
 }
 
+fn groups(text: &[u8]) -> impl Iterator<Item = &[u8]> {
+    let parts = text.split(|&byte| is_parting(byte) || byte == b'=');
+    parts.filter(|part| !part.is_empty())
+}
+
 /// The reports of a kind among the lines.
 fn of_kind(kind: Kind, lines: &str) -> Texts {
-    let is_of_kind = |text: &Vec<u8>| {
-        let mut groups = text.split(|&byte| is_parting(byte) || byte == b'=');
-        groups.find(|group| !group.is_empty()) == Some(kind.first_group.as_bytes())
-    };
+    let is_of_kind = |text: &Vec<u8>| groups(text).next() == Some(kind.first_group.as_bytes());
     let texts = lines.lines().map(bytes_of_line);
     let texts = texts.filter(is_of_kind).collect();
     Texts { kind, texts }
+}
+
+/// Observations without a trend, and those with one.
+fn by_trend(observations: Texts) -> [Texts; 2] {
+    let begins_trend = |group: &[u8]| matches!(group, b"NOSIG" | b"BECMG" | b"TEMPO");
+    let has_trend = |text: &Vec<u8>| groups(text).any(begins_trend);
+    let (with, without) = observations.texts.into_iter().partition(has_trend);
+    [(METAR, without), (TREND, with)].map(|(kind, texts)| Texts { kind, texts })
 }
 
 /// A forecast with so many changes.
@@ -243,6 +254,9 @@ fn time(side: Side, texts: &Texts, writes: bool) -> f64 {
     took as f64 / count as f64
 }
 
+/// The longest name of a row.
+const NAME_WIDTH: usize = "METAR with a trend, first group bad".len();
+
 /// A row of a table: the texts, and for each side the times of the rounds.
 struct Row {
     name: String,
@@ -281,18 +295,24 @@ impl Row {
     fn print(&self) {
         let bytes = self.texts.mean_bytes();
         let [any, own, decoder] = self.medians();
-        print!("| {:<31} | {bytes:>5} ", self.name);
+        print!("| {:<NAME_WIDTH$} | {bytes:>5} ", self.name);
         print!("| {any:>7.0} | {own:>10.0} | {decoder:>7.0} ");
         print!("| {:>17.2} | {:>13.2} ", decoder / any, decoder / own);
         println!("| {:>18.1} |", any / bytes as f64);
     }
 }
 
+/// The line between a table's head and its rows.
+fn print_rule() {
+    let names = "-".repeat(NAME_WIDTH + 2);
+    println!("|{names}|--:|--:|--:|--:|--:|--:|--:|");
+}
+
 fn print_times(rows: &[Row]) {
-    print!("\n| {:<31} | bytes ", "nanoseconds a text");
+    print!("\n| {:<NAME_WIDTH$} | bytes ", "nanoseconds a text");
     print!("| library | own reader | decoder ");
     println!("| decoder / library | decoder / own | library, ns a byte |");
-    println!("|{}|--:|--:|--:|--:|--:|--:|--:|", "-".repeat(33));
+    print_rule();
     rows.iter().for_each(Row::print);
 }
 
@@ -377,7 +397,7 @@ fn stack_used(side: Side, kind: Kind, text: &[u8], writes: bool) -> usize {
 
 fn print_stack(name: &str, texts: &Texts) {
     let text = texts.longest();
-    print!("| {name:<31} | {:>5} |", text.len());
+    print!("| {name:<NAME_WIDTH$} | {:>5} |", text.len());
     for writes in [false, true] {
         let [any, own, decoder] = SIDES.map(|side| stack_used(side, texts.kind, text, writes));
         print!(" {any:>7} | {own:>10} | {decoder:>7} |");
@@ -387,11 +407,11 @@ fn print_stack(name: &str, texts: &Texts) {
 
 /// The longest report of each kind, and forecasts with no change and with the most.
 fn print_stacks(valid: &[Texts]) {
-    print!("\n| {:<31} | bytes ", "bytes of stack");
+    print!("\n| {:<NAME_WIDTH$} | bytes ", "bytes of stack");
     print!("| library | own reader | decoder ");
     println!("| library, written too | own reader | decoder |");
-    println!("|{}|--:|--:|--:|--:|--:|--:|--:|", "-".repeat(33));
-    for texts in &valid[..3] {
+    print_rule();
+    for texts in &valid[..4] {
         print_stack(texts.kind.name, texts);
     }
     print_stack("TAF, 0 changes", &with_changes(0));
@@ -415,7 +435,9 @@ fn main() {
     let rounds = rounds.map_or(31, |word| word.parse().unwrap());
     let mut lines = String::new();
     std::io::stdin().read_to_string(&mut lines).unwrap();
-    let valid = [SYNOP, SHIP, METAR, TAF].map(|kind| of_kind(kind, &lines));
+    let [synop, ship, metar, taf] = [SYNOP, SHIP, METAR, TAF].map(|kind| of_kind(kind, &lines));
+    let [metar, trend] = by_trend(metar);
+    let valid = [synop, ship, metar, trend, taf];
     let mut rows = valid_rows(&valid);
     rows.extend(refused_rows(&valid));
     rows.extend(growth_rows());
@@ -425,7 +447,9 @@ fn main() {
         }
     }
     let count = valid[0].texts.len();
-    println!("{count} reports of each kind, the median of {rounds} rounds.");
+    let trends = valid[3].texts.len();
+    print!("{count} reports of each kind, {trends} of the METARs with a trend, ");
+    println!("the median of {rounds} rounds.");
     print_times(&rows);
     print_stacks(&valid);
 }

@@ -1,7 +1,8 @@
 //! An independent reader and writer of weather report texts.
 //!
 //! Built from the papers alone. "The paper" is document 01, "ruling n" is point n of the
-//! rulings on it. The order of the file is the order of a reading: the record, the cutting of
+//! rulings on it; "request 1" is No. 1 of document 02, "ruling 1.n" point 1.n of the rulings
+//! on that. The order of the file is the order of a reading: the record, the cutting of
 //! the text, the walk over the places, the groups one by one, the three families of reports,
 //! then the writer and the program.
 
@@ -148,6 +149,7 @@ pub struct Observation {
     /// Tenths of a hectopascal.
     pub pressure: Option<u32>,
     pub recent: Vec<Weather>,
+    pub trend: Trend,
 }
 
 /// TAF.
@@ -182,7 +184,7 @@ pub struct Period {
     pub to_hour: u32,
 }
 
-/// What an observation and a body of a forecast have in common.
+/// What an observation, a body of a forecast and one of a trend have in common.
 #[derive(Debug, Clone, Default, PartialEq)]
 pub struct Elements {
     pub wind: Option<Wind>,
@@ -263,6 +265,33 @@ pub enum Opening {
         period: Period,
     },
     From(Time),
+}
+
+/// The trend of an observation: "NOSIG alone, or up to three of BECMG and TEMPO", or nothing.
+#[derive(Debug, Clone, Default, PartialEq)]
+pub struct Trend {
+    /// NOSIG.
+    pub none_significant: bool,
+    pub changes: Vec<Expected>,
+}
+
+/// A change of a trend: its word, its times and the body it opens.
+#[derive(Debug, Clone, Default, PartialEq)]
+pub struct Expected {
+    /// BECMG or TEMPO.
+    pub word: &'static str,
+    /// FM, TL and AT.
+    pub from: Option<Clock>,
+    pub until: Option<Clock>,
+    pub at: Option<Clock>,
+    pub elements: Elements,
+}
+
+/// GGgg: hour and minute.
+#[derive(Debug, Clone, Copy, PartialEq)]
+pub struct Clock {
+    pub hour: u32,
+    pub minute: u32,
 }
 
 // ---------------------------------------------------------------------------------------------
@@ -555,9 +584,15 @@ fn split_cloud(group: &[u8]) -> Option<CloudParts<'_>> {
     all_figures(height).then_some(CloudParts::Layer(amount, height, close))
 }
 
+const TREND_WORDS: [&str; 2] = ["BECMG", "TEMPO"];
+
+fn is_trend_word(group: &[u8]) -> bool {
+    word_of(&TREND_WORDS, group).is_some()
+}
+
 /// PROB is fixed and figures follow (ruling 42).
 fn is_change(group: &[u8]) -> bool {
-    group == b"BECMG" || group == b"TEMPO" || fits("PROB##", group) || fits("FM######", group)
+    is_trend_word(group) || fits("PROB##", group) || fits("FM######", group)
 }
 
 // ---------------------------------------------------------------------------------------------
@@ -583,16 +618,25 @@ enum Slot {
     Visibility,
     RunwayRange,
     Weather,
-    ForecastWeather,
     Cloud,
     Temperatures,
     Pressure,
     Recent,
+    Nosig,
+    TrendWord,
+    /// Any of the three times.
+    TrendTime,
+    At,
+    From,
+    Until,
     Period,
     Cancelled,
     Change,
     Temporary,
 }
+
+/// The times of a trend, "FM, TL or AT and GGgg"; AT first, as it closes the other two.
+const TREND_TIMES: [Slot; 3] = [Slot::At, Slot::From, Slot::Until];
 
 fn has_shape(slot: Slot, group: &[u8]) -> bool {
     match slot {
@@ -612,13 +656,18 @@ fn has_shape(slot: Slot, group: &[u8]) -> bool {
         Slot::Varying => fits("###V###", group),
         Slot::Visibility => group == b"CAVOK" || fits("####", group),
         Slot::RunwayRange => split_runway(group).is_some(),
-        // NSW has no shape in a METAR (ruling 30).
-        Slot::Weather => group == b"//" || split_weather(group).is_some(),
-        Slot::ForecastWeather => group == b"NSW" || has_shape(Slot::Weather, group),
+        // NSW too, in the observation itself (ruling 1.1).
+        Slot::Weather => matches!(group, b"//" | b"NSW") || split_weather(group).is_some(),
         Slot::Cloud => split_cloud(group).is_some(),
         Slot::Temperatures => split_temperatures(group).is_some(),
         Slot::Pressure => fits("Q####", group),
         Slot::Recent => split_recent(group).is_some(),
+        Slot::Nosig => group == b"NOSIG",
+        Slot::TrendWord => is_trend_word(group),
+        Slot::TrendTime => TREND_TIMES.iter().any(|&time| has_shape(time, group)),
+        Slot::At => fits("AT####", group),
+        Slot::From => fits("FM####", group),
+        Slot::Until => fits("TL####", group),
         Slot::Period => fits("####/####", group),
         Slot::Cancelled => group == b"CNL",
         Slot::Change => is_change(group),
@@ -626,6 +675,7 @@ fn has_shape(slot: Slot, group: &[u8]) -> bool {
     }
 }
 
+#[derive(Clone, Copy)]
 struct Place {
     slot: Slot,
     required: bool,
@@ -685,8 +735,7 @@ impl Walk {
         };
         let index = self.open + distance;
         let slot = self.places[index].slot;
-        // An empty change body is refused at the next change word (ruling 45).
-        if self.required_before(index) || (slot == Slot::Change && self.element_due) {
+        if self.required_before(index) || (ends_body(slot) && self.element_due) {
             return Err(8);
         }
         let place = &mut self.places[index];
@@ -704,34 +753,48 @@ impl Walk {
     fn follow(&mut self, slot: Slot, index: usize, group: &[u8]) {
         match slot {
             Slot::Nil | Slot::Cancelled => self.ended = true,
-            Slot::Wind | Slot::Visibility | Slot::ForecastWeather | Slot::Cloud => {
+            Slot::Wind | Slot::Visibility | Slot::Weather | Slot::Cloud => {
                 self.element_due = false;
             }
             Slot::Change => self.open_change(index, group),
+            Slot::TrendWord => self.open_trend(index),
+            // "AT alone": the places of FM and TL are closed with its own.
+            Slot::At => self.open = index + TREND_TIMES.len(),
             _ => {}
         }
     }
 
-    /// "A change group opens a body and a body runs to the next change group." The 16 are of
-    /// the report, each body has its own 3 and 4 (ruling 48).
+    /// "A change group opens a body and a body runs to the next change group."
     fn open_change(&mut self, index: usize, word: &[u8]) {
         let from = word.starts_with(b"FM");
-        let changes = self.places[index].taken;
         if word.starts_with(b"PROB") {
             self.places.push(one(Slot::Temporary, false));
         }
         if !from {
             self.places.push(one(Slot::Period, true));
         }
+        self.open_body(index, from);
+        self.places.push(self.places[index]);
+    }
+
+    /// "each with up to two times (..; AT alone, FM written before TL ..)" at once after the
+    /// word (ruling 1.9). After the body NOSIG has a place, at which it is 7 (ruling 1.4).
+    fn open_trend(&mut self, index: usize) {
+        self.places.extend(TREND_TIMES.map(|time| one(time, false)));
+        self.open_body(index, false);
+        self.places.push(one(Slot::Nosig, false));
+        self.places.push(self.places[index]);
+    }
+
+    /// The places of a body after what opens it, which the change at the index has pushed. The
+    /// limit of changes is of the report, so that the next one's place keeps its count; each
+    /// body has its own 3 and 4 (rulings 48 and 1.16).
+    fn open_body(&mut self, index: usize, from: bool) {
         // "under FM wind and visibility"
         self.places.push(one(Slot::Wind, from));
         self.places.push(one(Slot::Visibility, from));
-        self.places.push(up_to(3, Slot::ForecastWeather));
+        self.places.push(up_to(3, Slot::Weather));
         self.places.push(up_to(4, Slot::Cloud));
-        self.places.push(Place {
-            taken: changes,
-            ..up_to(16, Slot::Change)
-        });
         self.open = index + 1;
         self.element_due = true;
     }
@@ -747,10 +810,19 @@ impl Walk {
     }
 }
 
+/// Where a change body without an element is refused: at the next change word (ruling 45), in
+/// a trend at NOSIG too (ruling 1.5).
+fn ends_body(slot: Slot) -> bool {
+    matches!(slot, Slot::Change | Slot::TrendWord | Slot::Nosig)
+}
+
 /// "METAR or SPECI, [COR], CCCC, YYGGggZ, then NIL (end) or [AUTO], wind, [dddVddd], visibility,
-/// up to 4 runway ranges, 3 weather groups, 4 cloud groups, T/Td, Q, up to 3 RE groups."
+/// up to 4 runway ranges, 3 weather groups, 4 cloud groups, T/Td, Q, up to 3 RE groups"; then
+/// the trend. A time outside a trend is 6 from the name on (ruling 1.8): its place comes before
+/// all others.
 fn observation_places() -> Vec<Place> {
     vec![
+        one(Slot::TrendTime, false),
         one(Slot::ObservationName, true),
         one(Slot::Corrected, false),
         one(Slot::Location, true),
@@ -766,6 +838,8 @@ fn observation_places() -> Vec<Place> {
         one(Slot::Temperatures, true),
         one(Slot::Pressure, true),
         up_to(3, Slot::Recent),
+        one(Slot::Nosig, false),
+        up_to(3, Slot::TrendWord),
     ]
 }
 
@@ -782,7 +856,7 @@ fn forecast_places() -> Vec<Place> {
         one(Slot::Cancelled, false),
         one(Slot::Wind, true),
         one(Slot::Visibility, true),
-        up_to(3, Slot::ForecastWeather),
+        up_to(3, Slot::Weather),
         up_to(4, Slot::Cloud),
         up_to(16, Slot::Change),
     ]
@@ -849,9 +923,9 @@ fn stops_synoptic(group: &[u8]) -> bool {
     matches!(group, b"333" | b"444" | b"555") || (group.len() == 5 && group.starts_with(b"222"))
 }
 
-/// "NOSIG, BECMG, TEMPO, WS or RMK", from the second group on (ruling 5).
+/// "WS and RMK still do" (request 1), from the second group on (ruling 5).
 fn stops_observation(group: &[u8]) -> bool {
-    matches!(group, b"NOSIG" | b"BECMG" | b"TEMPO" | b"WS" | b"RMK")
+    matches!(group, b"WS" | b"RMK")
 }
 
 /// A TAF has no stop words.
@@ -1269,13 +1343,20 @@ fn take_observed(section: &mut Section, group: &[u8]) -> Result<(), u8> {
 
 /// Where an element stands.
 struct Setting {
-    /// In a TAF the missing forms are 5.
+    /// In a TAF the missing forms are 5, and in a trend (ruling 1.11).
     forecast: bool,
     /// "NSW, the sole weather, only in change bodies".
     change_body: bool,
-    /// "UP without AUTO is 7."
+    /// "UP without AUTO is 7", in a trend "under AUTO too".
     automatic: bool,
 }
+
+/// A body that a change group opens. Those of a trend "obey the TAF's TEMPO body's rules".
+const CHANGE_BODY: Setting = Setting {
+    forecast: true,
+    change_body: true,
+    automatic: false,
+};
 
 /// Reads an element into its body; other slots are the caller's.
 fn take_element(
@@ -1287,7 +1368,7 @@ fn take_element(
     match slot {
         Slot::Wind => elements.wind = Some(read_wind(setting, group)?),
         Slot::Visibility => elements.visibility = Some(read_visibility(setting, group)?),
-        Slot::Weather | Slot::ForecastWeather => {
+        Slot::Weather => {
             let weather = read_weather(setting, group)?;
             agree_on_weather(elements, setting, &weather)?;
             elements.weather.push(weather);
@@ -1473,7 +1554,7 @@ fn agree_on_weather(elements: &Elements, setting: &Setting, weather: &Weather) -
     Ok(())
 }
 
-/// hhh of table 1690; slashes are 5 in a TAF.
+/// hhh of table 1690; slashes are 5 in a forecast.
 fn read_height(setting: &Setting, bytes: &[u8]) -> Result<Option<u32>, u8> {
     match optional(bytes)? {
         Some(code) => foot_of(&height_classes(), code).map(Some),
@@ -1544,8 +1625,8 @@ fn read_observation(cut: &Cut, special: bool) -> Result<Report, Refusal> {
         special,
         ..Observation::default()
     };
-    // The name has stood: its place is closed.
-    let mut walk = Walk::over(observation_places(), 1);
+    // The name has stood: its place is closed, and that of the times before it.
+    let mut walk = Walk::over(observation_places(), 2);
     let mut take = |slot, group: &[u8]| take_in_observation(&mut observation, slot, group);
     let rest = walk_groups(cut, 1, &mut walk, stops_observation, &mut take)?;
     let content = Content::Observation(observation);
@@ -1569,16 +1650,61 @@ fn take_in_observation(observation: &mut Observation, slot: Slot, group: &[u8]) 
         // Q: whole hectopascals, "0000-9999", or Q////.
         Slot::Pressure => observation.pressure = optional(&group[1..])?.map(|whole| whole * 10),
         Slot::Recent => observation.recent.push(read_recent(observation, group)?),
-        _ => {
-            let setting = Setting {
-                forecast: false,
-                change_body: false,
-                automatic: observation.automatic,
-            };
-            take_element(&mut observation.elements, &setting, slot, group)?;
-        }
+        Slot::Nosig | Slot::TrendWord => open_trend(&mut observation.trend, group)?,
+        _ => match observation.trend.changes.last_mut() {
+            Some(change) => take_in_trend(change, slot, group)?,
+            None => {
+                let setting = Setting {
+                    forecast: false,
+                    change_body: false,
+                    automatic: observation.automatic,
+                };
+                take_element(&mut observation.elements, &setting, slot, group)?;
+            }
+        },
     }
     Ok(())
+}
+
+/// NOSIG, BECMG or TEMPO: "NOSIG beside one 7", at whichever comes second (ruling 1.4).
+fn open_trend(trend: &mut Trend, group: &[u8]) -> Result<(), u8> {
+    if trend.none_significant || (group == b"NOSIG" && !trend.changes.is_empty()) {
+        return Err(7);
+    }
+    match word_of(&TREND_WORDS, group) {
+        Some(word) => trend.changes.push(Expected {
+            word,
+            ..Expected::default()
+        }),
+        None => trend.none_significant = true,
+    }
+    Ok(())
+}
+
+/// A time or an element of the change that stands last.
+fn take_in_trend(change: &mut Expected, slot: Slot, group: &[u8]) -> Result<(), u8> {
+    match slot {
+        Slot::From => change.from = Some(read_clock(group)?),
+        Slot::Until if group == b"TL2400" => change.until = Some(MIDNIGHT_AT_END),
+        Slot::Until => change.until = Some(read_clock(group)?),
+        Slot::At => change.at = Some(read_clock(group)?),
+        _ => take_element(&mut change.elements, &CHANGE_BODY, slot, group)?,
+    }
+    Ok(())
+}
+
+/// "TL to 2400".
+const MIDNIGHT_AT_END: Clock = Clock {
+    hour: 24,
+    minute: 0,
+};
+
+/// "GGgg, 0000 to 2359" after FM, TL or AT: hours and minutes (ruling 1.10).
+fn read_clock(group: &[u8]) -> Result<Clock, u8> {
+    Ok(Clock {
+        hour: within(&group[2..4], 0, 23)?,
+        minute: within(&group[4..], 0, 59)?,
+    })
 }
 
 /// dddVddd: 000 is 5 (ruling 34), "equal directions in dddVddd: 7".
@@ -1658,19 +1784,16 @@ fn take_in_forecast(forecast: &mut Forecast, slot: Slot, group: &[u8]) -> Result
         }),
         Slot::Temporary => set_temporary(forecast),
         Slot::Period => set_period(forecast, read_period(group)?),
-        _ => {
-            let change_body = !forecast.changes.is_empty();
-            let setting = Setting {
-                forecast: true,
-                change_body,
-                automatic: false,
-            };
-            let elements = match forecast.changes.last_mut() {
-                Some(change) => &mut change.elements,
-                None => &mut forecast.elements,
-            };
-            take_element(elements, &setting, slot, group)?;
-        }
+        _ => match forecast.changes.last_mut() {
+            Some(change) => take_element(&mut change.elements, &CHANGE_BODY, slot, group)?,
+            None => {
+                let setting = Setting {
+                    change_body: false,
+                    ..CHANGE_BODY
+                };
+                take_element(&mut forecast.elements, &setting, slot, group)?;
+            }
+        },
     }
     Ok(())
 }
@@ -1925,6 +2048,23 @@ fn write_observation(groups: &mut Vec<String>, observation: &Observation) {
     groups.push(format!("Q{}", figures(pressure, 4)));
     let recent = observation.recent.iter().map(write_weather);
     groups.extend(recent.map(|weather| format!("RE{weather}")));
+    write_trend(groups, &observation.trend);
+}
+
+fn write_trend(groups: &mut Vec<String>, trend: &Trend) {
+    if trend.none_significant {
+        groups.push("NOSIG".to_string());
+    }
+    for change in &trend.changes {
+        groups.push(change.word.to_string());
+        let times = [("FM", change.from), ("TL", change.until), ("AT", change.at)];
+        for (letters, time) in times {
+            if let Some(Clock { hour, minute }) = time {
+                groups.push(format!("{letters}{hour:02}{minute:02}"));
+            }
+        }
+        write_elements(groups, &change.elements);
+    }
 }
 
 fn write_wind(wind: &Wind) -> String {

@@ -473,6 +473,9 @@ fn observation_groups(random: &mut Random, extent: Extent, name: &str) -> Vec<St
         let codes = weather_codes(random, extent, true, automatic);
         groups.push(format!("RE{}", codes));
     }
+    if random.below(5) < 2 {
+        push_trend(random, extent, &mut groups);
+    }
     groups
 }
 
@@ -509,6 +512,50 @@ fn temperature(random: &mut Random) -> String {
         1 | 2 => format!("M{}", random.figures(1, 99, 2)),
         _ => random.figures(0, 99, 2),
     }
+}
+
+/// NOSIG, or one to three changes.
+fn push_trend(random: &mut Random, extent: Extent, groups: &mut Vec<String>) {
+    if extent != Extent::Longest && random.one_in(4) {
+        groups.push("NOSIG".to_string());
+        return;
+    }
+    for _ in 0..=extent.count(random, 2) {
+        push_trend_change(random, extent, groups);
+    }
+}
+
+/// BECMG or TEMPO, its times and its body.
+fn push_trend_change(random: &mut Random, extent: Extent, groups: &mut Vec<String>) {
+    groups.push(random.pick(&TREND_WORDS).to_string());
+    let choice = match extent {
+        Extent::Shortest => 0,
+        Extent::Usual => random.below(5),
+        Extent::Longest => 4,
+    };
+    match choice {
+        0 => {}
+        1 => groups.push(trend_time(random, "AT")),
+        2 => groups.push(trend_time(random, "FM")),
+        3 => groups.push(trend_time(random, "TL")),
+        _ => {
+            groups.push(trend_time(random, "FM"));
+            groups.push(trend_time(random, "TL"));
+        }
+    }
+    push_change_body(random, extent, groups);
+}
+
+const TREND_WORDS: [&str; 2] = ["BECMG", "TEMPO"];
+const TREND_TIMES: [&str; 3] = ["FM", "TL", "AT"];
+
+/// GGgg after the letters, of TL sometimes 2400.
+fn trend_time(random: &mut Random, letters: &str) -> String {
+    if letters == "TL" && random.one_in(4) {
+        return "TL2400".to_string();
+    }
+    let hour = random.figures(0, 23, 2);
+    format!("{}{}{}", letters, hour, random.figures(0, 59, 2))
 }
 
 // ---------------------------------------------------------------------------------------------
@@ -591,6 +638,11 @@ fn push_change(random: &mut Random, extent: Extent, groups: &mut Vec<String>) {
         }
     }
     groups.push(period_group(random));
+    push_change_body(random, extent, groups);
+}
+
+/// The body of a change other than FM, of a trend's too: at least one element.
+fn push_change_body(random: &mut Random, extent: Extent, groups: &mut Vec<String>) {
     let before = groups.len();
     push_body(random, extent, [false, false], true, groups);
     if groups.len() == before {
@@ -602,10 +654,11 @@ fn push_change(random: &mut Random, extent: Extent, groups: &mut Vec<String>) {
 // Laying groups out as a text
 // ---------------------------------------------------------------------------------------------
 
-/// Words at which a reading may stop, or that look like such.
+/// Words at which a reading may stop, seven of SYNOP and SHIP and two of METAR and SPECI, and
+/// others that look like such.
 const STOP_WORDS: [&str; 14] = [
-    "333", "444", "555", "222//", "22200", "222AB", "22212", "NOSIG", "BECMG", "TEMPO", "WS",
-    "RMK", "111", "2222",
+    "333", "444", "555", "222//", "22200", "222AB", "22212", "WS", "RMK", "NOSIG", "BECMG",
+    "TEMPO", "111", "2222",
 ];
 
 /// A valid text: usually canonical, else with other blanks, without "=" or with an unread rest,
@@ -664,7 +717,7 @@ fn push_rest(random: &mut Random, groups: &[String], text: &mut Vec<u8>) {
     }
     let words = match groups[0].as_str() {
         "AAXX" | "BBXX" => &STOP_WORDS[..7],
-        _ => &STOP_WORDS[7..12],
+        _ => &STOP_WORDS[7..9],
     };
     text.push(b' ');
     text.extend(random.pick(words).as_bytes());
@@ -691,7 +744,10 @@ fn allowed_byte(random: &mut Random) -> u8 {
 fn damaged(random: &mut Random, kind: usize) -> Vec<u8> {
     let mut groups = valid_groups(random, kind);
     let grouped = random.below(5);
-    if grouped > 0 {
+    let observation = matches!(NAMES[kind], "METAR" | "SPECI");
+    if grouped > 0 && observation && random.one_in(3) {
+        damage_trend(random, kind, &mut groups);
+    } else if grouped > 0 {
         damage_groups(random, kind, &mut groups);
     }
     let mut text = lay_out(random, &groups);
@@ -736,6 +792,74 @@ fn damage_groups(random: &mut Random, kind: usize, groups: &mut Vec<String>) {
         }
     }
 }
+
+/// One thing wrong about the trend, which a report without one gets first.
+fn damage_trend(random: &mut Random, kind: usize, groups: &mut Vec<String>) {
+    let begins_trend = |group: &String| group == "NOSIG" || TREND_WORDS.contains(&group.as_str());
+    let trend = groups.iter().position(begins_trend);
+    let trend = trend.unwrap_or_else(|| {
+        let end = groups.len();
+        push_trend(random, Extent::Usual, groups);
+        end
+    });
+    // Places before the trend's first word, and after it.
+    let before = 1 + random.below(trend);
+    let inside = trend + 1 + random.below(groups.len() - trend);
+    match random.below(14) {
+        // A fourth change, or one after NOSIG.
+        0 => {
+            for _ in 0..random.within(1, 3) {
+                push_trend_change(random, Extent::Usual, groups);
+            }
+        }
+        // Times in any order at once after the word.
+        1 => {
+            for _ in 0..random.within(1, 3) {
+                groups.insert(trend + 1, any_time(random));
+            }
+        }
+        // A body that ends early, perhaps before its first element.
+        2 => groups.truncate(inside),
+        3 => groups.insert(trend, "NOSIG".to_string()),
+        4 => groups.insert(before, any_time(random)),
+        5 => {
+            let word = random.pick(&["NSW", "NOSIG", "BECMG", "TEMPO"]);
+            groups.insert(before, word.to_string());
+        }
+        _ => {
+            let group = wrong_in_trend(random, kind, &groups[..trend]);
+            groups.insert(inside, group);
+        }
+    }
+}
+
+/// FM, TL or AT, sometimes with figures that are not right.
+fn any_time(random: &mut Random) -> String {
+    if random.one_in(3) {
+        return random.pick(&TIME_MISSES).to_string();
+    }
+    let letters = random.pick(&TREND_TIMES);
+    trend_time(random, letters)
+}
+
+/// A group that is wrong at most places of a trend; the observation's groups among them.
+fn wrong_in_trend(random: &mut Random, kind: usize, observation: &[String]) -> String {
+    match random.below(8) {
+        0 => any_time(random),
+        1 => random.pick(&["NOSIG", "BECMG", "TEMPO"]).to_string(),
+        2 => random.pick(&["WS", "RMK"]).to_string(),
+        3 => observation[random.below(observation.len())].clone(),
+        4 => foreign_group(random, kind),
+        5 => shaped_group(random, kind),
+        _ => random.pick(&TREND_MISSES).to_string(),
+    }
+}
+
+/// Groups that a trend's body may not have, most of which an observation may.
+const TREND_MISSES: [&str; 12] = [
+    "/////KT", "////", "//", "FEW///", "OVC///CB", "VV///", "UP", "-UP", "RAUP", "TSUP", "/////",
+    "Q////",
+];
 
 /// A group of the same shape whose figures are just not in their table or range, or that the
 /// rules about slashes forbid.
@@ -836,6 +960,8 @@ fn aerodrome_misses(group: &str) -> &'static [&'static str] {
         &["Q///1", "Q10//", "Q101/", "Q/013"]
     } else if starts(&["PROB"]) {
         &["PROB50", "PROB20", "PROB//", "PROB00", "PROB3/", "PROB"]
+    } else if group.len() == 6 && starts(&TREND_TIMES) {
+        &TIME_MISSES
     } else if starts(&["FM"]) {
         &["FM001200", "FM322300", "FM012400", "FM011260", "FM0112//"]
     } else if group.len() >= 5 && group.contains('/') {
@@ -907,6 +1033,10 @@ const RUNWAY_MISSES: [&str; 19] = [
     "R24/05//",
     "R24/0500V0600",
     "R24L/2000N",
+];
+const TIME_MISSES: [&str; 14] = [
+    "FM2400", "FM2360", "FM1260", "FM////", "FM12//", "FM12", "FM12000", "AT2400", "AT0060",
+    "AT////", "TL2401", "TL2460", "TL2500", "TL/200",
 ];
 const VISIBILITY_MISSES: [&str; 14] = [
     "0025", "0825", "0850", "0950", "4950", "5100", "5500", "9500", "9998", "99//", "////", "10/5",
@@ -1055,7 +1185,7 @@ const SYNOPTIC_SHAPES: [&str; 22] = [
 ];
 
 /// The shapes of METAR, SPECI and TAF: # is a figure or slash, @ a letter.
-const AERODROME_SHAPES: [&str; 31] = [
+const AERODROME_SHAPES: [&str; 34] = [
     "######Z",
     "####/####",
     "###V###",
@@ -1067,6 +1197,9 @@ const AERODROME_SHAPES: [&str; 31] = [
     "Q####",
     "PROB##",
     "FM######",
+    "FM####",
+    "TL####",
+    "AT####",
     "#####KT",
     "######KT",
     "#####G##KT",

@@ -13,7 +13,7 @@ use Rattle.figures.specs.Figures.{isLetter, every}
 use Rattle.text.specs.declared.kinds.Judged.the-variants as judged
 use Rattle.text.specs.Judge.{judge}
 use Rattle.record.specs.declared.aerodrome.Runway.{Runway}
-use Rattle.record.specs.Metar.{blankRunway}
+use Rattle.record.specs.Observation.{blankRunway}
 use Rattle.aerodrome_groups.specs.Runway.{judgeEachRunway}
 use Rattle.aerodrome_groups.proofs.RunwayBack.{runwayFits}
 

@@ -19,7 +19,7 @@ use Rattle.places.proofs.Rows.{drop-map}
 use Rattle.places.proofs.ReadBack.{All}
 use Rattle.record.specs.declared.aerodrome.Runway.{Runway}
 use Rattle.record.specs.declared.aerodrome.Runways.{Runways}
-use Rattle.record.specs.Metar.{blankRunway, blankRunways}
+use Rattle.record.specs.Observation.{blankRunway, blankRunways}
 use Rattle.elements.specs.Parts.{then}
 use Rattle.record.specs.SilentAerodrome.{isBlankRunway}
 use Rattle.record.proofs.AerodromeBlanks.{runway-blank}

@@ -23,7 +23,7 @@ use Rattle.scales.proofs.MetresLaws.{runway-laws}
 use Rattle.record.specs.declared.values.Tenths.{Tenths}
 use Rattle.record.specs.declared.values.Tenths.the-variants as tenths
 use Rattle.record.specs.declared.aerodrome.Runway.{Runway}
-use Rattle.record.specs.Metar.{blankRunway}
+use Rattle.record.specs.Observation.{blankRunway}
 use Rattle.elements.proofs.Scanned.{print-enough}
 use Rattle.aerodrome_groups.specs.Runway.{runwayShape, showRunway}
 use Rattle.aerodrome_groups.specs.Temperatures.{temperaturesShape, degreesValues}

@@ -56,17 +56,13 @@ fair-body t b e =
 
 -- ---- the row
 
-weather-or-nsw-covered : (t : Terms) (g : Group) → hasWeatherOrNsw t g ≡ true → hasAny (withNsw t weatherCover) g ≡ true
+weather-or-nsw-covered : (g : Group) → hasWeatherOrNsw g ≡ true → hasAny (withNsw weatherCover) g ≡ true
 unfolding hasAny
-weather-or-nsw-covered t g h = or-cases (isNsw t g) (hasWeather g) h (go (t .forecast)) (λ e. with-nsw t weatherCover g (weather-covered g e))
-  where
-    go : (f : Bool) → (f && hasPattern g (bytes "NSW")) ≡ true → hasAny (cond f (bytes "NSW" ∷ weatherCover) weatherCover) g ≡ true
-    go true e = rw e
-    go false e = impossible (cc)
+weather-or-nsw-covered g h = or-cases (isNsw g) (hasWeather g) h (λ e. rw e) (λ e. with-nsw weatherCover g (weather-covered g e))
 
 -- WHAT HAS THE SHAPE OF A PLACE FITS THE PATTERNS THAT COVER IT.
 pub body-covered : (t : Terms) → Covered (bodyRow t)
-body-covered t = (wind-covered, ((λ g h. h), (weather-or-nsw-covered t, (sky-covered, tt))))
+body-covered t = (wind-covered, ((λ g h. h), (weather-or-nsw-covered, (sky-covered, tt))))
 
 -- the bytes that a group may have at each place
 abbrev pub bodySizes : List ℕ
@@ -77,7 +73,7 @@ pub kept-body : (t : Terms) → Live t → (b : Body) → BodyArrays b → FairB
 kept-body t l b arrays f =
     more (kept-wind t l b _ refl (f .wind)) refl
     (more (kept-visibility t l b _ refl (f .visibility)) refl
-    (more (kept-weather t (l .known) b _ refl refl (cavok-classed (b .visibility .is)) (arrays .weathers) (f .weather)) refl
+    (more (kept-weather t b _ refl refl (cavok-classed (b .visibility .is)) (arrays .weathers) (f .weather)) refl
     (more (kept-sky t b _ refl (cavok-classed (b .visibility .is)) (arrays .layers) (f .sky)) refl done)))
 
 -- ---- the body that is read back

@@ -3,3 +3,4 @@ pub mod Bodies
 pub mod Promises
 pub mod Says
 pub mod Meets
+pub mod Changes

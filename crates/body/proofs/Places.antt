@@ -52,8 +52,6 @@ pub record Live (t : Terms) : Type 0 where
   pub heard : t .silent ≡ false
   -- wind and visibility stand, or what is blank is left out
   pub stands : (t .forecast || t .required) ≡ true
-  -- NSW stands only where it is known
-  pub known : t .mayNsw ≡ true → t .forecast ≡ true
 
 -- what is left out is blank, in a forecast
 pub left-out : (t : Terms) → Live t → (z : Bool) → leftOut t z ≡ true → (t .forecast ≡ true) × (z ≡ true)
@@ -173,24 +171,14 @@ module _ (t : Terms) (b acc : Body) (bare : acc .sky ≡ blankSky) (seen : isCav
 -- ---- weather, or NSW alone
 
 -- no weather is NSW
-not-nsw : (t : Terms) (g : Group) → hasWeather g ≡ true → isNsw t g ≡ false
+not-nsw : (g : Group) → hasWeather g ≡ true → isNsw g ≡ false
 unfolding hasAny low high clash clashEach allApart codesOf
-not-nsw t g h =
-    let other : hasPattern g (bytes "NSW") ≡ false = rw (or-false (hasPattern g (bytes "NSW"))) at (all-excluded g weatherCover (bytes "NSW" ∷ []) refl (weather-covered g h)) in
-    go (t .forecast) other
-  where
-    go : (f : Bool) → hasPattern g (bytes "NSW") ≡ false → (f && hasPattern g (bytes "NSW")) ≡ false
-    go true e = e
-    go false e = refl
+not-nsw g h = rw (or-false (hasPattern g (bytes "NSW"))) at (all-excluded g weatherCover (bytes "NSW" ∷ []) refl (weather-covered g h))
 
--- NSW where it is known, before what weather speaks or is covered by
-pub with-nsw : (t : Terms) (ps : List (List ℕ)) (g : Group) → hasAny ps g ≡ true → hasAny (withNsw t ps) g ≡ true
+-- NSW before what weather speaks or is covered by
+pub with-nsw : (ps : List (List ℕ)) (g : Group) → hasAny ps g ≡ true → hasAny (withNsw ps) g ≡ true
 unfolding hasAny
-with-nsw t ps g h = go (t .forecast)
-  where
-    go : (f : Bool) → hasAny (cond f (bytes "NSW" ∷ ps) ps) g ≡ true
-    go true = or-right (hasPattern g (bytes "NSW")) (hasAny ps g) h
-    go false = h
+with-nsw ps g h = or-right (hasPattern g (bytes "NSW")) (hasAny ps g) h
 
 -- weather is judged beside CAVOK and NSW, so that none stands there
 beside-free : (forecast automatic beside : Bool) (x : Weather) → judgeWeather forecast automatic beside x ≡ judged.Fine → not beside ≡ true
@@ -226,7 +214,7 @@ fill-same p q (g ∷ gs) a k acc = rw (a .0 k acc) (go (λ b. fill-same p q gs (
     go rest (Good b) = rest b
     go rest (Bad f) = refl
 
-module _ (t : Terms) (known : t .mayNsw ≡ true → t .forecast ≡ true) (b acc : Body) (bare : acc .weathers ≡ blankWeathers) (off : acc .nsw ≡ false)
+module _ (t : Terms) (b acc : Body) (bare : acc .weathers ≡ blankWeathers) (off : acc .nsw ≡ false)
     (seen : isCavok (acc .visibility) ≡ isCavok (b .visibility)) (three : length (b .weathers .items) ≡ 3) where
   abbrev stood : Bool
   stood = isCavok (b .visibility) || b .nsw
@@ -241,7 +229,7 @@ module _ (t : Terms) (known : t .mayNsw ≡ true → t .forecast ≡ true) (b ac
   abbrev alone : Place Body
   alone =
       record {
-        has = hasWeatherOrNsw t;
+        has = hasWeatherOrNsw;
         cover = [];
         spoken = [];
         most = 3;
@@ -267,7 +255,7 @@ module _ (t : Terms) (known : t .mayNsw ≡ true → t .forecast ≡ true) (b ac
   weathers-filled e =
       fill-same (weatherPlace t) alone (showWeathers (b .weathers))
       (weathers-all showWeather test (b .weathers) e (λ g. (k : ℕ) (q : Body) → weatherPlace t .read k g q ≡ alone .read k g q)
-      (λ x h k q. rw (not-nsw t (showWeather x) (weather-shaped (t .forecast) (t .automatic) stood x h)))) 0 acc
+      (λ x h k q. rw (not-nsw (showWeather x) (weather-shaped (t .forecast) (t .automatic) stood x h)))) 0 acc
       ∙ ap (fill alone 0 (showWeathers (b .weathers))) (sym (set-weathers blankWeathers acc bare))
       ∙ filled-items alone setWeathers acc readsBeside withWeather (addWeathers readsBeside)
       (λ k g ws. rw (beside-same ws (readWeather (t .forecast) (t .automatic) g))) (λ k ws. refl) (λ k g gs ws. refl)
@@ -278,9 +266,9 @@ module _ (t : Terms) (known : t .mayNsw ≡ true → t .forecast ≡ true) (b ac
   kept-weathers none e =
       keep-each refl
       (rw none
-      (weathers-all showWeather test (b .weathers) e (λ g. (hasWeatherOrNsw t g ≡ true) × (hasAny (withNsw t weatherSpoken) g ≡ true))
+      (weathers-all showWeather test (b .weathers) e (λ g. (hasWeatherOrNsw g ≡ true) × (hasAny (withNsw weatherSpoken) g ≡ true))
       (λ x h.
-      (or-right (isNsw t (showWeather x)) (hasWeather (showWeather x)) (weather-shaped (t .forecast) (t .automatic) stood x h), with-nsw t weatherSpoken (showWeather x) (weather-spoken (t .forecast) (t .automatic) stood x h)))))
+      (or-right (isNsw (showWeather x)) (hasWeather (showWeather x)) (weather-shaped (t .forecast) (t .automatic) stood x h), with-nsw weatherSpoken (showWeather x) (weather-spoken (t .forecast) (t .automatic) stood x h)))))
       (rw none
       (weathers-all showWeather test (b .weathers) e (Sized 9)
       (λ x h. let z = weather-sized (t .forecast) (t .automatic) stood x h in record { whole = z .0; allow = z .1; short = z .2 })))
@@ -292,9 +280,8 @@ module _ (t : Terms) (known : t .mayNsw ≡ true → t .forecast ≡ true) (b ac
   unfolding readWeatherOrNsw hasAny hasPattern fits low high
   kept-nsw is may sky e =
       let none = none-beside (t .forecast) (t .automatic) (b .weathers) three e in
-      let f = known may in
-      keep-one (bytes "NSW") (rw (is, none .0)) (rw f) (rw f) (sized-any 9 (bytes "NSW" ∷ []) (bytes "NSW") refl refl) (omega arith)
-      (rw (f, may, seen, sky, is, none .1) (ap (λ (q : Body). Good (setNsw true q)) (sym (set-weathers blankWeathers acc bare))))
+      keep-one (bytes "NSW") (rw (is, none .0)) refl refl (sized-any 9 (bytes "NSW" ∷ []) (bytes "NSW") refl refl) (omega arith)
+      (rw (may, seen, sky, is, none .1) (ap (λ (q : Body). Good (setNsw true q)) (sym (set-weathers blankWeathers acc bare))))
 
   -- what is judged of it
   weather-judged : weatherJudged t b ≡ judged.Fine → (nswAgrees t b ≡ true) × (judgeWeathers test (b .weathers) ≡ judged.Fine)

@@ -96,11 +96,11 @@ module _ (forecast may automatic : Bool) (k : ℕ) (g : Group) (b : Body) where
   abbrev stands : Bool
   stands = may && eqb k 0 && not (isCavok (b .visibility))
 
-  pub says-nsw : (forecast && hasPattern g (bytes "NSW")) ≡ true → Says forecast may automatic 2 k g b (unlessWrong stands said.Nsw)
+  pub says-nsw : hasPattern g (bytes "NSW") ≡ true → Says forecast may automatic 2 k g b (unlessWrong stands said.Nsw)
   unfolding readWeatherOrNsw
   says-nsw is = record { own = own-unless stands said.Nsw refl; puts = λ required silent. rw is (nsw-said stands) }
 
-  pub says-weather : (forecast && hasPattern g (bytes "NSW")) ≡ false
+  pub says-weather : hasPattern g (bytes "NSW") ≡ false
       → Says forecast may automatic 2 k g b (weatherSaid (isCavok (b .visibility) || b .nsw) (readWeather forecast automatic g))
   unfolding readWeatherOrNsw
   says-weather is =
@@ -162,7 +162,7 @@ says-at forecast may automatic j k g b p q s = rw (p, q) s
 
 -- what is no part of the body leaves it as it is, and so does a refusal
 abbrev elsewhere : List ℕ
-elsewhere = 0 ∷ 1 ∷ 2 ∷ 3 ∷ 4 ∷ 5 ∷ 6 ∷ 7 ∷ 8 ∷ 10 ∷ 12 ∷ 17 ∷ 18 ∷ 19 ∷ 20 ∷ 21 ∷ []
+elsewhere = 0 ∷ 1 ∷ 2 ∷ 3 ∷ 4 ∷ 5 ∷ 6 ∷ 7 ∷ 8 ∷ 10 ∷ 12 ∷ 17 ∷ 18 ∷ 19 ∷ 20 ∷ 21 ∷ 22 ∷ []
 
 pub others : (k : ℕ) (x : Said) → OneOf elsewhere (tagOf says.the-type x) → (b : Body) → b ≡ putSaid k x b
 unfolding putSaid
@@ -188,6 +188,7 @@ others k (said.Qnh x) told b = refl
 others k (said.Recent x) told b = refl
 others k said.Nothing told b = refl
 others k (said.Refused f) told b = refl
+others k (said.Times x) told b = refl
 
 -- by what the group was found to say
 pub put-by : (k : ℕ) (b : Body) {x y : Said} → x ≡ y → putSaid k y b ≡ putSaid k x b
@@ -195,7 +196,7 @@ put-by k b q = rw q
 
 -- what is no refusal is put
 abbrev pub said-fine : List ℕ
-said-fine = 0 ∷ 1 ∷ 2 ∷ 3 ∷ 4 ∷ 5 ∷ 6 ∷ 7 ∷ 8 ∷ 9 ∷ 10 ∷ 11 ∷ 12 ∷ 13 ∷ 14 ∷ 15 ∷ 16 ∷ 17 ∷ 18 ∷ 19 ∷ 20 ∷ []
+said-fine = 0 ∷ 1 ∷ 2 ∷ 3 ∷ 4 ∷ 5 ∷ 6 ∷ 7 ∷ 8 ∷ 9 ∷ 10 ∷ 11 ∷ 12 ∷ 13 ∷ 14 ∷ 15 ∷ 16 ∷ 17 ∷ 18 ∷ 19 ∷ 20 ∷ 22 ∷ []
 
 pub not-refused : {R : Type 0} (r : R) (x : Said) → OneOf said-fine (tagOf says.the-type x) → unlessRefused x r ≡ Good r
 not-refused r (said.Special x) told = refl
@@ -220,6 +221,7 @@ not-refused r (said.Qnh x) told = refl
 not-refused r (said.Recent x) told = refl
 not-refused r said.Nothing told = refl
 not-refused r (said.Refused f) told = absurd (miss said-fine 21 tt told)
+not-refused r (said.Times x) told = refl
 
 -- ---- a record that holds the body, as every kind has it
 
@@ -247,6 +249,7 @@ unless-then h b (said.Qnh x) = refl
 unless-then h b (said.Recent x) = refl
 unless-then h b said.Nothing = refl
 unless-then h b (said.Refused f) = refl
+unless-then h b (said.Times x) = refl
 
 -- what is of the body, or a refusal, by its tag
 pub tag-in : (ks : List ℕ) → T (hasKey ks 9) → T (hasKey ks 11) → T (hasKey ks 13) → T (hasKey ks 14) → T (hasKey ks 15) → T (hasKey ks 16) → T (hasKey ks 21) → (x : Said) → isOfBody x ≡ true
@@ -273,3 +276,4 @@ tag-in ks wind view weather nsw layer cover bad (said.Qnh x) own = absurd (false
 tag-in ks wind view weather nsw layer cover bad (said.Recent x) own = absurd (false≢true own)
 tag-in ks wind view weather nsw layer cover bad said.Nothing own = absurd (false≢true own)
 tag-in ks wind view weather nsw layer cover bad (said.Refused f) own = hit ks 21 bad
+tag-in ks wind view weather nsw layer cover bad (said.Times x) own = absurd (false≢true own)

@@ -9,6 +9,7 @@ use sky::read::add_layer;
 use sky::read::read_sky;
 use text::kinds::Refusal;
 use weather::read::add_weather;
+use weather::read::has_weather;
 use weather::read::read_weather;
 use wind::read::is_cavok;
 use wind::read::read_visibility;
@@ -20,6 +21,7 @@ ghost use Rattle.figures.specs.Quote.{bytes};
 ghost use Rattle.shapes.specs.Pattern.{hasPattern};
 ghost use Rattle.elements.specs.declared.kinds.Said.the-variants as said;
 ghost use Rattle.elements.specs.Answers.{unlessWrong};
+ghost use Rattle.elements.specs.Body.{hasWeatherOrNsw};
 ghost use Rattle.elements.specs.Weather.{readWeather};
 ghost use Rattle.body.specs.Said.{putSaid, Says, weatherSaid};
 
@@ -51,7 +53,16 @@ fn say_weather(forecast: bool, automatic: bool, beside: bool, g: &[u8]) -> Said
     }
 }
 
-// Weather, or in a forecast NSW.
+// Has the group the shape of weather, or is it NSW?
+pub fn has_weather_or_nsw(g: &[u8]) -> bool
+    ensures { λ r. ⌜ r ≡ hasWeatherOrNsw (now (g .entry)) ⌝ }
+{
+    let nsw = has_pattern(g, b"NSW");
+    let weather = has_weather(g);
+    nsw | weather
+}
+
+// Weather or NSW.
 fn say_weather_or_nsw(
     forecast: bool,
     may: bool,
@@ -64,8 +75,7 @@ fn say_weather_or_nsw(
 {
     let visibility = b.visibility;
     let cavok = is_cavok(visibility);
-    let nsw = has_pattern(g, b"NSW");
-    if forecast & nsw {
+    if has_pattern(g, b"NSW") {
         say_nsw(may, count, cavok)
     } else {
         say_weather(forecast, automatic, cavok | b.nsw, g)

@@ -7,7 +7,7 @@ fn say_line(part: &[u8]) {
     io::write_all(STDOUT_FILENO, b"\n");
 }
 
-// The unread rest of a METAR with a trend, and of one that is refused.
+// The unread rest of a METAR behind its trend, and of one that is refused.
 fn say_rests() {
     say_line(report::rest(b"METAR LEMD 011200Z 27010KT CAVOK 15/10 Q1013 NOSIG RMK A=\r\n"));
     say_line(report::rest(b"METAR LEMD 011200Z 27010KT CAVOK 15/10 NOSIG="));

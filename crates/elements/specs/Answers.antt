@@ -17,6 +17,7 @@ use Rattle.record.specs.declared.aerodrome.Period.{Period}
 use Rattle.record.specs.declared.aerodrome.Runway.{Runway}
 use Rattle.record.specs.declared.aerodrome.Temperatures.{Temperatures}
 use Rattle.record.specs.declared.aerodrome.Qnh.{Qnh}
+use Rattle.record.specs.declared.aerodrome.Times.{Times}
 use Rattle.elements.specs.declared.kinds.Said.{Said}
 use Rattle.elements.specs.declared.kinds.Said.the-variants as said
 use Rattle.elements.specs.declared.kinds.WeatherRead.{WeatherRead}
@@ -55,6 +56,9 @@ asTemperatures = asSaid said.Temperatures
 
 abbrev pub asQnh : Read Qnh → Said
 asQnh = asSaid said.Qnh
+
+abbrev pub asTimes : Read Times → Said
+asTimes = asSaid said.Times
 
 abbrev pub asWeather : Read Weather → WeatherRead
 asWeather (Good x) = weather.Good x

@@ -1,5 +1,5 @@
--- THE BODY: wind, visibility or CAVOK, weather or NSW, clouds. METAR's row has these places, and so has the row of a TAF's main part and of each of its
--- changes: they are defined once, over the body, with what differs as terms.
+-- THE BODY: wind, visibility or CAVOK, weather or NSW, clouds. METAR's row has these places, and so has the row of a trend's change, of a TAF's main part
+-- and of each of its changes: they are defined once, over the body, with what differs as terms.
 -- Assumes nothing: these are definitions.
 use Prim.Native.Nat.{ℕ}
 use mathlib.Core.Bool.{Bool, true, false, cond, not, _&&_, _||_}
@@ -25,7 +25,7 @@ use Rattle.elements.specs.Sky.{layerShape, aloneShapes, hasSky, readSky,
 
 -- What differs where a body stands.
 pub record Terms : Type 0 where
-  -- a forecast: the missing forms are 5, what is blank is not written, and NSW is known
+  -- a forecast: the missing forms are 5, and what is blank is not written
   pub forecast : Bool
   -- wind and visibility must stand
   pub required : Bool
@@ -35,6 +35,10 @@ pub record Terms : Type 0 where
   pub automatic : Bool
   -- nothing is written, in a NIL report
   pub silent : Bool
+
+-- the body of a change, in a trend as under BECMG and TEMPO in a TAF: "They obey the TAF's TEMPO body's rules, UP being 7 under AUTO too"
+abbrev pub changing : Terms
+changing = record { forecast = true; required = false; mayNsw = true; automatic = false; silent = false }
 
 -- a wind or visibility that is not written: in a forecast one that is blank
 abbrev pub leftOut : Terms → Bool → Bool
@@ -72,15 +76,15 @@ visibilityPlace t =
 
 -- ---- weather, or "NSW, the sole weather"
 
-abbrev pub isNsw : Terms → Group → Bool
-isNsw t g = t .forecast && hasPattern g (bytes "NSW")
+abbrev pub isNsw : Group → Bool
+isNsw g = hasPattern g (bytes "NSW")
 
-abbrev pub hasWeatherOrNsw : Terms → Group → Bool
-hasWeatherOrNsw t g = isNsw t g || hasWeather g
+abbrev pub hasWeatherOrNsw : Group → Bool
+hasWeatherOrNsw g = isNsw g || hasWeather g
 
--- NSW before the patterns of weather, where it is known
-abbrev pub withNsw : Terms → List Pattern → List Pattern
-withNsw t ps = cond (t .forecast) (bytes "NSW" ∷ ps) ps
+-- NSW before the patterns of weather
+abbrev pub withNsw : List Pattern → List Pattern
+withNsw ps = bytes "NSW" ∷ ps
 
 -- "CAVOK stands for visibility, weather and clouds; weather or clouds beside it are 7."
 abbrev pub besideOthers : Body → Read Weather → Read Weather
@@ -93,7 +97,7 @@ nswStands t k v = t .mayNsw && eqb k 0 && not (isCavok v)
 
 unfoldable pub readWeatherOrNsw : Terms → ℕ → Group → Body → Read Body
 readWeatherOrNsw t k g b =
-    cond (isNsw t g) (agreeing (nswStands t k (b .visibility)) (Good (setNsw true b)))
+    cond (isNsw g) (agreeing (nswStands t k (b .visibility)) (Good (setNsw true b)))
     (then (besideOthers b (readWeather (t .forecast) (t .automatic) g)) (λ w. Good (setWeathers (withWeather k (b .weathers) w) b)))
 
 abbrev pub showWeatherOrNsw : Body → List Group
@@ -102,9 +106,9 @@ showWeatherOrNsw b = cond (b .nsw) (bytes "NSW" ∷ []) [] ++ showWeathers (b .w
 abbrev pub weatherPlace : Terms → Place Body
 weatherPlace t =
     record {
-      has = hasWeatherOrNsw t;
-      cover = withNsw t weatherCover;
-      spoken = withNsw t weatherSpoken;
+      has = hasWeatherOrNsw;
+      cover = withNsw weatherCover;
+      spoken = withNsw weatherSpoken;
       most = 3;
       must = false;
       ends = false;

@@ -7,6 +7,7 @@ use record::aerodrome::Period;
 use record::aerodrome::Qnh;
 use record::aerodrome::Runway;
 use record::aerodrome::Temperatures;
+use record::aerodrome::Times;
 use record::aerodrome::Variation;
 use record::aerodrome::Visibility;
 use record::aerodrome::Weather;
@@ -37,6 +38,7 @@ pub enum Said {
     Recent(Weather),
     Nothing,
     Refused(Refusal),
+    Times(Times),
 }
 
 pub enum WeatherRead {

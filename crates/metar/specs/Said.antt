@@ -5,8 +5,8 @@ use mathlib.Core.Path.{_≡_}
 use mathlib.Core.Bool.{Bool, true}
 use Rattle.places.specs.Engine.{Group, Read, placeAt}
 use Rattle.record.specs.declared.aerodrome.Body.{Body}
-use Rattle.record.specs.declared.aerodrome.Metar.{Metar}
-use Rattle.record.specs.Metar.{setSpecial, setCorrected, setStation, setTime, setNil, setAutomatic, setBody, setVariation, setRunways, setTemperatures, setQnh, setRecents}
+use Rattle.record.specs.declared.aerodrome.Observation.{Observation}
+use Rattle.record.specs.Observation.{setSpecial, setCorrected, setStation, setTime, setNil, setAutomatic, setBody, setVariation, setRunways, setTemperatures, setQnh, setRecents}
 use Rattle.elements.specs.declared.kinds.Said.{Said}
 use Rattle.elements.specs.declared.kinds.Said.the-variants as said
 use Rattle.elements.specs.Weather.{withWeather}
@@ -16,11 +16,11 @@ use Rattle.body.specs.Said.{unlessRefused, putSaid}
 use Rattle.metar_row.specs.Row.{row}
 
 -- the record with what is said of the body
-abbrev pub ontoBody : ℕ → Said → Metar → Metar
+abbrev pub ontoBody : ℕ → Said → Observation → Observation
 ontoBody k x r = setBody (putSaid k x (r .body)) r
 
 -- The record with what the group g says, where k groups stand at its place.
-unfoldable pub reportSaid : ℕ → Group → Said → Metar → Metar
+unfoldable pub reportSaid : ℕ → Group → Said → Observation → Observation
 reportSaid k g (said.Special x) r = setSpecial x r
 reportSaid k g said.Corrected r = setCorrected true r
 reportSaid k g said.Station r = setStation (stationOf g) r
@@ -43,7 +43,8 @@ reportSaid k g (said.Layer x) r = ontoBody k (said.Layer x) r
 reportSaid k g (said.Cover x) r = ontoBody k (said.Cover x) r
 reportSaid k g said.Nothing r = ontoBody k said.Nothing r
 reportSaid k g (said.Refused f) r = ontoBody k (said.Refused f) r
+reportSaid k g (said.Times x) r = ontoBody k (said.Times x) r
 
 -- A group at place i says this: put into any record with this body, AUTO or not, it is what the place reads.
 abbrev pub Says : ℕ → ℕ → Group → Bool → Body → Said → Type 0
-Says i k g automatic b x = (r : Metar) → r .automatic ≡ automatic → r .body ≡ b → unlessRefused x (reportSaid k g x r) ≡ placeAt row i .read k g r
+Says i k g automatic b x = (r : Observation) → r .automatic ≡ automatic → r .body ≡ b → unlessRefused x (reportSaid k g x r) ≡ placeAt row i .read k g r

@@ -14,49 +14,99 @@ use metar_row::musts;
 use places::kinds::Turn;
 use record::aerodrome::Body;
 use record::aerodrome::Metar;
+use record::aerodrome::Observation;
+use record::aerodrome::Trend;
 use record::blank_aerodrome::blank_metar;
+use record::blank_aerodrome::blank_observation;
 use text::kinds::Cut;
-use text::kinds::Refusal;
-use text::kinds::Tail;
+use text::kinds::Verdict;
 use text::part;
+use trend::kinds::Next;
+use trend::part::end_verdict;
+use trend::read::read_trend;
+use trend::word::meet_word;
 use weather::read::add_weather;
 ghost use mathlib.Core.Path.{_≡_};
 ghost use lib.ListN.{length};
 ghost use Rattle.text.specs.Text.{tailOf};
 ghost use Rattle.text.specs.Groups.{groupsFrom};
-ghost use Rattle.places.specs.Engine.{closed, over};
 ghost use Rattle.shapes.specs.Pattern.{hasAny};
+ghost use Rattle.places.specs.Parts.{owes};
+ghost use Rattle.record.specs.declared.aerodrome.Observation.{Observation};
 ghost use Rattle.body.specs.Met.{Meets};
-ghost use Rattle.metar_row.specs.Row.{row, stopWords};
+ghost use Rattle.metar_row.specs.Row.{row, words};
+ghost use Rattle.places.specs.Answer.{outcomeOf};
 ghost use Rattle.metar.specs.Said.{reportSaid};
-ghost use Rattle.metar.specs.Read.{behindName, answer};
+ghost use Rattle.trend.specs.Step.{afterPart};
+ghost use Rattle.metar.specs.Step.{alone, overAt, wordAt};
+ghost use Rattle.metar.specs.Read.{mainPart, behindName, answer};
 
-// Reading ends at a position of the text: a required group is absent, or the unread rest begins there.
-fn close(at: usize, place: usize, count: usize, report: Metar) -> Reading
-    ensures { λ r. ⌜ r ≡ answer (closed row at place count report) ⌝ }
+// The verdict, with the observation and the trend where the text is accepted.
+fn answer_with(verdict: Verdict, observation: Observation, trend: Trend) -> Reading
+    ensures { λ r. ⌜ r ≡ answer (outcomeOf verdict (record { observation = observation; trend = trend })) ⌝ }
 {
-    let must = musts();
-    if places::is_owed(&must, place, count) {
-        answer::refuse(Refusal::Absence, at)
-    } else {
-        answer::accept(at, report)
+    match verdict {
+        Verdict::Accepted { rest } => answer::accept(rest, Metar { observation, trend }),
+        Verdict::Refused { refusal, place } => answer::refuse(refusal, place),
     }
 }
 
-// The groups are over: what follows the "=" is refused first, an absence last.
-fn finish(text: &[u8], place: usize, count: usize, report: Metar) -> Reading
-    ensures { λ r. ⌜ r ≡ answer (over row (tailOf (now (text .entry))) (length (now (text .entry))) place count report) ⌝ }
+// The same without a trend.
+fn answer_alone(verdict: Verdict, observation: Observation) -> Reading
+    ensures { λ r. ⌜ r ≡ answer (outcomeOf verdict (alone observation)) ⌝ }
 {
-    let tail = text::tail(text);
-    match tail {
-        Tail::Junk(junk) => answer::refuse(Refusal::Shape, junk),
-        Tail::Clear => close(text.len(), place, count, report),
+    match verdict {
+        Verdict::Accepted { rest } => {
+            let mut report = blank_metar();
+            report.observation = observation;
+            answer::accept(rest, report)
+        }
+        Verdict::Refused { refusal, place } => answer::refuse(refusal, place),
+    }
+}
+
+// A required group is absent from the observation.
+fn owes(place: usize, count: usize) -> bool
+    ensures { λ r. ⌜ ((o : Observation) → r ≡ owes mainPart place count o) ⌝ }
+{
+    let must = musts();
+    places::is_owed(&must, place, count)
+}
+
+// What follows the observation where the groups are over.
+fn after_groups(text: &[u8], place: usize, count: usize) -> Next
+    ensures { λ r. ⌜ ((o : Observation) → overAt (now (text .entry)) place count o ≡ afterPart (now (text .entry)) 0 (alone o) r) ⌝ }
+{
+    let verdict = end_verdict(text, owes(place, count));
+    Next::End(verdict)
+}
+
+// What follows it at a word from start up to end.
+fn after_word(text: &[u8], start: usize, end: usize, place: usize, count: usize) -> Next
+    ensures { λ r. ⌜ ((o : Observation) → wordAt (now (text .entry)) start end place count o ≡ afterPart (now (text .entry)) 0 (alone o) r) ⌝ }
+{
+    let g = part(text, start, end);
+    meet_word(g, start, end, 0, false, owes(place, count))
+}
+
+// The report, by what follows its observation: the end, or the trend.
+fn conclude(text: &[u8], next: Next, observation: Observation) -> Reading
+    ensures { λ r. ⌜ r ≡ answer (afterPart (now (text .entry)) 0 (alone observation) next) ⌝ }
+{
+    match next {
+        Next::End(verdict) => answer_alone(verdict, observation),
+        Next::Part { word, at } => {
+            let ahead = read_trend(text, at, word);
+            let verdict = ahead.verdict;
+            let trend = ahead.trend;
+            answer_with(verdict, observation, trend)
+        }
     }
 }
 
 // The next group of the text: where it goes in the row, and what it says there. Of the record it sees what a reading depends on.
 fn meet(text: &[u8], from: usize, place: usize, count: usize, automatic: bool, body: Body) -> Met
-    ensures { λ m. ⌜ Meets row (hasAny stopWords) reportSaid place count (λ (r : Metar). (r .automatic ≡ automatic) × (r .body ≡ body)) (now (text .entry)) from m ⌝ }
+    ensures { λ m. ⌜ Meets row (hasAny words) reportSaid place count (λ (r : Observation). (r .automatic ≡ automatic) × (r .body ≡ body)) (now (text .entry)) from m ⌝ }
 {
     let Cut::Group { start, end } = text::next_group(text, from) else {
         return Met::Over;
@@ -90,7 +140,7 @@ fn meet(text: &[u8], from: usize, place: usize, count: usize, automatic: bool, b
 pub fn read_from(text: &[u8], at: usize, special: bool) -> Reading
     ensures { λ r. ⌜ r ≡ answer (behindName special (tailOf (now (text .entry))) (length (now (text .entry))) (groupsFrom (now (text .entry)) at)) ⌝ }
 {
-    let mut report = blank_metar();
+    let mut report = blank_observation();
     report.special = special;
     let mut place = 0;
     let mut count = 1;
@@ -98,8 +148,11 @@ pub fn read_from(text: &[u8], at: usize, special: bool) -> Reading
     loop {
         let met = meet(text, from, place, count, report.automatic, report.body);
         match met {
-            Met::Over => return finish(text, place, count, report),
-            Met::Halt { start, end: _ } => return close(start, place, count, report),
+            Met::Over => return conclude(text, after_groups(text, place, count), report),
+            Met::Halt { start, end } => {
+                let next = after_word(text, start, end, place, count);
+                return conclude(text, next, report);
+            }
             Met::Refused { refusal, start } => return answer::refuse(refusal, start),
             Met::Says(next) => {
                 let said = next.said;

@@ -1,4 +1,4 @@
-// One group: where it goes in the row of places, which the record has no part in, and what it says there.
+// One group: where it goes in the row of places, which the record has no part in, what it says there, and the record with it.
 use aerodrome_groups::read::read_qnh;
 use aerodrome_groups::read::read_runway;
 use aerodrome_groups::read::read_temperatures;
@@ -7,7 +7,7 @@ use body::read::say;
 use elements::kinds::Said;
 use elements::kinds::WeatherRead;
 use metar_row::find;
-use metar_row::is_stop_word;
+use metar_row::is_word;
 use places::kinds::Turn;
 use places::turn_by;
 use record::aerodrome::Body;
@@ -21,17 +21,17 @@ ghost use Rattle.places.specs.Turn.{turnAt};
 ghost use Rattle.elements.specs.declared.kinds.Said.the-variants as said;
 ghost use Rattle.elements.specs.Weather.{readRecent};
 ghost use Rattle.elements.specs.Answers.{asSaid};
-ghost use Rattle.metar_row.specs.Row.{row, stopWords};
+ghost use Rattle.metar_row.specs.Row.{row, words};
 ghost use Rattle.metar.specs.Said.{Says};
 
 // The group's turn, where `count` groups stand at `place`.
 pub fn decide(place: usize, count: usize, g: &[u8]) -> Turn
-    ensures { λ t. ⌜ t ≡ turnAt row (hasAny stopWords) place count (now (g .entry)) ⌝ }
+    ensures { λ t. ⌜ t ≡ turnAt row (hasAny words) place count (now (g .entry)) ⌝ }
 {
-    if 15 <= place {
+    if 16 <= place {
         return Turn::Refused(Refusal::Shape);
     }
-    if is_stop_word(g) {
+    if is_word(g) {
         return Turn::Halt;
     }
     turn_by(find(place, count, g))
@@ -68,6 +68,7 @@ pub fn say_at(place: usize, count: usize, g: &[u8], automatic: bool, b: Body) ->
         12 => read_temperatures(g),
         13 => read_qnh(g),
         14 => say_recent(automatic, g),
+        15 => Said::Refused(Refusal::Order),
         _ => Said::Refused(Refusal::Shape),
     }
 }

@@ -2,5 +2,8 @@
 pub mod Places
 pub mod Several
 pub mod Report
+pub mod Trends
+pub mod TrendBack
+pub mod TrendClasses
 pub mod Canonical
 pub mod Promises

@@ -20,8 +20,8 @@ use Rattle.scales.specs.Rounded.{dddFigure}
 use Rattle.record.specs.declared.aerodrome.Extremes.{Extremes}
 use Rattle.record.specs.declared.aerodrome.Extremes.the-variants as extremes
 use Rattle.record.specs.declared.aerodrome.Body.{Body}
-use Rattle.record.specs.declared.aerodrome.Metar.{Metar}
-use Rattle.record.specs.Metar.{setCorrected, setStation, setTime, setNil, setAutomatic, setBody, blankMetar}
+use Rattle.record.specs.declared.aerodrome.Observation.{Observation}
+use Rattle.record.specs.Observation.{setCorrected, setStation, setTime, setNil, setAutomatic, setBody, blankObservation}
 use Rattle.elements.specs.Wind.{variationShape, showVariation, judgeVariation}
 use Rattle.elements.specs.Body.{Terms}
 use Rattle.aerodrome_groups.specs.Head.{wordPlace}
@@ -55,25 +55,25 @@ names-measured : measured 5 (bytes "METAR" ∷ bytes "SPECI" ∷ []) ≡ true
 unfolding low high
 names-measured = refl
 
-corrected-lens : Lens (λ (r : Metar). r .corrected) setCorrected
+corrected-lens : Lens (λ (r : Observation). r .corrected) setCorrected
 corrected-lens = record { got = λ a r. refl; same = λ r. refl; twice = λ a b r. refl }
 
-pub station-lens : Lens (λ (r : Metar). r .station) setStation
+pub station-lens : Lens (λ (r : Observation). r .station) setStation
 station-lens = record { got = λ a r. refl; same = λ r. refl; twice = λ a b r. refl }
 
-pub time-lens : Lens (λ (r : Metar). r .time) setTime
+pub time-lens : Lens (λ (r : Observation). r .time) setTime
 time-lens = record { got = λ a r. refl; same = λ r. refl; twice = λ a b r. refl }
 
-nil-lens : Lens (λ (r : Metar). r .nil) setNil
+nil-lens : Lens (λ (r : Observation). r .nil) setNil
 nil-lens = record { got = λ a r. refl; same = λ r. refl; twice = λ a b r. refl }
 
-automatic-lens : Lens (λ (r : Metar). r .automatic) setAutomatic
+automatic-lens : Lens (λ (r : Observation). r .automatic) setAutomatic
 automatic-lens = record { got = λ a r. refl; same = λ r. refl; twice = λ a b r. refl }
 
-body-lens : Lens (λ (r : Metar). r .body) setBody
+body-lens : Lens (λ (r : Observation). r .body) setBody
 body-lens = record { got = λ a r. refl; same = λ r. refl; twice = λ a b r. refl }
 
-module _ (r acc : Metar) where
+module _ (r acc : Observation) where
   pub kept-name : Kept (placeAt row 0) 5 r acc
   unfolding row
   kept-name =
@@ -96,17 +96,17 @@ module _ (r acc : Metar) where
 
   -- ---- the body, where NIL and AUTO are as they were read
 
-  pub kept-of : {n : ℕ} (p : Terms → Place Body) → Alike (p (observed r)) (p (observed blankMetar)) → observed acc ≡ observed r
+  pub kept-of : {n : ℕ} (p : Terms → Place Body) → Alike (p (observed r)) (p (observed blankObservation)) → observed acc ≡ observed r
       → Kept (p (observed r)) n (r .body) (acc .body) → Kept (ofBody p) n r acc
-  kept-of p alike seen k = kept-in body-lens observed (observed blankMetar) p (λ a r. refl) alike seen k
+  kept-of p alike seen k = kept-in body-lens observed (observed blankObservation) p (λ a r. refl) alike seen k
 
 -- an observation that is not NIL
-pub live : (r : Metar) → r .nil ≡ false → Live (observed r)
-live r full = record { heard = full; stands = refl; known = λ e. absurd (false≢true e) }
+pub live : (r : Observation) → r .nil ≡ false → Live (observed r)
+live r full = record { heard = full; stands = refl }
 
 -- ---- what stands between and after the body's places, where the report is not NIL
 
-module _ (r acc : Metar) (full : r .nil ≡ false) where
+module _ (r acc : Observation) (full : r .nil ≡ false) where
   pub kept-variation : judgeVariation (r .variation) ≡ judged.Fine → acc .variation .is ≡ extremes.Missing → Kept (placeAt row 7) 7 r acc
   unfolding row showVariation low high
   kept-variation e b = go (r .variation .is) refl

@@ -3,27 +3,39 @@
 -- Assumes nothing.
 use mathlib.Core.Path.{_≡_, refl}
 use mathlib.Core.Bool.{Bool, true, false}
-use lib.ListN.{length}
+use mathlib.Core.List.{List, [], _∷_, map}
+use lib.ListN.{length, take, drop}
 use Rattle.text.specs.declared.kinds.Judged.the-variants as judged
 use Rattle.text.specs.Groups.{groupsFrom}
 use Rattle.text.specs.Text.{tailOf}
 use Rattle.places.specs.Engine.{Done}
+use Rattle.record.specs.declared.aerodrome.Observation.{Observation}
+use Rattle.record.specs.declared.aerodrome.TrendChange.{TrendChange}
 use Rattle.record.specs.declared.aerodrome.Metar.{Metar}
+use Rattle.record.specs.Trend.{blankTrendChange}
 use Rattle.wind.proofs.Promises.{ExtremesNear, no-extremes, variation-near}
 use Rattle.body.proofs.Promises.{BodyRead, body-read, blank-read}
 use Rattle.aerodrome_groups.proofs.Promises.{RunwaysKept, runways-kept, TemperaturesKept, temperatures-kept, QnhKept, qnh-kept}
 use Rattle.metar_row.specs.Row.{observed, row}
 use Rattle.metar.specs.Read.{groupsRead}
-use Rattle.metar.specs.Write.{judgeOf, canonicalOf, classedOf}
+use Rattle.elements.specs.Body.{changing}
+use Rattle.trend_row.specs.Row as trend-row
+use Rattle.trend_row.proofs.Changes.{live as trend-live}
+use Rattle.trend.specs.Write.{judgeChange, judgeEach, classChange, classTrend}
+use Rattle.metar.specs.Write.{judgeOf, canonicalOf, classObservation, classedOf}
 use Rattle.record.specs.Arrays.{MetarArrays}
+use Rattle.record.proofs.Counted.{map-counted}
+use Rattle.text.proofs.Judging.{and-then}
 use Rattle.metar_laws.proofs.Places.{live}
 use Rattle.metar_laws.proofs.Report.{fair-observation, fair-bare}
-use Rattle.metar_laws.proofs.Canonical.{read-canonical}
+use Rattle.metar_laws.proofs.Trends.{FairChange, fair-change}
+use Rattle.metar_laws.proofs.TrendClasses.{change-is, taken, dropped}
+use Rattle.metar_laws.proofs.Canonical.{trend-listed, read-canonical}
 
 -- ---- the record that is read back
 
 -- "The numbers scaled here are the rounded ones; all else in a record, missing, calm, variable and trace too, is carried exactly."
-pub record RecordRead (r q : Metar) : Type 0 where
+pub record ObservationRead (r q : Observation) : Type 0 where
   pub special : q .special ≡ r .special
   pub corrected : q .corrected ≡ r .corrected
   pub station : q .station ≡ r .station
@@ -37,24 +49,44 @@ pub record RecordRead (r q : Metar) : Type 0 where
   pub qnh : QnhKept (r .qnh) (q .qnh)
   pub recents : q .recents ≡ r .recents
 
+pub record ChangeRead (c d : TrendChange) : Type 0 where
+  pub tendency : d .tendency ≡ c .tendency
+  pub times : d .times ≡ c .times
+  pub body : BodyRead (c .body) (d .body)
+
+pub data EachRead : List TrendChange → List TrendChange → Type 0 where
+  none : EachRead [] []
+  more : {c d : TrendChange} {cs ds : List TrendChange} → ChangeRead c d → EachRead cs ds → EachRead (c ∷ cs) (d ∷ ds)
+
+-- the observation, and of the trend NOSIG and the changes up to the count; what stands past it is as it was
+pub record RecordRead (r q : Metar) : Type 0 where
+  pub observation : ObservationRead (r .observation) (q .observation)
+  pub nosig : q .trend .nosig ≡ r .trend .nosig
+  pub count : q .trend .count ≡ r .trend .count
+  pub changes : EachRead (take (r .trend .count) (r .trend .items)) (take (r .trend .count) (q .trend .items))
+  pub past : drop (r .trend .count) (q .trend .items) ≡ drop (r .trend .count) (r .trend .items)
+
+-- ---- the observation
+
 -- what depends on the judgement: the directions and the visibility are in range, or missing
-record Near (r q : Metar) : Type 0 where
+record Near (r q : Observation) : Type 0 where
   body : BodyRead (r .body) (q .body)
   variation : ExtremesNear (r .variation .is) (q .variation .is)
 
-near : (r : Metar) → MetarArrays r → judgeOf r ≡ judged.Fine → Near r (classedOf r)
-unfolding row classedOf
-near r arrays e = go (r .nil) refl
+near : (r : Metar) → MetarArrays r → judgeOf r ≡ judged.Fine → Near (r .observation) (classObservation (r .observation))
+unfolding row classObservation
+near r arrays e = go (r .observation .nil) refl
   where
-    go : (b : Bool) → r .nil ≡ b → Near r (classedOf r)
-    go true n = let b = fair-bare r arrays e n in record { body = blank-read (r .body) (b .body); variation = rw (b .variation) no-extremes }
+    go : (b : Bool) → r .observation .nil ≡ b → Near (r .observation) (classObservation (r .observation))
+    go true n = let b = fair-bare r arrays e n in record { body = blank-read (r .observation .body) (b .body); variation = rw (b .variation) no-extremes }
     go false n =
+        let o = r .observation in
         let f = fair-observation r e n in
-        record { body = body-read (observed r) (live r n) (r .body) (f .body); variation = variation-near (r .variation) (f .variation) }
+        record { body = body-read (observed o) (live o n) (o .body) (f .body); variation = variation-near (o .variation) (f .variation) }
 
-record-read : (r : Metar) → Near r (classedOf r) → RecordRead r (classedOf r)
-unfolding row classedOf
-record-read r n =
+observation-read : (r : Observation) → Near r (classObservation r) → ObservationRead r (classObservation r)
+unfolding row classObservation
+observation-read r n =
     record {
       special = refl;
       corrected = refl;
@@ -70,7 +102,42 @@ record-read r n =
       recents = refl;
     }
 
+-- ---- the trend
+
+change-read : (nosig : Bool) (c : TrendChange) → FairChange nosig c → ChangeRead c (classChange c)
+change-read nosig c f = rw (change-is c) (record { tendency = refl; times = refl; body = body-read changing trend-live (c .body) (f .body) })
+
+each-read : (nosig : Bool) (cs : List TrendChange) → judgeEach nosig cs ≡ judged.Fine → EachRead cs (map classChange cs)
+each-read nosig [] e = none
+each-read nosig (c ∷ cs) e =
+    let j = and-then (judgeChange nosig c) (judgeEach nosig cs) e in
+    more (change-read nosig c (fair-change nosig c (j .0))) (each-read nosig cs (j .1))
+
+record-read : (r : Metar) → MetarArrays r → judgeOf r ≡ judged.Fine → RecordRead r (classedOf r)
+unfolding classedOf classTrend
+record-read r arrays e =
+    let t = r .trend in
+    let l = trend-listed r arrays e in
+    record {
+      observation = observation-read (r .observation) (near r arrays e);
+      nosig = refl;
+      count = refl;
+      changes = rw (taken t l) (each-read (t .nosig) (take (t .count) (t .items)) (l .fine));
+      past = dropped t l;
+    }
+
 -- WHAT IS WRITTEN OF A RECORD THAT THE WRITER ACCEPTS IS READ, to the text's end, as a record that says the same.
 pub promise : (r : Metar) → MetarArrays r → judgeOf r ≡ judged.Fine
     → (groupsRead (tailOf (canonicalOf r)) (length (canonicalOf r)) (groupsFrom (canonicalOf r) 0) ≡ Done (length (canonicalOf r)) (classedOf r)) × RecordRead r (classedOf r)
-promise r arrays e = (read-canonical r arrays e, record-read r (near r arrays e))
+promise r arrays e = (read-canonical r arrays e, record-read r arrays e)
+
+-- ---- each change is read back as its class, and those past the count too
+
+blank-classed : classChange blankTrendChange ≡ blankTrendChange
+unfolding classChange trend-row.row
+blank-classed = refl
+
+pub items-classed : (r : Metar) → MetarArrays r → judgeOf r ≡ judged.Fine → classedOf r .trend .items ≡ map classChange (r .trend .items)
+unfolding classedOf classTrend
+items-classed r arrays e =
+    map-counted classChange blankTrendChange blank-classed (r .trend .count) 3 (r .trend .items) (trend-listed r arrays e .blank)

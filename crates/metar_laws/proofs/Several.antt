@@ -13,9 +13,9 @@ use Rattle.places.specs.Engine.{Good, placeAt}
 use Rattle.places.proofs.ReadBack.{fill}
 use Rattle.places.proofs.Sizes.{Sized, measured, sized-each}
 use Rattle.places.proofs.Kept.{Kept, keep-each}
-use Rattle.record.specs.declared.aerodrome.Metar.{Metar}
+use Rattle.record.specs.declared.aerodrome.Observation.{Observation}
 use Rattle.record.specs.Body.{blankWeathers}
-use Rattle.record.specs.Metar.{blankRunways, setRunways, setRecents}
+use Rattle.record.specs.Observation.{blankRunways, setRunways, setRecents}
 use Rattle.elements.specs.Weather.{hasRecent, readRecent, withWeather, showRecent, showRecents, judgeRecent, judgeWeathers}
 use Rattle.aerodrome_groups.specs.Runway.{runwayShape, readRunway, withRunway, showRunways, judgeRunways, classRunways}
 use Rattle.weather.proofs.Covers.{recent-covered}
@@ -31,7 +31,7 @@ runway-measured = refl
 
 -- ---- runway ranges
 
-module _ (r acc : Metar) (blank : setRunways blankRunways acc ≡ acc) (four : length (r .runways .items) ≡ 4) (e : judgeRunways (r .runways) ≡ judged.Fine) where
+module _ (r acc : Observation) (blank : setRunways blankRunways acc ≡ acc) (four : length (r .runways .items) ≡ 4) (e : judgeRunways (r .runways) ≡ judged.Fine) where
   runways-filled : fill (placeAt row 9) 0 (showRunways (r .runways)) acc ≡ Good (setRunways (classRunways (r .runways)) acc)
   unfolding row
   runways-filled =
@@ -49,7 +49,7 @@ module _ (r acc : Metar) (blank : setRunways blankRunways acc ≡ acc) (four : l
 
 -- ---- recent weather
 
-module _ (r acc : Metar) (blank : setRecents blankWeathers acc ≡ acc) (same : acc .automatic ≡ r .automatic) (three : length (r .recents .items) ≡ 3)
+module _ (r acc : Observation) (blank : setRecents blankWeathers acc ≡ acc) (same : acc .automatic ≡ r .automatic) (three : length (r .recents .items) ≡ 3)
     (e : judgeWeathers (judgeRecent (r .automatic)) (r .recents) ≡ judged.Fine) where
   recents-filled : fill (placeAt row 14) 0 (showRecents (r .recents)) acc ≡ Good (setRecents (r .recents) acc)
   unfolding row showRecents

@@ -10,17 +10,17 @@ use Rattle.weather.proofs.Covers.{recent-covered}
 use Rattle.body.proofs.Bodies.{body-covered}
 use Rattle.aerodrome_groups.proofs.RunwayBack.{runway-covered}
 use Rattle.aerodrome_groups.proofs.TemperaturesBack.{temperatures-covered}
-use Rattle.record.specs.Metar.{blankMetar}
+use Rattle.record.specs.Observation.{blankObservation}
 use Rattle.elements.specs.Weather.{codesOf}
-use Rattle.metar_row.specs.Row.{observed, row, stopWords}
+use Rattle.metar_row.specs.Row.{observed, row, words}
 
-pub row-sound : sound stopWords row ≡ true
-unfolding row stopWords low high clash clashEach allApart leading split partsOf spellings codesOf
+pub row-sound : sound words row ≡ true
+unfolding row words low high clash clashEach allApart leading split partsOf spellings codesOf
 row-sound = refl
 
 -- WHAT HAS THE SHAPE OF A PLACE FITS THE PATTERNS THAT COVER IT.
 pub row-covered : Covered row
 unfolding row
 row-covered =
-    let b = body-covered (observed blankMetar) in
-    (two-patterns _ _, (one-pattern _, (one-pattern _, (one-pattern _, (one-pattern _, (one-pattern _, (b .0, (one-pattern _, (b .1 .0, (runway-covered, (b .1 .1 .0, (b .1 .1 .1 .0, (temperatures-covered, (one-pattern _, (recent-covered, tt)))))))))))))))
+    let b = body-covered (observed blankObservation) in
+    (two-patterns _ _, (one-pattern _, (one-pattern _, (one-pattern _, (one-pattern _, (one-pattern _, (b .0, (one-pattern _, (b .1 .0, (runway-covered, (b .1 .1 .0, (b .1 .1 .1 .0, (temperatures-covered, (one-pattern _, (recent-covered, ((λ g h. h), tt))))))))))))))))

@@ -5,13 +5,14 @@ use Prim.Native.Nat.{ℕ}
 use mathlib.Core.Bool.{Bool, true, false, _||_, cond}
 use mathlib.Core.List.{List, [], _∷_, _++_}
 use Rattle.figures.specs.Quote.{bytes}
-use Rattle.shapes.specs.Pattern.{Pattern, hasPattern}
+use Rattle.shapes.specs.Pattern.{Pattern, hasPattern, hasAny}
 use Rattle.shapes.specs.Shape.{hasShape, partsOf, spellings}
-use Rattle.places.specs.Engine.{Group, Read, Good, Place}
-use Rattle.places.specs.Lift.{lift, liftIn}
+use Rattle.places.specs.Seek.{anywhere}
+use Rattle.places.specs.Engine.{Group, Read, Good, Place, standsOf}
+use Rattle.places.specs.Lift.{lift, liftIn, shut}
 use Rattle.record.specs.declared.aerodrome.Body.{Body}
-use Rattle.record.specs.declared.aerodrome.Metar.{Metar}
-use Rattle.record.specs.Metar.{setSpecial, setCorrected, setStation, setTime, setNil, setAutomatic, setBody, setVariation, setRunways, setTemperatures, setQnh, setRecents, blankMetar}
+use Rattle.record.specs.declared.aerodrome.Observation.{Observation}
+use Rattle.record.specs.Observation.{setSpecial, setCorrected, setStation, setTime, setNil, setAutomatic, setBody, setVariation, setRunways, setTemperatures, setQnh, setRecents, blankObservation}
 use Rattle.elements.specs.Parts.{then}
 use Rattle.elements.specs.Wind.{variationShape, readVariation, showVariation, classVariation}
 use Rattle.elements.specs.Weather.{hasRecent, readRecent, withWeather, showRecents}
@@ -21,11 +22,11 @@ use Rattle.aerodrome_groups.specs.Runway.{runwayShape, readRunway, withRunway, 
 use Rattle.aerodrome_groups.specs.Temperatures.{temperaturesShape, qnhShape, readTemperatures, readQnh, showTemperatures, showQnh, classTemperatures, classQnh}
 
 -- a place: its shape and the patterns that cover it, how many may or must stand there; how a group is read, how it is written and what it is read back as
-abbrev pub placeFor : (Group → Bool) → List Pattern → ℕ → Bool → (ℕ → Group → Metar → Read Metar) → (Metar → List Group) → (Metar → Metar → Metar) → Place Metar
+abbrev pub placeFor : (Group → Bool) → List Pattern → ℕ → Bool → (ℕ → Group → Observation → Read Observation) → (Observation → List Group) → (Observation → Observation → Observation) → Place Observation
 placeFor has cover most must read show put =
     record { has = has; cover = cover; spoken = cover; most = most; must = must; ends = false; read = read; show = show; put = put }
 
-abbrev pub onto : {A : Type 0} → Read A → (A → Metar → Metar) → Metar → Read Metar
+abbrev pub onto : {A : Type 0} → Read A → (A → Observation → Observation) → Observation → Read Observation
 onto x f r = then x (λ a. Good (f a r))
 
 -- ---- the head
@@ -33,32 +34,46 @@ onto x f r = then x (λ a. Good (f a r))
 abbrev pub isName : Group → Bool
 isName g = hasPattern g (bytes "METAR") || hasPattern g (bytes "SPECI")
 
--- ---- the body of an observation: wind and visibility are required, missing forms stand, NSW is not known, UP stands under AUTO, and wind and
--- visibility are written unless the report is NIL
+-- ---- the body of an observation: wind and visibility are required, missing forms stand, NSW is 7, UP stands under AUTO, and wind and visibility are
+-- written unless the report is NIL
 
-abbrev pub observed : Metar → Terms
+abbrev pub observed : Observation → Terms
 observed r = record { forecast = false; required = true; mayNsw = false; automatic = r .automatic; silent = r .nil }
 
-abbrev pub ofBody : (Terms → Place Body) → Place Metar
-ofBody p = liftIn (λ (r : Metar). r .body) setBody observed (observed blankMetar) p
+abbrev pub ofBody : (Terms → Place Body) → Place Observation
+ofBody p = liftIn (λ (r : Observation). r .body) setBody observed (observed blankObservation) p
+
+-- ---- the times of a trend, FM, TL and AT with GGgg: "in METAR or SPECI outside a trend" they are 6
+
+abbrev pub fromShape : Pattern
+fromShape = bytes "FM####"
+
+abbrev pub untilShape : Pattern
+untilShape = bytes "TL####"
+
+abbrev pub atShape : Pattern
+atShape = bytes "AT####"
+
+abbrev pub timeShapes : List Pattern
+timeShapes = fromShape ∷ untilShape ∷ atShape ∷ []
 
 -- ---- writing
 
 -- what stands after NIL is not written
-abbrev pub unlessNil : Metar → List Group → List Group
+abbrev pub unlessNil : Observation → List Group → List Group
 unlessNil r gs = cond (r .nil) [] gs
 
 -- ---- the row
 
-unfoldable pub row : List (Place Metar)
+unfoldable pub row : List (Place Observation)
 row =
     placeFor isName (bytes "METAR" ∷ bytes "SPECI" ∷ []) 1 true (λ k g r. Good (setSpecial (hasPattern g (bytes "SPECI")) r))
     (λ r. cond (r .special) (bytes "SPECI") (bytes "METAR") ∷ []) (λ r acc. setSpecial (r .special) acc)
-    ∷ lift (λ (r : Metar). r .corrected) setCorrected (wordPlace "COR" false)
-    ∷ lift (λ (r : Metar). r .station) setStation stationPlace
-    ∷ lift (λ (r : Metar). r .time) setTime timePlace
-    ∷ lift (λ (r : Metar). r .nil) setNil (wordPlace "NIL" true)
-    ∷ lift (λ (r : Metar). r .automatic) setAutomatic (wordPlace "AUTO" false)
+    ∷ lift (λ (r : Observation). r .corrected) setCorrected (wordPlace "COR" false)
+    ∷ lift (λ (r : Observation). r .station) setStation stationPlace
+    ∷ lift (λ (r : Observation). r .time) setTime timePlace
+    ∷ lift (λ (r : Observation). r .nil) setNil (wordPlace "NIL" true)
+    ∷ lift (λ (r : Observation). r .automatic) setAutomatic (wordPlace "AUTO" false)
     ∷ ofBody windPlace
     ∷ placeFor (λ g. hasPattern g variationShape) (variationShape ∷ []) 1 false (λ k g r. onto (readVariation g) setVariation r)
     (λ r. showVariation (r .variation)) (λ r acc. setVariation (classVariation (r .variation)) acc)
@@ -74,8 +89,16 @@ row =
     ∷ placeFor hasRecent (bytes "RE*" ∷ []) 3 false
     (λ k g r. onto (readRecent (r .automatic) g) (λ w r. setRecents (withWeather k (r .recents) w) r) r)
     (λ r. showRecents (r .recents)) (λ r acc. setRecents (r .recents) acc)
+    ∷ shut (hasAny timeShapes) timeShapes
     ∷ []
 
--- "in METAR and SPECI at NOSIG, BECMG, TEMPO, WS or RMK"
-unfoldable pub stopWords : List Pattern
-stopWords = bytes "NOSIG" ∷ bytes "BECMG" ∷ bytes "TEMPO" ∷ bytes "WS" ∷ bytes "RMK" ∷ []
+-- a group of the observation has this shape
+unfoldable pub isKnown : Group → Bool
+isKnown g = anywhere (standsOf row g)
+
+-- "NOSIG, BECMG and TEMPO no longer stop the reading; WS and RMK still do." All five end the observation, and each change of a trend.
+abbrev pub stopWords : List Pattern
+stopWords = bytes "WS" ∷ bytes "RMK" ∷ []
+
+unfoldable pub words : List Pattern
+words = bytes "NOSIG" ∷ bytes "BECMG" ∷ bytes "TEMPO" ∷ stopWords

@@ -1,6 +1,7 @@
 // The tests of the row of METAR and SPECI: its words, the shapes of its places, how many groups may or must stand at each, and where a group goes.
 use aerodrome_groups::read::has_runway;
 use aerodrome_groups::read::has_temperatures;
+use body::read::has_weather_or_nsw;
 use places::found_at;
 use places::kinds::Found;
 use places::may_answer;
@@ -8,7 +9,6 @@ use places::most_at;
 use shapes::has_pattern;
 use sky::read::has_sky;
 use weather::read::has_recent;
-use weather::read::has_weather;
 use wind::read::has_variation;
 use wind::read::has_visibility;
 use wind::read::has_wind;
@@ -18,7 +18,7 @@ ghost use Rattle.shapes.specs.Pattern.{hasAny};
 ghost use lib.ListN.{drop};
 ghost use Rattle.places.specs.Seek.{answers, fitFrom, findOf};
 ghost use Rattle.places.specs.Engine.{placeAt, standsOf, mustsOf, mostsOf, onward};
-ghost use Rattle.metar_row.specs.Row.{isName, row, stopWords};
+ghost use Rattle.metar_row.specs.Row.{isName, timeShapes, row, isKnown, words};
 
 // METAR or SPECI
 pub fn is_name(g: &[u8]) -> bool
@@ -29,8 +29,9 @@ pub fn is_name(g: &[u8]) -> bool
     metar | special
 }
 
-pub fn is_stop_word(g: &[u8]) -> bool
-    ensures { λ r. ⌜ r ≡ hasAny stopWords (now (g .entry)) ⌝ }
+// A word that ends the observation or a change of the trend: one of the trend's, or a stop word.
+pub fn is_word(g: &[u8]) -> bool
+    ensures { λ r. ⌜ r ≡ hasAny words (now (g .entry)) ⌝ }
 {
     let nosig = has_pattern(g, b"NOSIG");
     let becoming = has_pattern(g, b"BECMG");
@@ -38,6 +39,16 @@ pub fn is_stop_word(g: &[u8]) -> bool
     let shear = has_pattern(g, b"WS");
     let remarks = has_pattern(g, b"RMK");
     nosig | becoming | temporary | shear | remarks
+}
+
+// FM, TL or AT with a time
+fn is_time(g: &[u8]) -> bool
+    ensures { λ r. ⌜ r ≡ hasAny timeShapes (now (g .entry)) ⌝ }
+{
+    let from = has_pattern(g, b"FM####");
+    let until = has_pattern(g, b"TL####");
+    let at = has_pattern(g, b"AT####");
+    from | until | at
 }
 
 // Has the group the shape of this place?
@@ -55,24 +66,25 @@ fn has_at(place: usize, g: &[u8]) -> bool
         7 => has_variation(g),
         8 => has_visibility(g),
         9 => has_runway(g),
-        10 => has_weather(g),
+        10 => has_weather_or_nsw(g),
         11 => has_sky(g),
         12 => has_temperatures(g),
         13 => has_pattern(g, b"Q####"),
         14 => has_recent(g),
+        15 => is_time(g),
         _ => false,
     }
 }
 
 // How many groups may stand at each place?
-fn mosts() -> [u8; 15]
+fn mosts() -> [u8; 16]
     ensures { λ r. ⌜ r ≡ mostsOf row ⌝ }
 {
-    [1, 1, 1, 1, 1, 1, 1, 1, 1, 4, 3, 4, 1, 1, 3]
+    [1, 1, 1, 1, 1, 1, 1, 1, 1, 4, 3, 4, 1, 1, 3, 0]
 }
 
 // Which places must have a group?
-pub fn musts() -> [bool; 15]
+pub fn musts() -> [bool; 16]
     ensures { λ r. ⌜ r ≡ mustsOf row ⌝ }
 {
     [
@@ -90,6 +102,7 @@ pub fn musts() -> [bool; 15]
         false,
         true,
         true,
+        false,
         false,
     ]
 }
@@ -112,7 +125,7 @@ fn fit_from(all: bool, place: usize, count: usize, g: &[u8]) -> usize
 {
     let mut i = place;
     let mut k = count;
-    while i < 15 {
+    while i < 16 {
         if is_fit(all, i, k, g) {
             return i;
         }
@@ -122,17 +135,24 @@ fn fit_from(all: bool, place: usize, count: usize, g: &[u8]) -> usize
     i
 }
 
+// Has some place of the observation the group's shape?
+pub fn is_known(g: &[u8]) -> bool
+    ensures { λ r. ⌜ r ≡ isKnown (now (g .entry)) ⌝ }
+{
+    fit_from(true, 0, 0, g) < 16
+}
+
 // The place that the group goes to.
 pub fn find(place: usize, count: usize, g: &[u8]) -> Found
     ensures { λ r. ⌜ r ≡ findOf (standsOf row (now (g .entry))) place count ⌝ }
 {
     let fit = fit_from(false, place, count, g);
-    if fit < 15 {
+    if fit < 16 {
         let most = mosts();
         let must = musts();
         return found_at(&most, &must, place, count, fit);
     }
-    if fit_from(true, 0, 0, g) < 15 {
+    if fit_from(true, 0, 0, g) < 16 {
         Found::Earlier
     } else {
         Found::Unknown
@@ -143,5 +163,5 @@ pub fn find(place: usize, count: usize, g: &[u8]) -> Found
 pub fn go_past(place: usize) -> usize
     ensures { λ r. ⌜ r ≡ onward row place ⌝ }
 {
-    if place == 4 { 15 } else { place }
+    if place == 4 { 16 } else { place }
 }

@@ -1,4 +1,5 @@
 // What the writer judges of a METAR or SPECI before it writes anything: that no field foreign to it is told, then each group in written order.
+use crate::trends::judge_trend;
 use aerodrome_groups::judge::judge_qnh;
 use aerodrome_groups::judge::judge_runways;
 use aerodrome_groups::judge::judge_station;
@@ -9,6 +10,7 @@ use body::judge::visibility_judged;
 use body::judge::weather_judged;
 use body::judge::wind_judged;
 use record::aerodrome::Metar;
+use record::aerodrome::Observation;
 use text::judge::and_then;
 use text::judge::judge as judge_pair;
 use text::kinds::Judged;
@@ -17,11 +19,13 @@ use wind::judge::judge_variation;
 ghost use mathlib.Core.Path.{_≡_};
 ghost use mathlib.Core.Bool.{cond};
 ghost use Rattle.text.specs.declared.kinds.Judged.the-variants as judged;
+ghost use Rattle.text.specs.Judge.{andThen};
+ghost use Rattle.trend.specs.Write.{judgeTrend};
 ghost use Rattle.metar.specs.Write.{judgeHead, judgeObservation, judgeOf};
 
 // ---- the groups in written order
 
-fn judge_head(r: Metar) -> Judged
+fn judge_head(r: Observation) -> Judged
     ensures { λ j. ⌜ j ≡ judgeHead r ⌝ }
 {
     let station = r.station;
@@ -29,7 +33,7 @@ fn judge_head(r: Metar) -> Judged
     and_then(judge_station(station), judge_time(time))
 }
 
-fn judge_observation(r: Metar) -> Judged
+fn judge_observation(r: Observation) -> Judged
     ensures { λ j. ⌜ j ≡ judgeObservation r ⌝ }
 {
     let automatic = r.automatic;
@@ -51,22 +55,26 @@ fn judge_observation(r: Metar) -> Judged
 
 // Of a NIL report there is nothing more to judge.
 fn judge_rest(nil: bool, r: Metar) -> Judged
-    ensures { λ j. ⌜ j ≡ cond nil judged.Fine (judgeObservation r) ⌝ }
+    ensures { λ j. ⌜ j ≡ cond nil judged.Fine (andThen (judgeObservation (r .observation)) (judgeTrend (r .trend))) ⌝ }
 {
     if nil {
         Judged::Fine
     } else {
-        judge_observation(r)
+        let observation = r.observation;
+        let trend = r.trend;
+        and_then(judge_observation(observation), judge_trend(trend))
     }
 }
 
-// NSW is foreign to an observation, and in a NIL report what stands after its time.
+// Foreign to a NIL report is what stands after its time.
 pub fn judge(r: Metar) -> Judged
     ensures { λ j. ⌜ j ≡ judgeOf r ⌝ }
 {
-    let nil = r.nil;
-    let body = r.body;
-    let foreign = judge_pair(!body.nsw & (!nil | r.has_no_observation()), true);
-    let stood = and_then(judge_head(r), judge_rest(nil, r));
+    let observation = r.observation;
+    let trend = r.trend;
+    let nil = observation.nil;
+    let bare = observation.has_no_observation() & trend.is_blank();
+    let foreign = judge_pair(!nil | bare, true);
+    let stood = and_then(judge_head(observation), judge_rest(nil, r));
     and_then(foreign, stood)
 }

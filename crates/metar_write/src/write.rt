@@ -1,5 +1,6 @@
 // A METAR or SPECI written as its canonical text, over a lent buffer: all of it, or nothing.
 use crate::judge::judge;
+use crate::trends::put_trend;
 use aerodrome_groups::write::put_qnh;
 use aerodrome_groups::write::put_runways;
 use aerodrome_groups::write::put_station;
@@ -9,6 +10,7 @@ use body::write::put_visibility_unless;
 use body::write::put_weather_or_nsw;
 use body::write::put_wind_unless;
 use record::aerodrome::Metar;
+use record::aerodrome::Observation;
 use sky::write::put_sky;
 use text::kinds::Judged;
 use text::kinds::Written;
@@ -21,6 +23,7 @@ use wind::write::put_variation;
 ghost use mathlib.Core.Path.{_≡_};
 ghost use mathlib.Core.Bool.{cond};
 ghost use mathlib.Core.List.{_∷_, [], _++_};
+ghost use Prim.Native.Nat.{_≤_};
 ghost use lib.ListN.{length, take, drop};
 ghost use Rattle.figures.specs.Put.{Put};
 ghost use Rattle.figures.specs.Quote.{bytes};
@@ -28,7 +31,7 @@ ghost use Rattle.text.specs.declared.kinds.Judged.the-variants as judged;
 ghost use Rattle.text.specs.Groups.{written};
 ghost use Rattle.places.specs.Engine.{written as groupsAt};
 ghost use Rattle.metar_row.specs.Row.{row};
-ghost use Rattle.metar.specs.Write.{judgeOf, writtenOf, bufferOf};
+ghost use Rattle.metar.specs.Write.{judgeOf, groupsOf, writtenOf, bufferOf};
 
 fn put_name(out: &mut [u8], special: bool) -> usize
     ensures { λ n. ⌜ Put (now (out .entry)) 0 (written 0 (cond special (bytes "SPECI") (bytes "METAR") ∷ [])) n (now (out .exit)) ⌝ }
@@ -41,7 +44,7 @@ fn put_name(out: &mut [u8], special: bool) -> usize
 }
 
 // METAR or SPECI, COR, CCCC, YYGGggZ, NIL, AUTO: the first six places.
-fn put_head(out: &mut [u8], r: Metar) -> usize
+fn put_head(out: &mut [u8], r: Observation) -> usize
     ensures { λ n. ⌜ Put (now (out .entry)) 0 (written 0 (groupsAt (take 6 row) r)) n (now (out .exit)) ⌝ }
 {
     let special = r.special;
@@ -59,7 +62,7 @@ fn put_head(out: &mut [u8], r: Metar) -> usize
 }
 
 // Wind, its variation, visibility and runway ranges: the next four. A NIL report is written without wind and visibility.
-fn put_seen(out: &mut [u8], at: usize, r: Metar) -> usize
+fn put_seen(out: &mut [u8], at: usize, r: Observation) -> usize
     ensures { λ n. ⌜ Put (now (out .entry)) at (written at (groupsAt (take 4 (drop 6 row)) r)) n (now (out .exit)) ⌝ }
 {
     let nil = r.nil;
@@ -75,7 +78,7 @@ fn put_seen(out: &mut [u8], at: usize, r: Metar) -> usize
 }
 
 // T/Td, Q and recent weather: the last three. A NIL report is written without T/Td and Q.
-fn put_last(out: &mut [u8], at: usize, r: Metar) -> usize
+fn put_last(out: &mut [u8], at: usize, r: Observation) -> usize
     ensures { λ n. ⌜ Put (now (out .entry)) at (written at (groupsAt (drop 12 row) r)) n (now (out .exit)) ⌝ }
 {
     let nil = r.nil;
@@ -91,9 +94,9 @@ fn put_last(out: &mut [u8], at: usize, r: Metar) -> usize
     }
 }
 
-// The whole report, its "=" too.
-fn put_report(out: &mut [u8], r: Metar) -> usize
-    ensures { λ n. ⌜ Put (now (out .entry)) 0 (written 0 (groupsAt row r) ++ (61 ∷ [])) n (now (out .exit)) ⌝ }
+// The observation, as it stands before the trend.
+fn put_observation(out: &mut [u8], r: Observation) -> usize
+    ensures { λ n. ⌜ Put (now (out .entry)) 0 (written 0 (groupsAt row r)) n (now (out .exit)) ⌝ }
 {
     let body = r.body;
     let sky = body.sky;
@@ -101,16 +104,27 @@ fn put_report(out: &mut [u8], r: Metar) -> usize
     let seen = put_seen(out, headed, r);
     let weathered = put_weather_or_nsw(out, seen, body);
     let clouded = put_sky(out, weathered, sky);
-    let told = put_last(out, clouded, r);
+    put_last(out, clouded, r)
+}
+
+// The whole report, its "=" too.
+fn put_report(out: &mut [u8], r: Metar) -> usize
+    requires { ⌜ r .trend .count ≤ 3 ⌝ }
+    ensures { λ n. ⌜ Put (now (out .entry)) 0 (written 0 (groupsOf r) ++ (61 ∷ [])) n (now (out .exit)) ⌝ }
+{
+    let observation = r.observation;
+    let trend = r.trend;
+    let observed = put_observation(out, observation);
+    let told = put_trend(out, observed, trend);
     close_report(out, told)
 }
 
-// A record that is judged fine: its text, at most 256 bytes, is made first, so that its length is known before the lent buffer is touched.
+// A record that is judged fine: its text, at most 640 bytes, is made first, so that its length is known before the lent buffer is touched.
 fn write_fine(r: Metar, out: &mut [u8]) -> Written
     requires { ⌜ judgeOf r ≡ judged.Fine ⌝ }
     ensures { λ w. ⌜ (w ≡ writtenOf r (length (now (out .entry)))) × (now (out .exit) ≡ bufferOf r (now (out .entry))) ⌝ }
 {
-    let mut text = [0u8; 256];
+    let mut text = [0u8; 640];
     let end = put_report(&mut text, r);
     deliver(&text[..end], out)
 }

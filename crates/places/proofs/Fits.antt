@@ -98,7 +98,8 @@ seek-unfit (p ∷ ps) i k late h = go (answers false k (p .most) && p .has) refl
     go true e ih h = absurd (omega arith)
     go false e ih h = answers-past p ps i k late e ∙ ih (omega arith)
 
-anywhere-fit : (ps : List Stand) (i k : ℕ) → anywhere ps ≡ ltb (fitFrom true i k ps) (i + length ps)
+-- some place has the shape where the first that has it, closed ones asked too, is within the row
+pub anywhere-fit : (ps : List Stand) (i k : ℕ) → anywhere ps ≡ ltb (fitFrom true i k ps) (i + length ps)
 unfolding fitFrom anywhere
 anywhere-fit [] i k = sym (le-ltb i (i + 0) (omega arith))
 anywhere-fit (p ∷ ps) i k = go (p .has) (anywhere-fit ps (i + 1) 0)

@@ -56,15 +56,25 @@ use Rattle.record.specs.declared.aerodrome.Opening.{Opening}
 use Rattle.record.specs.declared.aerodrome.Opening.the-variants as opening
 use Rattle.record.specs.declared.aerodrome.Leg.{Leg}
 use Rattle.record.specs.declared.aerodrome.Change.{Change}
+use Rattle.record.specs.declared.aerodrome.Observation.{Observation}
+use Rattle.record.specs.declared.aerodrome.Hours.{Hours}
+use Rattle.record.specs.declared.aerodrome.Hours.the-variants as hours
+use Rattle.record.specs.declared.aerodrome.Times.{Times}
+use Rattle.record.specs.declared.aerodrome.Tendency.{Tendency}
+use Rattle.record.specs.declared.aerodrome.Tendency.the-variants as tendency
+use Rattle.record.specs.declared.aerodrome.TrendChange.{TrendChange}
+use Rattle.record.specs.declared.aerodrome.Trend.{Trend}
 use Rattle.record.specs.declared.aerodrome.Metar.{Metar}
 use Rattle.record.specs.declared.aerodrome.Taf.{Taf}
 use Rattle.record.specs.Body.{blankWeather, blankWeathers, blankLayer, blankSky, blankWind, blankVisibility, blankBody}
-use Rattle.record.specs.Metar.{blankRunway, blankRunways, blankMetar}
+use Rattle.record.specs.Observation.{blankRunway, blankRunways, blankObservation}
+use Rattle.record.specs.Trend.{blankTrendChange, blankTrend, blankMetar}
 use Rattle.record.specs.Taf.{blankInstant, blankPeriod, blankLeg, blankChange, blankTaf}
-use Rattle.record.specs.Arrays.{BodyArrays, MetarArrays, EachArrays, TafArrays}
+use Rattle.record.proofs.Counted.{blank-each}
+use Rattle.record.specs.Arrays.{BodyArrays, ObservationArrays, TrendArrays, MetarArrays, EachArrays, TafArrays}
 use Rattle.record.specs.SilentAerodrome.{noUnit, isBlankWind, noExtremes, noView, noSide, noCourse, isBlankRunway, noRunways, noPhenomena, isBlankWeather, noWeathers}
 use Rattle.record.specs.SilentAerodrome.{noAmount, noConvective, isBlankLayer, isLayers, noSky, noTemperatures, noStation, noInstant, noPeriod, noCorrection, noOpening}
-use Rattle.record.specs.SilentAerodrome.{isBlankBody, noHead, isBlankChange, noObservation, isBlankMetar, isBlankTaf}
+use Rattle.record.specs.SilentAerodrome.{isBlankBody, noHead, isBlankChange, noObservation, isBlankObservation, noHours, noTendency, isBlankTrendChange, noTrend, isBlankMetar, isBlankTaf}
 use Rattle.record.proofs.Blanks.{number-blank, tenths-blank, direction-blank, speed-blank, letters-blank}
 
 -- ---- wind, visibility, runways
@@ -191,18 +201,18 @@ sky-blank s four e =
 
 -- ---- temperatures, station and times
 
-temperatures-blank : (t : Temperatures) → noTemperatures t ≡ true → t ≡ blankMetar .temperatures
+temperatures-blank : (t : Temperatures) → noTemperatures t ≡ true → t ≡ blankObservation .temperatures
 temperatures-blank t e =
     let b = both _ _ e in
     same (t .air) (t .dew) (tenths-blank _ (b .0)) (tenths-blank _ (b .1))
   where
-    same : (a d : Tenths) → a ≡ tenths.Missing → d ≡ tenths.Missing → _≡_ {A = Temperatures} (record { air = a; dew = d }) (blankMetar .temperatures)
+    same : (a d : Tenths) → a ≡ tenths.Missing → d ≡ tenths.Missing → _≡_ {A = Temperatures} (record { air = a; dew = d }) (blankObservation .temperatures)
     same a d e f = rw (e, f)
 
-station-blank : (s : Station) → length (s .letters) ≡ 4 → noStation s ≡ true → s ≡ blankMetar .station
+station-blank : (s : Station) → length (s .letters) ≡ 4 → noStation s ≡ true → s ≡ blankObservation .station
 station-blank s four e = same (s .letters) (rw four at (letters-blank (s .letters) e))
   where
-    same : (l : List ℕ) → l ≡ replicate 4 0 → _≡_ {A = Station} (record { letters = l }) (blankMetar .station)
+    same : (l : List ℕ) → l ≡ replicate 4 0 → _≡_ {A = Station} (record { letters = l }) (blankObservation .station)
     same l e = rw e
 
 pub instant-blank : (t : Instant) → noInstant t ≡ true → t ≡ blankInstant
@@ -255,16 +265,16 @@ body-blank b arrays e =
 -- ---- METAR and SPECI
 
 -- nothing stands after the time
-pub record Bare (r : Metar) : Type 0 where
+pub record Bare (r : Observation) : Type 0 where
   pub automatic : r .automatic ≡ false
   pub body : r .body ≡ blankBody
-  pub variation : r .variation ≡ blankMetar .variation
-  pub runways : r .runways ≡ blankMetar .runways
-  pub temperatures : r .temperatures ≡ blankMetar .temperatures
-  pub qnh : r .qnh ≡ blankMetar .qnh
-  pub recents : r .recents ≡ blankMetar .recents
+  pub variation : r .variation ≡ blankObservation .variation
+  pub runways : r .runways ≡ blankObservation .runways
+  pub temperatures : r .temperatures ≡ blankObservation .temperatures
+  pub qnh : r .qnh ≡ blankObservation .qnh
+  pub recents : r .recents ≡ blankObservation .recents
 
-pub bare : (r : Metar) → MetarArrays r → noObservation r ≡ true → Bare r
+pub bare : (r : Observation) → ObservationArrays r → noObservation r ≡ true → Bare r
 unfolding noObservation
 bare r arrays e =
     let recents = both _ _ e in
@@ -283,9 +293,9 @@ bare r arrays e =
       recents = weathers-blank (r .recents) (arrays .recents) (recents .1);
     }
 
-pub metar-blank : (r : Metar) → MetarArrays r → isBlankMetar r ≡ true → r ≡ blankMetar
-unfolding isBlankMetar
-metar-blank r arrays e =
+pub observation-blank : (r : Observation) → ObservationArrays r → isBlankObservation r ≡ true → r ≡ blankObservation
+unfolding isBlankObservation
+observation-blank r arrays e =
     let observed = both _ _ e in
     let nil = both _ _ (observed .0) in
     let time = both _ _ (nil .0) in
@@ -297,10 +307,53 @@ metar-blank r arrays e =
     (not-true (r .nil) (nil .1)) (b .automatic) (b .body) (b .variation) (b .runways) (b .temperatures) (b .qnh) (b .recents)
   where
     same : (a b : Bool) (s : Station) (t : Instant) (n o : Bool) (x : Body) (v : Variation) (rs : Runways) (ts : Temperatures) (q : Qnh) (us : Weathers)
-        → a ≡ false → b ≡ false → s ≡ blankMetar .station → t ≡ blankInstant → n ≡ false → o ≡ false → x ≡ blankBody → v ≡ blankMetar .variation
-        → rs ≡ blankMetar .runways → ts ≡ blankMetar .temperatures → q ≡ blankMetar .qnh → us ≡ blankMetar .recents
-        → _≡_ {A = Metar} (record { special = a; corrected = b; station = s; time = t; nil = n; automatic = o; body = x; variation = v; runways = rs; temperatures = ts; qnh = q; recents = us }) blankMetar
+        → a ≡ false → b ≡ false → s ≡ blankObservation .station → t ≡ blankInstant → n ≡ false → o ≡ false → x ≡ blankBody → v ≡ blankObservation .variation
+        → rs ≡ blankObservation .runways → ts ≡ blankObservation .temperatures → q ≡ blankObservation .qnh → us ≡ blankObservation .recents
+        → _≡_ {A = Observation} (record { special = a; corrected = b; station = s; time = t; nil = n; automatic = o; body = x; variation = v; runways = rs; temperatures = ts; qnh = q; recents = us }) blankObservation
     same a b s t n o x v rs ts q us e1 e2 e3 e4 e5 e6 e7 e8 e9 f1 f2 f3 = rw (e1, e2, e3, e4, e5, e6, e7, e8, e9, f1, f2, f3)
+
+-- ---- the trend
+
+hours-blank : (h : Hours) → noHours h ≡ true → h ≡ hours.None
+hours-blank hours.None e = refl
+hours-blank (hours.From f) e = absurd (false≢true e)
+hours-blank (hours.Until u) e = absurd (false≢true e)
+hours-blank (hours.Between f u) e = absurd (false≢true e)
+hours-blank (hours.At t) e = absurd (false≢true e)
+
+tendency-blank : (t : Tendency) → noTendency t ≡ true → t ≡ tendency.None
+tendency-blank tendency.None e = refl
+tendency-blank tendency.Becoming e = absurd (false≢true e)
+tendency-blank tendency.Temporary e = absurd (false≢true e)
+
+pub trend-change-blank : (c : TrendChange) → BodyArrays (c .body) → isBlankTrendChange c ≡ true → c ≡ blankTrendChange
+trend-change-blank c arrays e =
+    let b = both _ _ e in
+    let t = both _ _ (b .0) in
+    same (c .tendency) (c .times .is) (c .body) (tendency-blank (c .tendency) (t .0)) (hours-blank (c .times .is) (t .1)) (body-blank (c .body) arrays (b .1))
+  where
+    same : (t : Tendency) (h : Hours) (b : Body) → t ≡ tendency.None → h ≡ hours.None → b ≡ blankBody
+        → _≡_ {A = TrendChange} (record { tendency = t; times = record { is = h }; body = b }) blankTrendChange
+    same t h b e1 e2 e3 = rw (e1, e2, e3)
+
+pub trend-blank : (t : Trend) → length (t .items) ≡ 3 → TrendArrays (t .items) → noTrend t ≡ true → t ≡ blankTrend
+trend-blank t three arrays e =
+    let items = both _ _ e in
+    let first = both _ _ (items .0) in
+    same (t .nosig) (t .items) (t .count) (not-true (t .nosig) (first .0)) (rw three at (blank-each (λ (c : TrendChange). BodyArrays (c .body)) isBlankTrendChange blankTrendChange trend-change-blank (t .items) arrays (items .1))) (eqb-true (t .count) 0 (first .1))
+  where
+    same : (n : Bool) (cs : List TrendChange) (k : ℕ) → n ≡ false → cs ≡ replicate 3 blankTrendChange → k ≡ 0
+        → _≡_ {A = Trend} (record { items = cs; count = k; nosig = n }) blankTrend
+    same n cs k e1 e2 e3 = rw (e1, e2, e3)
+
+pub metar-blank : (r : Metar) → MetarArrays r → isBlankMetar r ≡ true → r ≡ blankMetar
+unfolding isBlankMetar
+metar-blank r arrays e =
+    let b = both _ _ e in
+    same (r .observation) (r .trend) (observation-blank (r .observation) (arrays .observation) (b .0)) (trend-blank (r .trend) (arrays .trend) (arrays .each) (b .1))
+  where
+    same : (o : Observation) (t : Trend) → o ≡ blankObservation → t ≡ blankTrend → _≡_ {A = Metar} (record { observation = o; trend = t }) blankMetar
+    same o t e1 e2 = rw (e1, e2)
 
 -- ---- TAF
 
@@ -330,13 +383,6 @@ leg-blank r n arrays e p =
         → _≡_ {A = Leg} (record { correction = c; station = s; time = t; nil = n; period = p; cancelled = x; body = b }) blankLeg
     same c s t n p x b e1 e2 e3 e4 e5 e6 e7 = rw (e1, e2, e3, e4, e5, e6, e7)
 
--- the changes past a count have arrays of their own, so that each is taken with its arrays
-pub changes-blank : (cs : List Change) → EachArrays cs → every isBlankChange cs ≡ true → cs ≡ replicate (length cs) blankChange
-changes-blank [] arrays e = refl
-changes-blank (c ∷ cs) arrays e =
-    let t = both _ _ e in
-    rw (change-blank c (arrays .0) (t .0), ← changes-blank cs (arrays .1) (t .1))
-
 pub taf-blank : (t : Taf) → TafArrays t → isBlankTaf t ≡ true → t ≡ blankTaf
 unfolding isBlankTaf
 taf-blank t arrays e =
@@ -344,7 +390,7 @@ taf-blank t arrays e =
     let part = both _ _ (changes .0) in
     let items = both _ _ (changes .1) in
     same (t .leg) (t .changes .items) (t .changes .count) (leg-blank (t .leg) (arrays .letters) (arrays .body) (part .0) (part .1))
-    (rw (arrays .changes) at (changes-blank (t .changes .items) (arrays .each) (items .1))) (eqb-true (t .changes .count) 0 (items .0))
+    (rw (arrays .changes) at (blank-each (λ (c : Change). BodyArrays (c .body)) isBlankChange blankChange change-blank (t .changes .items) (arrays .each) (items .1))) (eqb-true (t .changes .count) 0 (items .0))
   where
     same : (l : Leg) (cs : List Change) (n : ℕ) → l ≡ blankLeg → cs ≡ replicate 16 blankChange → n ≡ 0
         → _≡_ {A = Taf} (record { leg = l; changes = record { items = cs; count = n } }) blankTaf

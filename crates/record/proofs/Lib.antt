@@ -1,3 +1,4 @@
+pub mod Counted
 pub mod Blanks
 pub mod SurfaceBlanks
 pub mod AerodromeBlanks

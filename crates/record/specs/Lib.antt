@@ -1,7 +1,8 @@
 pub mod Blank
 pub mod Set
 pub mod Body
-pub mod Metar
+pub mod Observation
+pub mod Trend
 pub mod Taf
 pub mod Missing
 pub mod SilentSurface

@@ -41,6 +41,13 @@ use Rattle.record.specs.declared.aerodrome.Opening.the-variants as openi
 use Rattle.record.specs.declared.aerodrome.Leg.{Leg}
 use Rattle.record.specs.declared.aerodrome.Change.{Change}
 use Rattle.record.specs.declared.aerodrome.Changes.{Changes}
+use Rattle.record.specs.declared.aerodrome.Observation.{Observation}
+use Rattle.record.specs.declared.aerodrome.Hours.{Hours}
+use Rattle.record.specs.declared.aerodrome.Hours.the-variants as hours
+use Rattle.record.specs.declared.aerodrome.Tendency.{Tendency}
+use Rattle.record.specs.declared.aerodrome.Tendency.the-variants as tendency
+use Rattle.record.specs.declared.aerodrome.TrendChange.{TrendChange}
+use Rattle.record.specs.declared.aerodrome.Trend.{Trend}
 use Rattle.record.specs.declared.aerodrome.Metar.{Metar}
 use Rattle.record.specs.declared.aerodrome.Taf.{Taf}
 use Rattle.record.specs.Missing.{isMissing, noTenths, noDirection, noSpeed, noLetters}
@@ -158,13 +165,36 @@ isBlankBody b = isBlankWind (b .wind) && noView (b .visibility .is) && noWeather
 -- ---- METAR and SPECI
 
 -- nothing stands after the time
-unfoldable pub noObservation : Metar → Bool
+unfoldable pub noObservation : Observation → Bool
 noObservation r =
     not (r .automatic) && isBlankBody (r .body) && noExtremes (r .variation .is) && noRunways (r .runways)
     && noTemperatures (r .temperatures) && isMissing (r .qnh .is) && noWeathers (r .recents)
 
+unfoldable pub isBlankObservation : Observation → Bool
+isBlankObservation r = not (r .special) && not (r .corrected) && noStation (r .station) && noInstant (r .time) && not (r .nil) && noObservation r
+
+-- ---- the trend
+
+abbrev pub noHours : Hours → Bool
+noHours hours.None = true
+noHours (hours.From f) = false
+noHours (hours.Until u) = false
+noHours (hours.Between f u) = false
+noHours (hours.At t) = false
+
+abbrev pub noTendency : Tendency → Bool
+noTendency tendency.None = true
+noTendency tendency.Becoming = false
+noTendency tendency.Temporary = false
+
+abbrev pub isBlankTrendChange : TrendChange → Bool
+isBlankTrendChange c = noTendency (c .tendency) && noHours (c .times .is) && isBlankBody (c .body)
+
+abbrev pub noTrend : Trend → Bool
+noTrend t = not (t .nosig) && eqb (t .count) 0 && every isBlankTrendChange (t .items)
+
 unfoldable pub isBlankMetar : Metar → Bool
-isBlankMetar r = not (r .special) && not (r .corrected) && noStation (r .station) && noInstant (r .time) && not (r .nil) && noObservation r
+isBlankMetar r = isBlankObservation (r .observation) && noTrend (r .trend)
 
 -- ---- TAF
 

@@ -168,13 +168,13 @@ pub struct Body {
     pub wind: Wind,
     pub visibility: Visibility,
     pub weathers: Weathers,
-    // NSW, the sole weather, in a TAF's change groups alone
+    // NSW, the sole weather, in the changes of a TAF and of a trend alone
     pub nsw: bool,
     pub sky: Sky,
 }
 
-// A METAR, or a SPECI.
-pub struct Metar {
+// What a METAR or SPECI observes, its head included.
+pub struct Observation {
     pub special: bool,
     pub corrected: bool,
     pub station: Station,
@@ -187,6 +187,52 @@ pub struct Metar {
     pub temperatures: Temperatures,
     pub qnh: Qnh,
     pub recents: Weathers,
+}
+
+// A time of the day, GGgg.
+pub struct Moment {
+    pub hour: u32,
+    pub minute: u32,
+}
+
+// The times of a trend's change: FM, TL, AT, or FM and TL.
+pub enum Hours {
+    None,
+    From(Moment),
+    Until(Moment),
+    Between { from: Moment, until: Moment },
+    At(Moment),
+}
+
+pub struct Times {
+    pub is: Hours,
+}
+
+// What opens a trend's change: BECMG or TEMPO.
+pub enum Tendency {
+    None,
+    Becoming,
+    Temporary,
+}
+
+// One change of a trend.
+pub struct TrendChange {
+    pub tendency: Tendency,
+    pub times: Times,
+    pub body: Body,
+}
+
+// The trend of the next two hours: NOSIG, or up to three changes, the first `count`.
+pub struct Trend {
+    pub items: [TrendChange; 3],
+    pub count: usize,
+    pub nosig: bool,
+}
+
+// A METAR, or a SPECI.
+pub struct Metar {
+    pub observation: Observation,
+    pub trend: Trend,
 }
 
 // AMD or COR.

@@ -8,10 +8,12 @@ use crate::aerodrome::Correction;
 use crate::aerodrome::Course;
 use crate::aerodrome::Cover;
 use crate::aerodrome::Extremes;
+use crate::aerodrome::Hours;
 use crate::aerodrome::Instant;
 use crate::aerodrome::Layer;
 use crate::aerodrome::Leg;
 use crate::aerodrome::Metar;
+use crate::aerodrome::Observation;
 use crate::aerodrome::Opening;
 use crate::aerodrome::Period;
 use crate::aerodrome::Phenomena;
@@ -23,6 +25,10 @@ use crate::aerodrome::Sky;
 use crate::aerodrome::Station;
 use crate::aerodrome::Taf;
 use crate::aerodrome::Temperatures;
+use crate::aerodrome::Tendency;
+use crate::aerodrome::Times;
+use crate::aerodrome::Trend;
+use crate::aerodrome::TrendChange;
 use crate::aerodrome::Unit;
 use crate::aerodrome::Variation;
 use crate::aerodrome::View;
@@ -36,11 +42,13 @@ use crate::values::Speed;
 use crate::values::Tenths;
 ghost use mathlib.Core.Path.{_≡_};
 ghost use Rattle.record.specs.Body.{blankWind, blankWeathers, blankSky, blankBody};
-ghost use Rattle.record.specs.Metar.{blankRunways, blankMetar};
+ghost use Rattle.record.specs.Observation.{blankRunways, blankObservation};
+ghost use Rattle.record.specs.Trend.{blankTrendChange, blankTrend, blankMetar};
+ghost use Rattle.record.specs.Trend.{blankTrendChange, blankTrend, blankMetar};
 ghost use Rattle.record.specs.Taf.{blankInstant, blankPeriod, blankLeg, blankChange, blankTaf};
 
 pub fn blank_station() -> Station
-    ensures { λ r. ⌜ r ≡ blankMetar .station ⌝ }
+    ensures { λ r. ⌜ r ≡ blankObservation .station ⌝ }
 {
     let letters = [0u8; 4];
     Station { letters }
@@ -131,15 +139,15 @@ fn blank_body() -> Body
     }
 }
 
-pub fn blank_metar() -> Metar
-    ensures { λ r. ⌜ r ≡ blankMetar ⌝ }
+pub fn blank_observation() -> Observation
+    ensures { λ r. ⌜ r ≡ blankObservation ⌝ }
 {
     let station = blank_station();
     let time = blank_instant();
     let body = blank_body();
     let runways = blank_runways();
     let recents = blank_weathers();
-    Metar {
+    Observation {
         special: false,
         corrected: false,
         station,
@@ -160,6 +168,37 @@ pub fn blank_metar() -> Metar
         },
         recents,
     }
+}
+
+pub fn blank_trend_change() -> TrendChange
+    ensures { λ r. ⌜ r ≡ blankTrendChange ⌝ }
+{
+    let body = blank_body();
+    TrendChange {
+        tendency: Tendency::None,
+        times: Times { is: Hours::None },
+        body,
+    }
+}
+
+pub fn blank_trend() -> Trend
+    ensures { λ r. ⌜ r ≡ blankTrend ⌝ }
+{
+    let blank = blank_trend_change();
+    let items = [blank; 3];
+    Trend {
+        items,
+        count: 0,
+        nosig: false,
+    }
+}
+
+pub fn blank_metar() -> Metar
+    ensures { λ r. ⌜ r ≡ blankMetar ⌝ }
+{
+    let observation = blank_observation();
+    let trend = blank_trend();
+    Metar { observation, trend }
 }
 
 pub fn blank_leg() -> Leg

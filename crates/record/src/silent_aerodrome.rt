@@ -8,10 +8,12 @@ use crate::aerodrome::Correction;
 use crate::aerodrome::Course;
 use crate::aerodrome::Cover;
 use crate::aerodrome::Extremes;
+use crate::aerodrome::Hours;
 use crate::aerodrome::Instant;
 use crate::aerodrome::Layer;
 use crate::aerodrome::Leg;
 use crate::aerodrome::Metar;
+use crate::aerodrome::Observation;
 use crate::aerodrome::Opening;
 use crate::aerodrome::Period;
 use crate::aerodrome::Phenomena;
@@ -22,6 +24,9 @@ use crate::aerodrome::Sky;
 use crate::aerodrome::Station;
 use crate::aerodrome::Taf;
 use crate::aerodrome::Temperatures;
+use crate::aerodrome::Tendency;
+use crate::aerodrome::Trend;
+use crate::aerodrome::TrendChange;
 use crate::aerodrome::Unit;
 use crate::aerodrome::View;
 use crate::aerodrome::Weather;
@@ -33,7 +38,7 @@ ghost use lib.ListN.{drop};
 ghost use Rattle.figures.specs.Figures.{every};
 ghost use Rattle.record.specs.SilentAerodrome.{noUnit, isBlankWind, noExtremes, noView, noSide, noCourse, isBlankRunway, noRunways, noPhenomena, isBlankWeather, noWeathers};
 ghost use Rattle.record.specs.SilentAerodrome.{noAmount, noConvective, isBlankLayer, isLayers, noSky, noTemperatures, noStation, noInstant, noPeriod, noCorrection, noOpening};
-ghost use Rattle.record.specs.SilentAerodrome.{isBlankBody, isBlankChange, noChanges, noObservation, isBlankMetar, noHead, isBlankTaf};
+ghost use Rattle.record.specs.SilentAerodrome.{isBlankBody, isBlankChange, noChanges, noObservation, isBlankObservation, noHours, noTendency, isBlankTrendChange, noTrend, isBlankMetar, noHead, isBlankTaf};
 
 // ---- wind, visibility, runways
 
@@ -394,7 +399,7 @@ impl Changes {
     }
 }
 
-impl Metar {
+impl Observation {
     // Nothing stands after the time.
     pub fn has_no_observation(self) -> bool
         ensures { λ r. ⌜ r ≡ noObservation self ⌝ }
@@ -413,7 +418,7 @@ impl Metar {
     }
 
     pub fn is_blank(self) -> bool
-        ensures { λ r. ⌜ r ≡ isBlankMetar self ⌝ }
+        ensures { λ r. ⌜ r ≡ isBlankObservation self ⌝ }
     {
         let station = self.station;
         let time = self.time;
@@ -422,6 +427,79 @@ impl Metar {
         let nil = self.nil;
         let headed = !special & !corrected & station.is_blank() & time.is_blank();
         headed & !nil & self.has_no_observation()
+    }
+}
+
+impl Hours {
+    pub fn is_none(self) -> bool
+        ensures { λ r. ⌜ r ≡ noHours self ⌝ }
+    {
+        match self {
+            Hours::None => true,
+            Hours::From(_) => false,
+            Hours::Until(_) => false,
+            Hours::Between { from: _, until: _ } => false,
+            Hours::At(_) => false,
+        }
+    }
+}
+
+impl Tendency {
+    pub fn is_none(self) -> bool
+        ensures { λ r. ⌜ r ≡ noTendency self ⌝ }
+    {
+        match self {
+            Tendency::None => true,
+            Tendency::Becoming => false,
+            Tendency::Temporary => false,
+        }
+    }
+}
+
+impl TrendChange {
+    pub fn is_blank(self) -> bool
+        ensures { λ r. ⌜ r ≡ isBlankTrendChange self ⌝ }
+    {
+        let tendency = self.tendency;
+        let times = self.times;
+        let hours = times.is;
+        let body = self.body;
+        tendency.is_none() & hours.is_none() & body.is_blank()
+    }
+}
+
+impl Trend {
+    // The changes from number `from` on are blank.
+    pub fn is_blank_from(self, from: usize) -> bool
+        ensures { λ r. ⌜ r ≡ every isBlankTrendChange (drop from (self .items)) ⌝ }
+    {
+        let items = self.items;
+        let mut i = from;
+        while i < 3 {
+            let one = items[i];
+            if one.is_blank() {
+                i += 1;
+            } else {
+                return false;
+            }
+        }
+        true
+    }
+
+    pub fn is_blank(self) -> bool
+        ensures { λ r. ⌜ r ≡ noTrend self ⌝ }
+    {
+        !self.nosig & (self.count == 0) & self.is_blank_from(0)
+    }
+}
+
+impl Metar {
+    pub fn is_blank(self) -> bool
+        ensures { λ r. ⌜ r ≡ isBlankMetar self ⌝ }
+    {
+        let observation = self.observation;
+        let trend = self.trend;
+        observation.is_blank() & trend.is_blank()
     }
 }
 

@@ -15,6 +15,8 @@ use Rattle.record.specs.declared.aerodrome.Layer.{Layer}
 use Rattle.record.specs.declared.aerodrome.Sky.{Sky}
 use Rattle.record.specs.declared.aerodrome.Runway.{Runway}
 use Rattle.record.specs.declared.aerodrome.Body.{Body}
+use Rattle.record.specs.declared.aerodrome.TrendChange.{TrendChange}
+use Rattle.record.specs.declared.aerodrome.Trend.{Trend}
 use Rattle.record.specs.declared.aerodrome.Metar.{Metar}
 use Rattle.record.specs.declared.aerodrome.Change.{Change}
 use Rattle.record.specs.declared.aerodrome.Taf.{Taf}
@@ -23,12 +25,13 @@ use Rattle.elements.specs.Wind.{judgeWind, judgeVariation}
 use Rattle.elements.specs.Visibility.{judgeVisibility}
 use Rattle.elements.specs.Weather.{judgeWeather, judgeRecent, judgeEach, judgeWeathers}
 use Rattle.elements.specs.Sky.{classLayer, judgeLayers, judgeSky}
-use Rattle.elements.specs.Body.{judgeBody}
+use Rattle.elements.specs.Body.{Terms, judgeBody}
 use Rattle.aerodrome_groups.specs.Head.{judgeStation, judgeTime}
 use Rattle.aerodrome_groups.specs.Runway.{judgeEachRunway, judgeRunways}
 use Rattle.aerodrome_groups.specs.Temperatures.{judgeTemperatures, judgeQnh}
 use Rattle.synop_row.specs.declared.kinds.Needs.{Needs}
 use Rattle.synop.specs.Write as synop
+use Rattle.trend.specs.Write as trend
 use Rattle.metar.specs.Write as metar
 use Rattle.taf_row.specs.declared.kinds.Part.{Part}
 use Rattle.taf.specs.Write as taf
@@ -107,15 +110,32 @@ each-runway : (ws : List Runway) → Caused (judgeEachRunway ws)
 each-runway [] = fine
 each-runway (w ∷ ws) = let rest = each-runway ws in search made
 
+-- a trend's change, and a TAF's part: a body and what it needs
+body : (t : Terms) (b : Body) → Caused (judgeBody t b)
+unfolding judgeBody judgeWind judgeVisibility
+body t b = search (made, weathers, weather, sky) depth 8
+
+trend-change : (nosig : Bool) (c : TrendChange) → Caused (trend.judgeChange nosig c)
+unfolding trend.judgeChange
+trend-change nosig c = search (made, body)
+
+each-trend-change : (nosig : Bool) (cs : List TrendChange) → Caused (trend.judgeEach nosig cs)
+each-trend-change nosig [] = fine
+each-trend-change nosig (c ∷ cs) = in-turn (trend-change nosig c) (each-trend-change nosig cs)
+
+trend-causes : (t : Trend) → Caused (trend.judgeTrend t)
+unfolding trend.judgeTrend
+trend-causes t = search (made, each-trend-change)
+
 pub observed-causes : (r : Metar) → Caused (metar.judgeOf r)
 unfolding metar.judgeOf metar.judgeHead metar.judgeObservation judgeStation judgeTime judgeWind judgeVariation judgeVisibility judgeRunways judgeTemperatures judgeQnh
-observed-causes r = search (made, each-runway, weathers, weather, recent, sky) depth 14
+observed-causes r = search (made, each-runway, weathers, weather, recent, sky, trend-causes) depth 16
 
 -- ---- TAF
 
 part : (w : Part) (b : Body) → Caused (taf.judgePart w b)
-unfolding taf.judgePart judgeBody judgeWind judgeVisibility
-part w b = search (made, weathers, weather, sky) depth 8
+unfolding taf.judgePart
+part w b = search (made, body)
 
 change : (c : Change) → Caused (taf.judgeChange c)
 unfolding taf.judgeChange

@@ -41,6 +41,10 @@ use Rattle.aerodrome_groups.specs.Head as head
 use Rattle.aerodrome_groups.specs.Runway as runway
 use Rattle.aerodrome_groups.specs.Temperatures as temperatures
 use Rattle.metar_row.specs.Row as metar-row
+use Rattle.trend_row.specs.Times as trend-times
+use Rattle.trend_row.specs.Row as trend-row
+use Rattle.trend.specs.Read as trend-read
+use Rattle.trend.specs.Write as trend-write
 use Rattle.metar.specs.Read as metar-read
 use Rattle.metar.specs.Write as metar-write
 use Rattle.taf_row.specs.Row as taf-row
@@ -82,7 +86,11 @@ examples =
     ∷ refuses "METAR LEMD 011200Z 27010KT CAVOK //" 7 33
     ∷ refuses "METAR LEMD 011200Z 27010KT 9999 SKC SKC" 7 36
     ∷ reads "METAR LEMD 011200Z 27010KT CAVOK R24/0500 R24/0500 15/10 Q1013" "METAR LEMD 011200Z 27010KT CAVOK R24/0500 R24/0500 15/10 Q1013="
-    ∷ reads "METAR LEMD 011200Z 27010KT 9999 FEW///CB 15/10 Q1013 NOSIG" "METAR LEMD 011200Z 27010KT 9999 FEW///CB 15/10 Q1013="
+    ∷ reads "METAR LEMD 011200Z 27010KT 9999 FEW///CB 15/10 Q1013 NOSIG" "METAR LEMD 011200Z 27010KT 9999 FEW///CB 15/10 Q1013 NOSIG="
+    ∷ reads "METAR LEMD 011200Z 27010KT 9999 15/10 Q1013 TEMPO FM2300 TL0100 RA" "METAR LEMD 011200Z 27010KT 9999 15/10 Q1013 TEMPO FM2300 TL0100 RA="
+    ∷ refuses "METAR LEMD 011200Z 27010KT 9999 15/10 Q1013 TEMPO RA TEMPO RA TEMPO RA BECMG" 9 71
+    ∷ refuses "METAR LEMD 011200Z 27010KT 9999 15/10 Q1013 NOSIG BECMG" 7 50
+    ∷ refuses "METAR LEMD 011200Z 27010KT 9999 15/10 Q1013 TEMPO TL1200 FM1100 RA" 6 57
     ∷ refuses "METAR NOSIG" 8 6
     ∷ reads "TAF LEMD 011100Z 0112/0212 27010KT 9999 RA RA RA BECMG 0112/0114 RA RA RA" "TAF LEMD 011100Z 0112/0212 27010KT 9999 RA RA RA BECMG 0112/0114 RA RA RA="
     ∷ reads "TAF LEMD 011100Z 0212/0100 27010KT 9999 FM310000 27010KT 9999" "TAF LEMD 011100Z 0212/0100 27010KT 9999 FM310000 27010KT 9999="
@@ -113,7 +121,7 @@ unfolding figures.figures figures.scan figures.fieldAt figures.numberText figure
     rounded.rainFigure rounded.rainReading rounded.directionFigure rounded.directionReading rounded.pressureFigure rounded.pressureReading
     scale.classIn scale.readIn scale.run
     silent-surface.noSurface silent-surface.isBlankSynop
-    silent-aerodrome.isBlankBody silent-aerodrome.noObservation silent-aerodrome.isBlankMetar silent-aerodrome.isBlankTaf
+    silent-aerodrome.isBlankBody silent-aerodrome.noObservation silent-aerodrome.isBlankObservation silent-aerodrome.isBlankMetar silent-aerodrome.isBlankTaf
     surface-judge.judgeTime surface-judge.judgeStation surface-judge.judgeSign surface-judge.judgePosition surface-judge.judgeIndicators surface-judge.judgeWind surface-judge.judgeAir surface-judge.judgeMoisture surface-judge.judgePressure surface-judge.judgeLevel surface-judge.judgeTendency surface-judge.judgeRainfall surface-judge.judgeWeather surface-judge.judgeClouds surface-judge.judgeClock
     surface-reads.timeOf surface-reads.saidTime surface-reads.saidStation surface-reads.latitudeIs surface-reads.saidLatitude surface-reads.positionOf surface-reads.saidLongitude surface-reads.indicatorsOf surface-reads.saidIndicators surface-reads.windBy surface-reads.saidWind surface-reads.speedIs surface-reads.saidSpeed surface-reads.airIs surface-reads.saidAir surface-reads.moistureIs surface-reads.saidMoisture surface-reads.saidPressure surface-reads.levelIs surface-reads.saidLevel surface-reads.tendencyIs surface-reads.saidTendency surface-reads.saidRainfall surface-reads.saidWeather surface-reads.saidClouds surface-reads.clockIs surface-reads.saidClock
     surface-shows.showTime surface-shows.showStation surface-shows.showSign surface-shows.showLatitude surface-shows.showLongitude surface-shows.showIndicators surface-shows.showWind surface-shows.showSpeed surface-shows.showAir surface-shows.showMoisture surface-shows.showPressure surface-shows.showLevel surface-shows.showTendency surface-shows.showRainfall surface-shows.weatherText surface-shows.showWeather surface-shows.cloudsText surface-shows.showClouds surface-shows.showClock
@@ -129,9 +137,13 @@ unfolding figures.figures figures.scan figures.fieldAt figures.numberText figure
     head.stationOf head.readTime head.showTime head.judgeStation head.judgeTime
     runway.readRunway runway.showRunway runway.showRunways runway.judgeRunways
     temperatures.readTemperatures temperatures.readQnh temperatures.showTemperatures temperatures.showQnh temperatures.judgeTemperatures temperatures.judgeQnh
-    metar-row.row metar-row.stopWords
+    metar-row.row metar-row.isKnown metar-row.words
+    trend-times.readMoment trend-times.readFrom trend-times.readUntil trend-times.readAt trend-times.hoursFit
+    trend-row.row
+    trend-read.comesTo
+    trend-write.judgeChange trend-write.judgeTrend trend-write.showChange trend-write.showTrend
     metar-read.groupsRead
-    metar-write.judgeHead metar-write.judgeObservation metar-write.judgeOf metar-write.canonicalOf
+    metar-write.judgeHead metar-write.judgeObservation metar-write.judgeOf metar-write.groupsOf metar-write.canonicalOf
     taf-row.readPeriod taf-row.showPeriod taf-row.row taf-row.changeWords
     taf-read.openedBy taf-read.groupsRead
     taf-write.judgePart taf-write.judgeChange taf-write.judgeChanges taf-write.foreignBlank taf-write.judgeOf taf-write.showChange taf-write.groupsOf taf-write.canonicalOf

@@ -36,12 +36,18 @@ use Rattle.record.specs.declared.aerodrome.Cover.{Cover}
 use Rattle.record.specs.declared.aerodrome.Cover.the-variants as cover
 use Rattle.record.specs.declared.aerodrome.Sky.{Sky}
 use Rattle.record.specs.declared.aerodrome.Change.{Change}
+use Rattle.record.specs.declared.aerodrome.Body.{Body}
+use Rattle.record.specs.declared.aerodrome.Observation.{Observation}
+use Rattle.record.specs.declared.aerodrome.TrendChange.{TrendChange}
 use Rattle.record.specs.declared.aerodrome.Metar.{Metar}
 use Rattle.record.specs.declared.aerodrome.Taf.{Taf}
 use Rattle.record.specs.Classes as classes
 use Rattle.synop_groups.specs.Classes.{classBase, classSight, classFall}
 use Rattle.elements.specs.Visibility.{classView}
 use Rattle.elements.specs.Sky.{classLayer, classCover, classSky}
+use Rattle.elements.specs.Body.{classBody}
+use Rattle.trend_row.specs.Row as trend-row
+use Rattle.trend.specs.Write as trend
 use Rattle.aerodrome_groups.specs.Runway.{classRunway}
 use Rattle.aerodrome_groups.specs.Temperatures.{classTenths, classPressure}
 use Rattle.taf_row.specs.Row.{row}
@@ -137,26 +143,41 @@ verticalOf (cover.Vertical h) = h
 abbrev pub skyHeights : Sky → List Number
 skyHeights s = verticalOf (s .cover) ∷ map (λ (l : Layer). l .height) (s .layers)
 
-abbrev pub observedNumbers : Table → Metar → List Number
-observedNumbers land r = []
-observedNumbers sea r = []
-observedNumbers base r = []
-observedNumbers visibility r = viewMetres (r .body .visibility .is) ∷ []
-observedNumbers runway r = map (λ (w : Runway). w .range) (r .runways .items)
-observedNumbers cloud r = skyHeights (r .body .sky)
+-- of a body: its visibility, its heights
+abbrev pub bodyNumbers : Table → Body → List Number
+bodyNumbers land b = []
+bodyNumbers sea b = []
+bodyNumbers base b = []
+bodyNumbers visibility b = viewMetres (b .visibility .is) ∷ []
+bodyNumbers runway b = []
+bodyNumbers cloud b = skyHeights (b .sky)
 
--- each change's heights, one change after the other
-abbrev pub changesHeights : List Change → List Number
-changesHeights [] = []
-changesHeights (c ∷ cs) = skyHeights (c .body .sky) ++ changesHeights cs
+-- of one body after the other
+abbrev pub bodiesNumbers : Table → List Body → List Number
+bodiesNumbers t [] = []
+bodiesNumbers t (b ∷ bs) = bodyNumbers t b ++ bodiesNumbers t bs
+
+abbrev pub runwayNumbers : Table → Observation → List Number
+runwayNumbers land o = []
+runwayNumbers sea o = []
+runwayNumbers base o = []
+runwayNumbers visibility o = []
+runwayNumbers runway o = map (λ (w : Runway). w .range) (o .runways .items)
+runwayNumbers cloud o = []
+
+-- the observation's body, then those of the trend's changes
+abbrev pub observedBodies : Metar → List Body
+observedBodies r = r .observation .body ∷ map (λ (c : TrendChange). c .body) (r .trend .items)
+
+abbrev pub observedNumbers : Table → Metar → List Number
+observedNumbers t r = runwayNumbers t (r .observation) ++ bodiesNumbers t (observedBodies r)
+
+-- the main part's body, then those of the changes
+abbrev pub forecastBodies : Taf → List Body
+forecastBodies t = t .leg .body ∷ map (λ (c : Change). c .body) (t .changes .items)
 
 abbrev pub forecastNumbers : Table → Taf → List Number
-forecastNumbers land t = []
-forecastNumbers sea t = []
-forecastNumbers base t = []
-forecastNumbers visibility t = viewMetres (t .leg .body .visibility .is) ∷ map (λ (c : Change). viewMetres (c .body .visibility .is)) (t .changes .items)
-forecastNumbers runway t = []
-forecastNumbers cloud t = skyHeights (t .leg .body .sky) ++ changesHeights (t .changes .items)
+forecastNumbers t r = bodiesNumbers t (forecastBodies r)
 
 abbrev pub numbersBy : Kind → Table → Report → List Number
 numbersBy kind.Missing t r = []
@@ -171,7 +192,7 @@ numbersOf t r = numbersBy (r .kind) t r
 abbrev pub temperaturesBy : Kind → Report → List Tenths
 temperaturesBy kind.Missing r = []
 temperaturesBy kind.Surface r = []
-temperaturesBy kind.Observed r = r .observed .temperatures .air ∷ r .observed .temperatures .dew ∷ []
+temperaturesBy kind.Observed r = r .observed .observation .temperatures .air ∷ r .observed .observation .temperatures .dew ∷ []
 temperaturesBy kind.Forecast r = []
 
 abbrev pub temperaturesOf : Report → List Tenths
@@ -180,7 +201,7 @@ temperaturesOf r = temperaturesBy (r .kind) r
 abbrev pub pressuresBy : Kind → Report → List Number
 pressuresBy kind.Missing r = []
 pressuresBy kind.Surface r = []
-pressuresBy kind.Observed r = r .observed .qnh .is ∷ []
+pressuresBy kind.Observed r = r .observed .observation .qnh .is ∷ []
 pressuresBy kind.Forecast r = []
 
 abbrev pub pressuresOf : Report → List Number
@@ -235,20 +256,25 @@ sky-is : (s : Sky) → skyHeights (classSky s) ≡ map (classOn cloud) (skyHeigh
 sky-is s =
     rw (vertical-is (s .cover), map-square (λ (l : Layer). l .height) classLayer (classOn cloud) (λ l. refl) (s .layers))
 
-change-view : (c : Change) → viewMetres (classChange c .body .visibility .is) ≡ classOn visibility (viewMetres (c .body .visibility .is))
-unfolding classChange row
-change-view c = view-is (c .body .visibility .is)
+body-is : (t : Table) (b : Body) → bodyNumbers t (classBody b) ≡ map (classOn t) (bodyNumbers t b)
+body-is land b = refl
+body-is sea b = refl
+body-is base b = refl
+body-is visibility b = rw (view-is (b .visibility .is))
+body-is runway b = refl
+body-is cloud b = sky-is (b .sky)
 
-change-sky : (c : Change) → skyHeights (classChange c .body .sky) ≡ map (classOn cloud) (skyHeights (c .body .sky))
-unfolding classChange row
-change-sky c = sky-is (c .body .sky)
+bodies-is : (t : Table) (bs : List Body) → bodiesNumbers t (map classBody bs) ≡ map (classOn t) (bodiesNumbers t bs)
+bodies-is t [] = refl
+bodies-is t (b ∷ bs) = rw (body-is t b, bodies-is t bs) (sym (map-append (classOn t) (bodyNumbers t b) (bodiesNumbers t bs)))
 
-changes-is : (cs : List Change) → changesHeights (map classChange cs) ≡ map (classOn cloud) (changesHeights cs)
-changes-is [] = refl
-changes-is (c ∷ cs) =
-    ap (λ (l : List Number). l ++ changesHeights (map classChange cs)) (change-sky c)
-    ∙ ap (λ (l : List Number). map (classOn cloud) (skyHeights (c .body .sky)) ++ l) (changes-is cs)
-    ∙ sym (map-append (classOn cloud) (skyHeights (c .body .sky)) (changesHeights cs))
+runway-is : (t : Table) (o q : Observation) → q .runways .items ≡ map classRunway (o .runways .items) → runwayNumbers t q ≡ map (classOn t) (runwayNumbers t o)
+runway-is land o q e = refl
+runway-is sea o q e = refl
+runway-is base o q e = refl
+runway-is visibility o q e = refl
+runway-is runway o q e = rw (e, map-square (λ (w : Runway). w .range) classRunway (classOn runway) (λ w. refl) (o .runways .items))
+runway-is cloud o q e = refl
 
 pub surface-numbers : (t : Table) (s q : Surface) → q .indicators .sight ≡ classSight (s .indicators .sight) → q .indicators .base ≡ classBase (s .indicators .base)
     → surfaceNumbers t q ≡ map (classOn t) (surfaceNumbers t s)
@@ -259,30 +285,29 @@ surface-numbers visibility s q e f = refl
 surface-numbers runway s q e f = refl
 surface-numbers cloud s q e f = refl
 
-pub observed-numbers : (t : Table) (r q : Metar) → q .body .visibility .is ≡ classView (r .body .visibility .is) → q .runways .items ≡ map classRunway (r .runways .items)
-    → q .body .sky ≡ classSky (r .body .sky) → observedNumbers t q ≡ map (classOn t) (observedNumbers t r)
-observed-numbers land r q e f g = refl
-observed-numbers sea r q e f g = refl
-observed-numbers base r q e f g = refl
-observed-numbers visibility r q e f g = rw (e, view-is (r .body .visibility .is))
-observed-numbers runway r q e f g =
-    rw (f, map-square (λ (w : Runway). w .range) classRunway (classOn runway) (λ w. refl) (r .runways .items))
-observed-numbers cloud r q e f g = rw (g, sky-is (r .body .sky))
+-- a body and those of the changes, each read back as its class
+with-changes : {A : Type 0} (of : A → Body) (f : A → A) → ((x : A) → of (f x) ≡ classBody (of x)) → (b c : Body) (xs ys : List A) → c ≡ classBody b → ys ≡ map f xs
+    → c ∷ map of ys ≡ map classBody (b ∷ map of xs)
+with-changes of f e b c xs ys first rest =
+    ap (λ (d : Body). d ∷ map of ys) first ∙ ap (λ (l : List Body). classBody b ∷ l) (ap (map of) rest ∙ map-square of f classBody e xs)
 
-pub forecast-numbers : (t : Table) (r q : Taf) → q .leg .body .visibility .is ≡ classView (r .leg .body .visibility .is) → q .leg .body .sky ≡ classSky (r .leg .body .sky)
-    → q .changes .items ≡ map classChange (r .changes .items) → forecastNumbers t q ≡ map (classOn t) (forecastNumbers t r)
-forecast-numbers land r q e f g = refl
-forecast-numbers sea r q e f g = refl
-forecast-numbers base r q e f g = refl
-forecast-numbers visibility r q e f g =
-    rw (e, g, view-is (r .leg .body .visibility .is), map-square (λ (c : Change). viewMetres (c .body .visibility .is)) classChange (classOn visibility) change-view (r .changes .items))
-forecast-numbers runway r q e f g = refl
-forecast-numbers cloud r q e f g =
-    ap (λ (y : Sky). skyHeights y ++ changesHeights (q .changes .items)) f
-    ∙ ap (λ (cs : List Change). skyHeights (classSky (r .leg .body .sky)) ++ changesHeights cs) g
-    ∙ ap (λ (l : List Number). l ++ changesHeights (map classChange (r .changes .items))) (sky-is (r .leg .body .sky))
-    ∙ ap (λ (l : List Number). map (classOn cloud) (skyHeights (r .leg .body .sky)) ++ l) (changes-is (r .changes .items))
-    ∙ sym (map-append (classOn cloud) (skyHeights (r .leg .body .sky)) (changesHeights (r .changes .items)))
+pub observed-numbers : (t : Table) (r q : Metar) → q .observation .runways .items ≡ map classRunway (r .observation .runways .items)
+    → q .observation .body ≡ classBody (r .observation .body) → q .trend .items ≡ map trend.classChange (r .trend .items)
+    → observedNumbers t q ≡ map (classOn t) (observedNumbers t r)
+unfolding trend.classChange trend-row.row
+observed-numbers t r q e f g =
+    let runways = runwayNumbers t (r .observation) in
+    let bodies = with-changes (λ (c : TrendChange). c .body) trend.classChange (λ c. refl) (r .observation .body) (q .observation .body) (r .trend .items) (q .trend .items) f g in
+    ap (λ (l : List Number). l ++ bodiesNumbers t (observedBodies q)) (runway-is t (r .observation) (q .observation) e)
+    ∙ ap (λ (l : List Number). map (classOn t) runways ++ l) (ap (bodiesNumbers t) bodies ∙ bodies-is t (observedBodies r))
+    ∙ sym (map-append (classOn t) runways (bodiesNumbers t (observedBodies r)))
+
+pub forecast-numbers : (t : Table) (r q : Taf) → q .leg .body ≡ classBody (r .leg .body) → q .changes .items ≡ map classChange (r .changes .items)
+    → forecastNumbers t q ≡ map (classOn t) (forecastNumbers t r)
+unfolding classChange row
+forecast-numbers t r q f g =
+    ap (bodiesNumbers t) (with-changes (λ (c : Change). c .body) classChange (λ c. refl) (r .leg .body) (q .leg .body) (r .changes .items) (q .changes .items) f g)
+    ∙ bodies-is t (forecastBodies r)
 
 pub amount-is : (f : Fall) → amountOf (classFall f) ≡ map roundedRain (amountOf f)
 amount-is fall.Missing = refl

@@ -19,7 +19,8 @@ use Rattle.text.specs.Bytes.{lead}
 use Rattle.text.specs.Groups.{Piece, groupsIn, groupsFrom, join, spaced, parted}
 use Rattle.record.specs.declared.values.Number.the-variants as number
 use Rattle.record.specs.declared.aerodrome.Metar.{Metar}
-use Rattle.record.specs.Metar.{setStation, setTime, setNil, blankMetar}
+use Rattle.record.specs.Observation.{setStation, setTime, setNil, blankObservation}
+use Rattle.record.specs.Trend.{blankTrend}
 use Rattle.record.specs.SilentAerodrome.{isBlankBody, noObservation}
 use Rattle.elements.specs.Wind.{showWind, showVariation}
 use Rattle.elements.specs.Visibility.{showVisibility}
@@ -29,6 +30,9 @@ use Rattle.aerodrome_groups.specs.Runway.{showRunways}
 use Rattle.aerodrome_groups.specs.Temperatures.{showTemperatures, showQnh}
 use Rattle.aerodrome_groups.specs.Head.{showTime, judgeStation, judgeTime}
 use Rattle.metar_row.specs.Row.{row}
+use Rattle.trend.specs.Write.{showTrend}
+use Rattle.record.specs.Body.{blankBody}
+use Rattle.record.specs.Arrays.{BodyArrays, MetarArrays}
 use Rattle.metar.specs.Write as metar
 use Rattle.report_record.specs.declared.kinds.Report.{Report}
 use Rattle.report_record.specs.declared.kinds.Reading.{Reading}
@@ -42,8 +46,12 @@ use Rattle.report_laws.proofs.RoundTrip.{Fair, observed, fair-fine, com
 
 nilOf : List ℕ → Metar
 nilOf letters =
-    setNil true
-    (setTime (record { day = number.Is 1; hour = number.Is 12; minute = number.Is 0 }) (setStation (record { letters = letters }) blankMetar))
+    record {
+      observation =
+          setNil true
+          (setTime (record { day = number.Is 1; hour = number.Is 12; minute = number.Is 0 }) (setStation (record { letters = letters }) blankObservation));
+      trend = blankTrend;
+    }
 
 abbrev one : Report
 one = observedReport (nilOf (bytes "LEMD"))
@@ -57,20 +65,26 @@ oneText = bytes "METAR LEMD 011200Z NIL="
 abbrev otherText : List ℕ
 otherText = bytes "METAR LEMG 011200Z NIL="
 
+silent : (letters : List ℕ) → length letters ≡ 4 → MetarArrays (nilOf letters)
+unfolding nilOf
+silent letters four =
+    let none : BodyArrays blankBody = record { weathers = refl; layers = refl } in
+    record { observation = record { letters = four; body = none; runways = refl; recents = refl }; trend = refl; each = (none, (none, (none, tt))) }
+
 fair-one : Fair one
 unfolding nilOf metar.judgeOf isBlankBody noObservation metar.judgeHead judgeStation judgeTime
-fair-one = observed (nilOf (bytes "LEMD")) (record { letters = refl; body = record { weathers = refl; layers = refl }; runways = refl; recents = refl }) refl
+fair-one = observed (nilOf (bytes "LEMD")) (silent (bytes "LEMD") refl) refl
 
 fair-other : Fair other
 unfolding nilOf metar.judgeOf isBlankBody noObservation metar.judgeHead judgeStation judgeTime
-fair-other = observed (nilOf (bytes "LEMG")) (record { letters = refl; body = record { weathers = refl; layers = refl }; runways = refl; recents = refl }) refl
+fair-other = observed (nilOf (bytes "LEMG")) (silent (bytes "LEMG") refl) refl
 
 text-one : canonicalOf one ≡ oneText
-unfolding nilOf canonicalOf metar.canonicalOf row join spaced parted showTime showWind showVariation showVisibility showRunways showWeathers showSky showTemperatures showQnh showRecents numberText figures fieldText
+unfolding nilOf canonicalOf metar.canonicalOf metar.groupsOf showTrend row join spaced parted showTime showWind showVariation showVisibility showRunways showWeathers showSky showTemperatures showQnh showRecents numberText figures fieldText
 text-one = refl
 
 text-other : canonicalOf other ≡ otherText
-unfolding nilOf canonicalOf metar.canonicalOf row join spaced parted showTime showWind showVariation showVisibility showRunways showWeathers showSky showTemperatures showQnh showRecents numberText figures fieldText
+unfolding nilOf canonicalOf metar.canonicalOf metar.groupsOf showTrend row join spaced parted showTime showWind showVariation showVisibility showRunways showWeathers showSky showTemperatures showQnh showRecents numberText figures fieldText
 text-other = refl
 
 -- what they are read as, and what is written of them
@@ -81,8 +95,8 @@ read-other : readOf otherText ≡ accepted 23 (classedOf other)
 read-other = rw text-other at (comes-back fair-other)
 
 apart : classedOf one ≡ classedOf other → ⊥
-unfolding nilOf classedOf metar.classedOf row
-apart e = let d : _≡_ {A = ℕ} 68 71 = ap (λ (r : Report). getD (r .observed .station .letters) 3 0) e in omega arith
+unfolding nilOf classedOf metar.classedOf metar.classObservation row
+apart e = let d : _≡_ {A = ℕ} 68 71 = ap (λ (r : Report). getD (r .observed .observation .station .letters) 3 0) e in omega arith
 
 same-first : take 1 (groupsFrom oneText 0) ≡ take 1 (groupsFrom otherText 0)
 unfolding groupsFrom groupsIn lead

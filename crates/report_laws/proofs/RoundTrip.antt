@@ -21,7 +21,7 @@ use Rattle.record.specs.declared.surface.Synop.{Synop}
 use Rattle.record.specs.declared.aerodrome.Metar.{Metar}
 use Rattle.record.specs.declared.aerodrome.Taf.{Taf}
 use Rattle.record.specs.Blank.{blankSynop}
-use Rattle.record.specs.Metar.{blankMetar}
+use Rattle.record.specs.Trend.{blankMetar}
 use Rattle.record.specs.Taf.{blankTaf}
 use Rattle.aerodrome_groups.specs.Temperatures.{classTenths, classPressure}
 use Rattle.metar_row.specs.Row as observed-row
@@ -41,7 +41,7 @@ use Rattle.report_record.specs.declared.kinds.Report.{Report}
 use Rattle.report_record.specs.Record.{surfaceReport, observedReport, forecastReport, accepted}
 use Rattle.record.specs.Arrays.{MetarArrays, TafArrays}
 use Rattle.record.specs.SilentSurface.{noSurface, isBlankSynop}
-use Rattle.record.specs.SilentAerodrome.{isBlankBody, noObservation, isBlankMetar, isBlankTaf}
+use Rattle.record.specs.SilentAerodrome.{isBlankBody, noObservation, isBlankObservation, isBlankMetar, isBlankTaf}
 use Rattle.record.proofs.SurfaceBlanks.{synop-blank}
 use Rattle.record.proofs.AerodromeBlanks.{metar-blank, taf-blank}
 use Rattle.report.specs.Read.{readOf}
@@ -121,12 +121,12 @@ module _ (s : Synop) (nine : length (s .site .sign .letters) ≡ 9) (e : synop.j
   surface-text = let n = surface-named in record { ship = s .ship; named = n; comes = rw (n .groups) at (synop-text.read-canonical s nine e) }
 
 module _ (m : Metar) (arrays : MetarArrays m) (e : metar.judgeOf m ≡ judged.Fine) where
-  observed-named : Named (metar.canonicalOf m) (observedWord (m .special))
-  unfolding metar.canonicalOf observed-row.row
-  observed-named = joined _ _ _ (observed-word (m .special)) (metar-text.groups-sizes m arrays e) (omega (arith, metar-text.length-canonical m arrays e))
+  observed-named : Named (metar.canonicalOf m) (observedWord (m .observation .special))
+  unfolding metar.canonicalOf metar.groupsOf observed-row.row
+  observed-named = joined _ _ _ (observed-word (m .observation .special)) (metar-text.groups-sizes m arrays e) (omega (arith, metar-text.length-canonical m arrays e))
 
   observed-text : ObservedText (metar.canonicalOf m) (Done (length (metar.canonicalOf m)) (metar.classedOf m))
-  observed-text = record { special = m .special; named = observed-named; comes = metar-text.read-canonical m arrays e }
+  observed-text = record { special = m .observation .special; named = observed-named; comes = metar-text.read-canonical m arrays e }
 
 module _ (t : Taf) (arrays : TafArrays t) (e : taf.judgeOf t ≡ judged.Fine) where
   forecast-named : Named (taf.canonicalOf t) forecastWord
@@ -145,7 +145,7 @@ comes-back (forecast t arrays e) = read-forecast (forecast-text t arrays e)
 -- ---- and written again
 
 blank-metar : isBlankMetar blankMetar ≡ true
-unfolding isBlankMetar noObservation isBlankBody
+unfolding isBlankMetar isBlankObservation noObservation isBlankBody
 blank-metar = refl
 
 blank-taf : isBlankTaf blankTaf ≡ true
@@ -190,19 +190,19 @@ kept (forecast t arrays e) = forecast-kept (taf-promise.promise t arrays e .1)
 -- ---- each rounded number is the reading of its class
 
 pub numbers-back : (t : Table) {r : Report} → Fair r → numbersOf t (classedOf r) ≡ map (classOn t) (numbersOf t r)
-unfolding classedOf synop.classedOf metar.classedOf taf.classedOf observed-row.row forecast-row.row
+unfolding classedOf synop.classedOf metar.classedOf metar.classObservation taf.classedOf observed-row.row forecast-row.row
 numbers-back t (surface s nine e) = surface-numbers t (s .surface) (synop.classedOf s .surface) refl refl
-numbers-back t (observed m arrays e) = observed-numbers t m (metar.classedOf m) refl refl refl
-numbers-back t (forecast f arrays e) = forecast-numbers t f (taf.classedOf f) refl refl (taf-promise.items-classed f arrays e)
+numbers-back t (observed m arrays e) = observed-numbers t m (metar.classedOf m) refl refl (metar-promise.items-classed m arrays e)
+numbers-back t (forecast f arrays e) = forecast-numbers t f (taf.classedOf f) refl (taf-promise.items-classed f arrays e)
 
 pub temperatures-back : {r : Report} → Fair r → temperaturesOf (classedOf r) ≡ map classTenths (temperaturesOf r)
-unfolding classedOf metar.classedOf observed-row.row
+unfolding classedOf metar.classedOf metar.classObservation observed-row.row
 temperatures-back (surface s nine e) = refl
 temperatures-back (observed m arrays e) = refl
 temperatures-back (forecast f arrays e) = refl
 
 pub pressures-back : {r : Report} → Fair r → pressuresOf (classedOf r) ≡ map classPressure (pressuresOf r)
-unfolding classedOf metar.classedOf observed-row.row
+unfolding classedOf metar.classedOf metar.classObservation observed-row.row
 pressures-back (surface s nine e) = refl
 pressures-back (observed m arrays e) = refl
 pressures-back (forecast f arrays e) = refl

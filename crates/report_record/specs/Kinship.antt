@@ -11,6 +11,7 @@ use Rattle.record.specs.declared.aerodrome.Correction.{Correction}
 use Rattle.record.specs.declared.aerodrome.Correction.the-variants as correction
 use Rattle.record.specs.declared.aerodrome.Instant.{Instant}
 use Rattle.record.specs.declared.aerodrome.Station.{Station}
+use Rattle.record.specs.declared.aerodrome.Observation.{Observation}
 use Rattle.record.specs.declared.aerodrome.Metar.{Metar}
 use Rattle.record.specs.declared.aerodrome.Taf.{Taf}
 use Rattle.report_record.specs.declared.kinds.Kind.{Kind}
@@ -46,9 +47,12 @@ isCorrected correction.Amended = false
 isCorrected correction.Corrected = true
 
 -- "carries COR and has the same kind, CCCC and time": METAR for METAR, SPECI for SPECI, TAF for TAF
-abbrev pub metarCorrects : Metar → Metar → Bool
-metarCorrects first second =
+abbrev pub observationCorrects : Observation → Observation → Bool
+observationCorrects first second =
     second .corrected && alike (first .special) (second .special) && sameStation (first .station) (second .station) && sameInstant (first .time) (second .time)
+
+abbrev pub metarCorrects : Metar → Metar → Bool
+metarCorrects first second = observationCorrects (first .observation) (second .observation)
 
 abbrev pub tafCorrects : Taf → Taf → Bool
 tafCorrects first second =

@@ -10,7 +10,7 @@ use Rattle.record.specs.declared.surface.Synop.{Synop}
 use Rattle.record.specs.declared.aerodrome.Metar.{Metar}
 use Rattle.record.specs.declared.aerodrome.Taf.{Taf}
 use Rattle.record.specs.Blank.{blankSynop}
-use Rattle.record.specs.Metar.{blankMetar}
+use Rattle.record.specs.Trend.{blankMetar}
 use Rattle.record.specs.Taf.{blankTaf}
 use Rattle.report_record.specs.declared.kinds.Kind.{Kind}
 use Rattle.report_record.specs.declared.kinds.Kind.the-variants as kind

@@ -70,10 +70,12 @@ fn is_alike(a: bool, b: bool) -> bool
 fn metar_corrects(first: Metar, second: Metar) -> bool
     ensures { λ r. ⌜ r ≡ metarCorrects first second ⌝ }
 {
-    second.corrected
-        & is_alike(first.special, second.special)
-        & same_station(first.station, second.station)
-        & same_instant(first.time, second.time)
+    let before = first.observation;
+    let after = second.observation;
+    after.corrected
+        & is_alike(before.special, after.special)
+        & same_station(before.station, after.station)
+        & same_instant(before.time, after.time)
 }
 
 fn taf_corrects(first: Taf, second: Taf) -> bool

@@ -62,6 +62,7 @@ module _ (ks : List ℕ) (correction : T (not (hasKey ks 2))) (station : T (not 
   others k g (said.Recent x) told r = refl
   others k g said.Nothing told r = refl
   others k g (said.Refused f) told r = refl
+  others k g (said.Times x) told r = refl
 
 -- what a group of the body says
 by-same : (F : Body → Type 0) {b d : Body} → d ≡ b → F b → F d

@@ -42,6 +42,7 @@ partSaid k g (said.Qnh x) r = ontoBody k (said.Qnh x) r
 partSaid k g (said.Recent x) r = ontoBody k (said.Recent x) r
 partSaid k g said.Nothing r = ontoBody k said.Nothing r
 partSaid k g (said.Refused f) r = ontoBody k (said.Refused f) r
+partSaid k g (said.Times x) r = ontoBody k (said.Times x) r
 
 -- A group at place i of a part's row says this: put into any part with this body it is what the place reads.
 abbrev pub Says : Part → ℕ → ℕ → Group → Body → Said → Type 0

@@ -35,25 +35,12 @@ use Rattle.taf.specs.Write.{periodFits, openingFits, legOf, judgeChange, judgeE
 use Rattle.record.specs.SilentAerodrome.{noInstant, isBlankChange, noChanges}
 use Rattle.figures.specs.Figures.{every}
 use Rattle.record.specs.Arrays.{BodyArrays, EachArrays, TafArrays}
+use Rattle.record.proofs.Counted.{each-take, blank-past}
 use Rattle.record.proofs.AerodromeBlanks.{change-blank}
 use Rattle.taf_laws.proofs.Periods.{chance-shaped, from-shaped}
 use Rattle.taf_laws.proofs.Parts.{FairChange, fair-change, Fair, foreign-over, sizes, kept-change}
 
 -- ---- what is judged fine of them
-
-each-take : (n : ℕ) (cs : List Change) → EachArrays cs → EachArrays (take n cs)
-each-take zero cs a = tt
-each-take (suc n) [] a = tt
-each-take (suc n) (c ∷ cs) a = (a .0, each-take n cs (a .1))
-
--- where the count ends the changes are blank
-blank-past : (n : ℕ) (cs : List Change) → EachArrays cs → every isBlankChange (drop n cs) ≡ true → drop n (replicate (length cs) blankChange) ≡ drop n cs
-blank-past zero [] a e = refl
-blank-past zero (c ∷ cs) a e =
-    let t = both (isBlankChange c) (every isBlankChange cs) e in
-    rw (change-blank c (a .0) (t .0), blank-past zero cs (a .1) (t .1))
-blank-past (suc n) [] a e = refl
-blank-past (suc n) (c ∷ cs) a e = blank-past n cs (a .1) e
 
 -- The changes that stand are judged fine, and past them there are none.
 pub record Listed (t : Taf) : Type 0 where
@@ -75,10 +62,10 @@ module _ (t : Taf) (arrays : TafArrays t) (f : Fair t) where
       record {
         few = few;
         fine = each;
-        arrays = each-take (t .changes .count) (t .changes .items) (arrays .each);
+        arrays = each-take (λ (c : Change). BodyArrays (c .body)) (t .changes .count) (t .changes .items) (arrays .each);
         many = length-take-le (t .changes .count) (t .changes .items) (omega (arith, arrays .changes));
         past = past;
-        blank = rw (arrays .changes) at (blank-past (t .changes .count) (t .changes .items) (arrays .each) past);
+        blank = rw (arrays .changes) at (blank-past (λ (c : Change). BodyArrays (c .body)) isBlankChange blankChange change-blank (t .changes .count) (t .changes .items) (arrays .each) past);
       }
 
   none-listed : noChanges (t .changes) ≡ true → Listed t

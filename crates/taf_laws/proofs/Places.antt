@@ -43,7 +43,7 @@ body-lens = record { got = λ a r. refl; same = λ r. refl; twice = λ a b r. re
 
 -- a forecast's body, in every part
 pub live : (w : Part) → Live (forecastIn w)
-live w = record { heard = refl; stands = refl; known = λ e. refl }
+live w = record { heard = refl; stands = refl }
 
 module _ (r acc : Leg) where
   pub kept-name : Kept (placeAt (row part.Main) 0) 3 r acc

@@ -17,6 +17,7 @@ use Rattle.record.specs.declared.aerodrome.Change.{Change}
 use Rattle.record.specs.declared.aerodrome.Taf.{Taf}
 use Rattle.record.specs.Taf.{blankChange}
 use Rattle.record.specs.Arrays.{TafArrays}
+use Rattle.record.proofs.Counted.{map-counted}
 use Rattle.elements.specs.Body.{classBody}
 use Rattle.body.proofs.Promises.{BodyRead, body-read, blank-read}
 use Rattle.taf_row.specs.declared.kinds.Part.{Part}
@@ -106,21 +107,7 @@ blank-classed : classChange blankChange ≡ blankChange
 unfolding classChange row
 blank-classed = refl
 
-blanks-classed : (n k : ℕ) → map classChange (drop n (replicate k blankChange)) ≡ drop n (replicate k blankChange)
-blanks-classed zero zero = refl
-blanks-classed zero (suc k) = rw (blank-classed, blanks-classed zero k)
-blanks-classed (suc n) zero = refl
-blanks-classed (suc n) (suc k) = blanks-classed n k
-
-map-parts : (n : ℕ) (cs : List Change) → map classChange (take n cs) ++ map classChange (drop n cs) ≡ map classChange cs
-map-parts zero cs = refl
-map-parts (suc n) [] = refl
-map-parts (suc n) (c ∷ cs) = ap (λ (l : List Change). classChange c ∷ l) (map-parts n cs)
-
 pub items-classed : (t : Taf) → TafArrays t → judgeOf t ≡ judged.Fine → classedOf t .changes .items ≡ map classChange (t .changes .items)
 unfolding classedOf
 items-classed t arrays e =
-    let l = listed t arrays (fair t e) in
-    ap (λ (q : List Change). map classChange (take (t .changes .count) (t .changes .items)) ++ q)
-    (sym (l .blank) ∙ sym (blanks-classed (t .changes .count) 16) ∙ ap (map classChange) (l .blank))
-    ∙ map-parts (t .changes .count) (t .changes .items)
+    map-counted classChange blankChange blank-classed (t .changes .count) 16 (t .changes .items) (listed t arrays (fair t e) .blank)

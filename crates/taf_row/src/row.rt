@@ -1,12 +1,12 @@
 // What a part's row has, in the code's words: which places have a group's shape, how many may and must stand, and which place a group goes to.
 use crate::kinds::Part;
+use body::read::has_weather_or_nsw;
 use places::found_at;
 use places::kinds::Found;
 use places::may_answer;
 use places::most_at;
 use shapes::has_pattern;
 use sky::read::has_sky;
-use weather::read::has_weather;
 use wind::read::has_visibility;
 use wind::read::has_wind;
 ghost use mathlib.Core.Path.{_≡_};
@@ -15,9 +15,7 @@ ghost use lib.ListN.{drop};
 ghost use Rattle.shapes.specs.Pattern.{hasAny};
 ghost use Rattle.places.specs.Seek.{answers, fitFrom, findOf};
 ghost use Rattle.places.specs.Engine.{placeAt, standsOf, mustsOf, mostsOf};
-ghost use Rattle.taf_row.specs.Row.{isMain, isWhole, hasPeriod, isCorrection, forecastIn, row, changeWords};
-ghost use Rattle.taf_row.specs.declared.kinds.Part.the-variants as part;
-ghost use Rattle.elements.specs.Body.{hasWeatherOrNsw};
+ghost use Rattle.taf_row.specs.Row.{isMain, isWhole, hasPeriod, isCorrection, row, changeWords};
 ghost use Rattle.taf_row.specs.Tests.{HasAt, Onward};
 
 pub fn is_main(part: Part) -> bool
@@ -49,14 +47,6 @@ fn has_period(part: Part) -> bool
         Part::Changing => true,
         Part::From => false,
     }
-}
-
-fn has_weather_or_nsw(g: &[u8]) -> bool
-    ensures { λ r. ⌜ r ≡ hasWeatherOrNsw (forecastIn part.Main) (now (g .entry)) ⌝ }
-{
-    let nsw = has_pattern(g, b"NSW");
-    let weather = has_weather(g);
-    nsw | weather
 }
 
 fn is_correction(g: &[u8]) -> bool

@@ -1,4 +1,3 @@
 -- Laws that the proofs of the writer use.
 pub mod Judgings
-pub mod Lengths
 pub mod Writing

@@ -1,15 +1,14 @@
--- What the writer's printers come to in the definitions' words: the head of a row and the rest one after the other are the row; one change more; the
--- report made first is the canonical text; and the answer and the buffer, where the record is refused and where it is fine.
+-- What the writer's printers come to in the definitions' words: the head of a row and the rest one after the other are the row; how many changes
+-- are written; the report made first is the canonical text; and the answer and the buffer, where the record is refused and where it is fine.
 -- Assumes nothing.
-use Prim.Native.Nat.{ℕ, _+_, _≤_, _<_, min}
-use native.Mathlib.Numerals.{add-one}
+use Prim.Native.Nat.{ℕ, _≤_, min}
 use native.Mathlib.Omega.{arith}
-use mathlib.Core.Path.{_≡_, refl, sym, ap, _∙_}
+use mathlib.Core.Path.{_≡_, refl, sym, _∙_}
 use mathlib.Core.Bool.{cond}
-use mathlib.Core.List.{List, [], _∷_, _++_, append-assoc, append-nil}
+use mathlib.Core.List.{List, [], _∷_, _++_, append-nil}
 use mathlib.Core.Logic.{⊎-elim}
-use lib.ListN.{length, take, drop, getD, replicate}
-use lib.Seq.{take-suc, take-all}
+use lib.ListN.{length, take, drop, replicate}
+use lib.Seq.{take-all}
 use Rattle.figures.specs.Put.{Put}
 use Rattle.text.specs.declared.kinds.Refusal.{Refusal}
 use Rattle.text.specs.declared.kinds.Judged.the-variants as judged
@@ -19,7 +18,7 @@ use Rattle.text.specs.Groups.{join, written}
 use Rattle.text.specs.Write.{answerBy, bufferBy}
 use Rattle.text.proofs.Writes.{write-groups, write-none, made-within, made-text}
 use Rattle.scales.proofs.Laws.{reached}
-use Rattle.places.specs.Engine.{Group, written as groupsAt}
+use Rattle.places.specs.Engine.{written as groupsAt}
 use Rattle.places.proofs.Rows.{groups-split}
 use Rattle.places.proofs.Sizes.{Sizes}
 use Rattle.record.specs.declared.aerodrome.Leg.{Leg}
@@ -29,7 +28,7 @@ use Rattle.elements.specs.Body.{bodyRow}
 use Rattle.taf_row.specs.declared.kinds.Part.{Part}
 use Rattle.taf_row.specs.declared.kinds.Part.the-variants as part
 use Rattle.taf_row.specs.Row.{forecastIn, showPeriod, row}
-use Rattle.taf.specs.Write.{judgeOf, showChange, showEach, groupsOf, canonicalOf, writtenOf, bufferOf}
+use Rattle.taf.specs.Write.{judgeOf, groupsOf, canonicalOf, writtenOf, bufferOf}
 
 -- ---- a row in two parts: the first seven places, and the body
 
@@ -51,17 +50,7 @@ pub under-from : {b : List ℕ} {at : ℕ} (r : Leg) → Put b at (written at (g
 unfolding row
 under-from {b} {at} r = write-none b at
 
--- ---- one change more, after those that are written
-
-each-append : (cs ds : List Change) → showEach (cs ++ ds) ≡ showEach cs ++ showEach ds
-each-append [] ds = refl
-each-append (c ∷ cs) ds = ap (λ (gs : List Group). showChange c ++ gs) (each-append cs ds) ∙ sym (append-assoc (showChange c) (showEach cs) (showEach ds))
-
-pub one-more : {b l m : List ℕ} {at j r : ℕ} (cs : List Change) (i : ℕ) (d : Change) → i < length cs → Put b at (written at (showEach (take i cs))) j l
-    → Put l j (written j (showChange (getD cs i d))) r m → Put b at (written at (showEach (take (i + 1) cs))) r m
-one-more cs i d h p q =
-    rw (add-one, take-suc cs i d h, each-append (take i cs) (getD cs i d ∷ []), append-nil (showChange (getD cs i d)))
-    (write-groups (showEach (take i cs)) (showChange (getD cs i d)) p q)
+-- ---- how many changes are written
 
 -- of sixteen slots a count over sixteen takes all
 pub take-sixteen : (cs : List Change) (n : ℕ) → length cs ≡ 16 → take (min n 16) cs ≡ take n cs

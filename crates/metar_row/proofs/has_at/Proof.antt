@@ -11,7 +11,7 @@ pub has-at-spec : {M : Type 1} → statement M
 has-at-spec =
     tie.close
     (tie.spec
-    (λ c κs. search needs) (λ c. search needs) (λ c κs. search needs) (λ c. search needs) (λ c κs. search needs) (λ c. search needs) (λ c κs. search needs) (λ c. search needs) (λ c κs. search needs) (λ c. search needs) (λ c κs. search needs) (λ c κs. search needs) (λ c κs. search needs) (λ c κs. search needs) (λ c κs. search needs) (λ c κs. search needs) (λ c κs. search needs) (λ c κs. search needs) (λ c. search needs) (λ c κs. search needs) (λ c κs. search needs)
+    (λ c κs. search needs) (λ c. search needs) (λ c κs. search needs) (λ c. search needs) (λ c κs. search needs) (λ c. search needs) (λ c κs. search needs) (λ c. search needs) (λ c κs. search needs) (λ c. search needs) (λ c κs. search needs) (λ c κs. search needs) (λ c κs. search needs) (λ c κs. search needs) (λ c κs. search needs) (λ c κs. search needs) (λ c κs. search needs) (λ c κs. search needs) (λ c. search needs) (λ c κs. search needs) (λ c κs. search needs) (λ c κs. search needs)
     (λ c. let a = c .before .before .before .args in has-at row (a .g .now) 0 (c .before .match .keys1) (unfold row in c .is-name .ensures))
     (λ c. let a = c .before .before .before .before .args in has-at row (a .g .now) 1 (c .before .before .match .keys2) (unfold row in c .has-pattern .ensures))
     (λ c. let a = c .before .before .before .before .args in has-at row (a .g .now) 2 (c .before .before .match .keys3) (unfold row in c .has-pattern2 .ensures))
@@ -22,9 +22,10 @@ has-at-spec =
     (λ c. let a = c .before .before .before .args in has-at row (a .g .now) 7 (c .before .match .keys8) (unfold row in c .has-variation .ensures))
     (λ c. let a = c .before .before .before .args in has-at row (a .g .now) 8 (c .before .match .keys9) (unfold row in c .has-visibility .ensures))
     (λ c. let a = c .before .before .before .args in has-at row (a .g .now) 9 (c .before .match .keys10) (unfold row in c .has-runway .ensures))
-    (λ c. let a = c .before .before .before .args in has-at row (a .g .now) 10 (c .before .match .keys11) (unfold row in c .has-weather .ensures))
+    (λ c. let a = c .before .before .before .args in has-at row (a .g .now) 10 (c .before .match .keys11) (unfold row in c .has-weather-or-nsw .ensures))
     (λ c. let a = c .before .before .before .args in has-at row (a .g .now) 11 (c .before .match .keys12) (unfold row in c .has-sky .ensures))
     (λ c. let a = c .before .before .before .args in has-at row (a .g .now) 12 (c .before .match .keys13) (unfold row in c .has-temperatures .ensures))
     (λ c. let a = c .before .before .before .before .args in has-at row (a .g .now) 13 (c .before .before .match .keys14) (unfold row in c .has-pattern6 .ensures))
     (λ c. let a = c .before .before .before .args in has-at row (a .g .now) 14 (c .before .match .keys15) (unfold row in c .has-recent .ensures))
-    (λ c. let a = c .before .before .args in has-nowhere row (a .g .now) (a .place) (unfold row in beyond 0 15 (a .place) zero-le (c .match .rest))))
+    (λ c. let a = c .before .before .before .args in has-at row (a .g .now) 15 (c .before .match .keys16) (unfold row in c .is-time .ensures))
+    (λ c. let a = c .before .before .args in has-nowhere row (a .g .now) (a .place) (unfold row in beyond 0 16 (a .place) zero-le (c .match .rest))))

@@ -6,7 +6,7 @@ use native.Mathlib.Omega.{arith}
 use lib.ListN.{length, take, drop}
 use lib.Seq.{getD-take, length-take-le}
 use borrow.Author.Needs.{needs}
-use Rattle.record.specs.Metar.{blankRunway}
+use Rattle.record.specs.Observation.{blankRunway}
 use Rattle.aerodrome_groups.specs.Runway.{judgeEachRunway}
 use Rattle.aerodrome_groups.proofs.Judgings.{each-next, each-stop, each-end}
 use Rattle.aerodrome_groups.proofs.judge.judge_each.Statement.{statement}

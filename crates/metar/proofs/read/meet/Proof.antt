@@ -4,8 +4,8 @@ use borrow.Author.Needs.{needs}
 use mathlib.Core.Path.{_≡_, sym, _∙_}
 use Rattle.text.proofs.Groups.{Follows, when-group, when-end}
 use Rattle.shapes.specs.Pattern.{hasAny}
-use Rattle.record.specs.declared.aerodrome.Metar.{Metar}
-use Rattle.metar_row.specs.Row.{row, stopWords}
+use Rattle.record.specs.declared.aerodrome.Observation.{Observation}
+use Rattle.metar_row.specs.Row.{row, words}
 use Rattle.metar.specs.Said.{reportSaid}
 use Rattle.body.proofs.Meets.{meets-halt, meets-fault, meets-bad, meets-good}
 use Rattle.metar.proofs.Steps.{row-few}
@@ -17,7 +17,7 @@ module _ (c : tie.After-known-told) where
   follows : Follows (c .before .before .before .before .before .args .text .now) (c .before .before .before .before .before .args .from) (c .before .start .given .0 .0) (c .before .start .given .0 .1 .0)
   follows = when-group _ _ _ _ (sym (c .before .start .given .1) ∙ c .before .before .before .next-group .ensures)
 
-  abbrev seen : Metar → Type 0
+  abbrev seen : Observation → Type 0
   seen r = (r .automatic ≡ c .before .before .before .before .before .args .automatic) × (r .body ≡ c .before .before .before .before .before .args .body)
 
 pub meet-spec : {M : Type 1} → statement M
@@ -28,10 +28,10 @@ meet-spec =
     (λ c. when-end _ _ _ (sym (c .enum-told .given .1) ∙ c .before .before .next-group .ensures))
     (λ c κs. search needs) (λ c κs. search needs) (λ c. search needs) (λ c. search needs) (λ c. search needs) (λ c κs. search needs) (λ c. search needs)
     (λ c.
-    meets-bad row (hasAny stopWords) reportSaid _ _ (seen (c .before .before .before .before .before .before .before .before .before)) (follows (c .before .before .before .before .before .before .before .before .before)) (c .before .before .before .before .before .before .before .before .part .ensures) (c .before .before .before .before .before .before .before .decide .ensures) (c .before .before .before .before .before .turn2 .given .1)
+    meets-bad row (hasAny words) reportSaid _ _ (seen (c .before .before .before .before .before .before .before .before .before)) (follows (c .before .before .before .before .before .before .before .before .before)) (c .before .before .before .before .before .before .before .before .part .ensures) (c .before .before .before .before .before .before .before .decide .ensures) (c .before .before .before .before .before .turn2 .given .1)
     _ (λ r same. c .before .before .before .say-at .ensures r (same .0) (same .1)) (c .before .said .given .1))
-    (λ c. meets-halt row (hasAny stopWords) reportSaid _ _ (seen (c .before .before .before .before)) (follows (c .before .before .before .before)) (c .before .before .before .part .ensures) (c .before .before .decide .ensures) (c .enum-told2 .given .1))
-    (λ c. meets-fault row (hasAny stopWords) reportSaid _ _ (seen (c .before .before .before .before .before)) (follows (c .before .before .before .before .before)) (c .before .before .before .before .part .ensures) (c .before .before .before .decide .ensures) (c .before .turn .given .1))
+    (λ c. meets-halt row (hasAny words) reportSaid _ _ (seen (c .before .before .before .before)) (follows (c .before .before .before .before)) (c .before .before .before .part .ensures) (c .before .before .decide .ensures) (c .enum-told2 .given .1))
+    (λ c. meets-fault row (hasAny words) reportSaid _ _ (seen (c .before .before .before .before .before)) (follows (c .before .before .before .before .before)) (c .before .before .before .before .part .ensures) (c .before .before .before .decide .ensures) (c .before .turn .given .1))
     (λ c.
-    meets-good row (hasAny stopWords) reportSaid _ _ (seen (c .before .before .before .before .before .before .before)) (follows (c .before .before .before .before .before .before .before)) (c .before .before .before .before .before .before .part .ensures) (c .before .before .before .before .before .decide .ensures) (c .before .before .before .turn2 .given .1)
+    meets-good row (hasAny words) reportSaid _ _ (seen (c .before .before .before .before .before .before .before)) (follows (c .before .before .before .before .before .before .before)) (c .before .before .before .before .before .before .part .ensures) (c .before .before .before .before .before .decide .ensures) (c .before .before .before .turn2 .given .1)
     _ (λ r same. c .before .say-at .ensures r (same .0) (same .1)) row-few (c .match3 .keys2)))

@@ -1,28 +1,26 @@
 -- `metar::read::read_from` meets its contract: the reading from a position on stays what the text is read as.
 -- Assumes nothing.
 use borrow.Author.Needs.{needs}
-use mathlib.Core.Path.{_≡_, refl, sym, _∙_}
+use mathlib.Core.Path.{_≡_, refl, sym, ap, _∙_}
 use mathlib.Core.List.{List}
 use Prim.Native.Nat.{ℕ, _+_, _-_, _≤_, _<_}
 use native.Mathlib.Omega.{arith}
 use lib.ListN.{length}
 use Rattle.text.specs.Text.{tailOf}
 use Rattle.text.specs.Groups.{partOf, groupsFrom}
-use Rattle.places.proofs.Going.{going}
-use Rattle.places.proofs.Loop.{goes-on}
-use Rattle.record.specs.declared.aerodrome.Metar.{Metar}
+use Rattle.places.proofs.Turns.{comes, within}
+use Rattle.record.specs.declared.aerodrome.Observation.{Observation}
 use Rattle.elements.specs.declared.kinds.Said.{Said}
 use Rattle.body.specs.declared.kinds.Saying.{Saying}
-use Rattle.metar_row.specs.Row.{row, stopWords}
 use Rattle.metar.specs.Said.{reportSaid}
 use Rattle.metar.specs.Read.{behindName, answer}
-use Rattle.metar.proofs.Steps.{met-over, met-halt, met-fault, met-ahead, met-on, others}
+use Rattle.metar.proofs.Steps.{goes-on, met-over, met-halt, met-fault, met-ahead, met-on, others}
 use Rattle.metar.proofs.read.read_from.Statement.{statement}
 use Rattle.metar.proofs.read.read_from.Tie as tie
 
 abbrev Inv : tie.InvT-loop
 Inv text at special report₀ place₀ count₀ from₀ report place count from =
-    answer (behindName special (tailOf text) (length text) (groupsFrom text at)) ≡ goes-on answer row stopWords text place count report from
+    behindName special (tailOf text) (length text) (groupsFrom text at) ≡ goes-on text place count report from
 
 abbrev μ : tie.MeasureT-loop
 μ text at special report₀ place₀ count₀ from₀ report place count from = length text - from
@@ -35,7 +33,7 @@ module _ (c : tie.After-struct-known Inv μ) where
   abbrev next : Saying
   next = c .before .before .before .met3 .given .0 .0
 
-  abbrev report : Metar
+  abbrev report : Observation
   report = c .before .before .before .before .before .before .loop .report
 
   ahead : (c .before .before .before .before .before .before .loop .from < next .end) × (next .end ≤ length text) × (next .count < 4)
@@ -45,9 +43,9 @@ module _ (c : tie.After-struct-known Inv μ) where
   less = omega (arith, ahead)
 
   -- reading goes on with the record that has what the group says
-  again : {y : Said} {a : Metar} → next .said ≡ y → a ≡ reportSaid (next .count) (partOf text (next .start) (next .end)) y report
-      → answer (behindName (c .before .before .before .before .before .before .before .before .before .args .special) (tailOf text) (length text) (groupsFrom text (c .before .before .before .before .before .before .before .before .before .args .at)))
-      ≡ goes-on answer row stopWords text (c .before .go-past .result) (next .count + 1) a (next .end)
+  again : {y : Said} {a : Observation} → next .said ≡ y → a ≡ reportSaid (next .count) (partOf text (next .start) (next .end)) y report
+      → behindName (c .before .before .before .before .before .before .before .before .before .args .special) (tailOf text) (length text) (groupsFrom text (c .before .before .before .before .before .before .before .before .before .args .at))
+      ≡ goes-on text (c .before .go-past .result) (next .count + 1) a (next .end)
   again tells put = c .before .before .before .before .before .before .loop .inv ∙ met-on _ _ _ _ _ _ (c .before .before .before .before .before .meet .ensures) (c .before .before .before .met3 .given .1) (c .before .go-past .ensures) tells put
 
 pub read-from-spec : {M : Type 1} → statement M
@@ -55,13 +53,17 @@ read-from-spec =
     tie.close
     (tie.spec Inv μ
     (λ c κs. search needs)
-    (λ c. unfold behindName goes-on going in rw (c .blank-metar .ensures))
-    (λ c κs. search needs) (λ c. search needs) (λ c κs. search needs)
-    (λ c. c .finish .ensures ∙ sym (c .before .before .before .before .loop .inv ∙ met-over _ _ _ _ _ _ (c .before .before .before .meet .ensures) (c .before .enum-told .given .1)))
+    (λ c. unfold behindName goes-on within comes in rw (c .blank-observation .ensures))
+    (λ c κs. search needs) (λ c. search needs) (λ c κs. search needs) (λ c κs. search needs)
+    (λ c.
+    c .conclude .ensures
+    ∙ ap answer (sym (c .before .before .before .before .before .loop .inv ∙ met-over _ _ _ _ _ _ (c .before .before .before .before .meet .ensures) (c .before .before .enum-told .given .1) ∙ c .before .after-groups .ensures _)))
+    (λ c. search needs) (λ c κs. search needs) (λ c κs. search needs)
+    (λ c.
+    c .conclude2 .ensures
+    ∙ ap answer (sym (c .before .before .before .before .before .before .loop .inv ∙ met-halt _ _ _ _ _ _ (c .before .before .before .before .before .meet .ensures) (c .before .before .before .met .given .1) ∙ c .before .after-word .ensures _)))
     (λ c. search needs) (λ c κs. search needs)
-    (λ c. c .close .ensures ∙ sym (c .before .before .before .before .before .loop .inv ∙ met-halt _ _ _ _ _ _ (c .before .before .before .before .meet .ensures) (c .before .before .met .given .1)))
-    (λ c. search needs) (λ c κs. search needs)
-    (λ c. c .refuse .ensures ∙ sym (c .before .before .before .before .before .loop .inv ∙ met-fault _ _ _ _ _ _ (c .before .before .before .before .meet .ensures) (c .before .before .met2 .given .1)))
+    (λ c. c .refuse .ensures ∙ ap answer (sym (c .before .before .before .before .before .loop .inv ∙ met-fault _ _ _ _ _ _ (c .before .before .before .before .meet .ensures) (c .before .before .met2 .given .1))))
     (λ c. search needs) (λ c κs. search needs)
     (λ c. omega (arith, ahead c))
     (λ c. search needs) (λ c. less (c .before .before .before)) (λ c. again (c .before .before .before) (c .before .said .given .1) (unfold reportSaid in refl))

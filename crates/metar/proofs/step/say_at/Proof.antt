@@ -4,9 +4,10 @@ use borrow.Author.Needs.{needs}
 use Prim.Native.Nat.{zero-le}
 use mathlib.Core.Path.{refl, ap}
 use Rattle.places.proofs.Rows.{beyond}
+use Rattle.text.specs.declared.kinds.Refusal.the-variants as refusal
 use Rattle.elements.specs.declared.kinds.Said.the-variants as said
 use Rattle.metar.proofs.Steps.{says-at, says-special, says-corrected, says-station, says-time, says-nil, says-automatic, says-wind, says-variation, says-visibility}
-use Rattle.metar.proofs.Steps.{says-runway, says-weather, says-sky, says-temperatures, says-qnh, says-recent, says-nothing}
+use Rattle.metar.proofs.Steps.{says-runway, says-weather, says-sky, says-temperatures, says-qnh, says-recent, says-outside, says-nothing}
 use Rattle.metar.proofs.step.say_at.Statement.{statement}
 use Rattle.metar.proofs.step.say_at.Tie as tie
 
@@ -61,4 +62,7 @@ say-at-spec =
     (λ c.
     let a = c .before .before .before .args in
     says-at 14 (a .count) (a .g .now) (a .automatic) (a .b) (c .before .match .keys15) (c .say-recent .ensures) (says-recent (a .count) (a .g .now) (a .automatic) (a .b)))
-    (λ c. let a = c .before .before .args in says-nothing (a .place) (a .count) (a .g .now) (a .automatic) (a .b) (beyond 0 15 (a .place) zero-le (c .match .rest))))
+    (λ c.
+    let a = c .before .before .args in
+    says-at 15 (a .count) (a .g .now) (a .automatic) (a .b) {y = said.Refused refusal.Order} (c .match .keys16) refl (says-outside (a .count) (a .g .now) (a .automatic) (a .b)))
+    (λ c. let a = c .before .before .args in says-nothing (a .place) (a .count) (a .g .now) (a .automatic) (a .b) (beyond 0 16 (a .place) zero-le (c .match .rest))))

@@ -1,15 +1,14 @@
 -- `metar_write::write::put_last` meets its contract: the groups are put one after the other, by whether the report is NIL.
 -- Assumes nothing.
-use mathlib.Core.List.{append-nil}
 use Rattle.figures.proofs.Puts.{length-put}
-use Rattle.text.proofs.Writes.{write-groups}
+use Rattle.text.proofs.Writes.{write-none, write-groups}
 use Rattle.metar_row.specs.Row.{row}
 use Rattle.metar_write.proofs.write.put_last.Statement.{statement}
 use Rattle.metar_write.proofs.write.put_last.Tie as tie
 
 nil : tie.Need-returns
 unfolding row
-nil c = rw (c .before .before .before .before .if1 .taken, append-nil _) (c .before .before .put-recents .ensures)
+nil c = rw (c .before .before .before .before .if1 .taken) (write-groups _ _ (c .before .before .put-recents .ensures) (write-none _ _))
 
 all : tie.Need-returns-2
 unfolding row
@@ -17,7 +16,7 @@ all c =
     rw (c .before .before .before .before .before .before .before .before .before .before .before .before .if1 .left)
     (write-groups _ _ (c .before .before .before .before .before .before .before .before .before .before .put-temperatures .ensures)
     (write-groups _ _ (c .before .before .before .before .before .before .put-qnh .ensures)
-    (rw (append-nil _) (c .before .before .put-recents2 .ensures))))
+    (write-groups _ _ (c .before .before .put-recents2 .ensures) (write-none _ _))))
 
 pub put-last-spec : {M : Type 1} → statement M
 put-last-spec =

@@ -5,7 +5,7 @@ use Rattle.record.proofs.blank_aerodrome.blank_metar.Statement.{stateme
 use Rattle.record.proofs.blank_aerodrome.blank_metar.Tie as tie
 
 returns : tie.Need-returns
-returns c = rw (c .blank-weathers .ensures, c .before .blank-runways .ensures, c .before .before .blank-body .ensures, c .before .before .before .blank-instant .ensures, c .before .before .before .before .blank-station .ensures)
+returns c = rw (c .blank-trend .ensures, c .before .blank-observation .ensures)
 
 pub blank-metar-spec : {M : Type 1} → statement M
-blank-metar-spec = tie.close (tie.spec (λ c κs. search needs) (λ c κs. search needs) (λ c κs. search needs) (λ c κs. search needs) (λ c κs. search needs) returns)
+blank-metar-spec = tie.close (tie.spec (λ c κs. search needs) (λ c κs. search needs) returns)

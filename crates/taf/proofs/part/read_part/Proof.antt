@@ -36,7 +36,7 @@ on c is put = part-on (c .before .before .before .before .before .before .before
 
 -- what has no arm of its own, by its tags
 abbrev no-arm : List ℕ
-no-arm = 0 ∷ 1 ∷ 6 ∷ 10 ∷ 12 ∷ 14 ∷ 16 ∷ 17 ∷ 18 ∷ 19 ∷ 20 ∷ 21 ∷ []
+no-arm = 0 ∷ 1 ∷ 6 ∷ 10 ∷ 12 ∷ 14 ∷ 16 ∷ 17 ∷ 18 ∷ 19 ∷ 20 ∷ 21 ∷ 22 ∷ []
 
 pub read-part-spec : {M : Type 1} → statement M
 read-part-spec =

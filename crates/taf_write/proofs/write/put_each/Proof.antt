@@ -1,15 +1,16 @@
 -- `taf_write::write::put_each` meets its contract, its loop keeping what was put so far.
 -- Assumes nothing.
 use Prim.Native.Nat.{_≤_, _-_, min}
-use mathlib.Core.Path.{_≡_}
+use mathlib.Core.Path.{_≡_, refl}
 use native.Mathlib.Omega.{arith}
 use lib.ListN.{length, take}
 use borrow.Author.Needs.{needs}
 use Rattle.figures.specs.Put.{Put}
 use Rattle.figures.proofs.Puts.{put-none, length-put}
 use Rattle.text.specs.Groups.{written}
-use Rattle.taf.specs.Write.{showEach}
-use Rattle.taf_write.proofs.Writing.{one-more, take-sixteen}
+use Rattle.body.proofs.Changes.{one-more}
+use Rattle.taf.specs.Write.{showChange, showEach}
+use Rattle.taf_write.proofs.Writing.{take-sixteen}
 use Rattle.taf_write.proofs.write.put_each.Statement.{statement}
 use Rattle.taf_write.proofs.write.put_each.Tie as tie
 
@@ -34,7 +35,7 @@ put-each-spec =
     let d = c .before .before .before .before .before .before .before .before .before in (
       omega arith,
       c .before .before .before .before .before .before .before .at-most-sixteen .ensures,
-      one-more (d .args .t3) (c .before .before .before .before .before .before .loop .i) _ (omega (arith, sixteen d)) (c .before .before .before .before .before .before .loop .inv .2) (c .before .before .put-change .ensures),
+      one-more showChange showEach refl (λ x xs. refl) (d .args .t3) (c .before .before .before .before .before .before .loop .i) _ (omega (arith, sixteen d)) (c .before .before .before .before .before .before .loop .inv .2) (c .before .before .put-change .ensures),
     ))
     (λ c. length-put (c .before .loop .inv .2))
     (λ c.

@@ -6,11 +6,15 @@ use native.Mathlib.Omega.{arith}
 use mathlib.Core.Path.{sym}
 use lib.ListN.{length, length-map}
 use lib.Seq.{length-take-le}
+use denote.Struct.Struct.{Struct}
+use denote.Struct.Declared.{shape}
 use Rattle.places.proofs.Sizes.{Sizes}
 use Rattle.taf.specs.Write.{groupsOf, canonicalOf}
 use Rattle.taf_laws.proofs.Canonical.{groups-sizes, length-canonical}
-use Rattle.record.specs.Arrays.{TafArrays}
-use Rattle.taf_write.proofs.Lengths.{each-arrays}
+use Rattle.record.specs.declared.aerodrome.Change.{Change}
+use Rattle.record.proofs.aerodrome.Change.{the-type}
+use Rattle.record.specs.Arrays.{BodyArrays, TafArrays}
+use Rattle.body.proofs.Changes.{body-arrays, each-owned}
 use Rattle.taf_write.proofs.Writing.{report-within, report-text, written-fine}
 use Rattle.taf_write.proofs.write.write_fine.Statement.{statement}
 use Rattle.taf_write.proofs.write.write_fine.Tie as tie
@@ -19,13 +23,12 @@ use Rattle.taf_write.proofs.write.write_fine.Tie as tie
 arrays : (c : tie.Start) → TafArrays (c .args .t)
 arrays c =
     let leg = c .good .0 .1 .1 .0 .1 .1 in
-    let body = leg .1 .1 .1 .1 .1 .1 .0 .1 .1 .1 .1 in
     let changes = c .good .0 .1 .1 .1 .0 .1 .1 .0 in
     record {
       letters = simp length-map at (leg .1 .0 .1 .1 .0 .1 .0 .1);
-      body = record { weathers = simp length-map at (body .0 .1 .1 .0 .1 .0 .1); layers = simp length-map at (body .1 .1 .0 .1 .1 .1 .0 .1 .0 .1) };
+      body = body-arrays (c .args .t .leg .body) _ (leg .1 .1 .1 .1 .1 .1 .0);
       changes = simp length-map at (changes .1 .0 .1);
-      each = each-arrays (c .args .t .changes .items) _ (changes .1 .1);
+      each = each-owned (Struct (shape the-type)) (the-type .to) (λ (x : Change). BodyArrays (x .body)) (λ x us s. body-arrays (x .body) _ (s .1 .1 .1 .1 .0)) (c .args .t .changes .items) _ (changes .1 .1);
     }
 
 sizes : (c : tie.Start) → Sizes 2048 (groupsOf (c .args .t))

@@ -5,7 +5,7 @@ use Rattle.record.proofs.aerodrome.Metar.is_blank.Statement.{statement}
 use Rattle.record.proofs.aerodrome.Metar.is_blank.Tie as tie
 
 returns : tie.Need-returns
-returns c = unfold isBlankMetar in rw (c .has-no-observation .ensures, c .before .is-blank2 .ensures, c .before .before .is-blank .ensures)
+returns c = unfold isBlankMetar in rw (c .is-blank2 .ensures, c .before .is-blank .ensures)
 
 pub is-blank-spec : {M : Type 1} → statement M
-is-blank-spec = tie.close (tie.spec (λ c κs. tt) (λ c κs. tt) (λ c κs. tt) returns)
+is-blank-spec = tie.close (tie.spec (λ c κs. tt) (λ c κs. tt) returns)

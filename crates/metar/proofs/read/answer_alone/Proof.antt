@@ -1,0 +1,13 @@
+-- `metar::read::answer_alone` meets its contract, by the verdict.
+-- Assumes nothing.
+use borrow.Author.Needs.{needs}
+use Rattle.metar.proofs.read.answer_alone.Statement.{statement}
+use Rattle.metar.proofs.read.answer_alone.Tie as tie
+
+pub answer-alone-spec : {M : Type 1} → statement M
+answer-alone-spec =
+    tie.close
+    (tie.spec
+    (λ c. search needs) (λ c κs. search needs) (λ c κs. search needs) (λ c. search needs) (λ c κs. search needs)
+    (λ c. rw (c .accept .ensures, c .before .blank-metar .ensures, c .before .before .before .verdict .given .1))
+    (λ c. rw (c .refuse .ensures, c .before .before .verdict2 .given .1)))

@@ -1,0 +1,10 @@
+-- `record::aerodrome::TrendChange::is_blank` meets its contract, part by part.
+-- Assumes nothing.
+use Rattle.record.proofs.aerodrome.TrendChange.is_blank.Statement.{statement}
+use Rattle.record.proofs.aerodrome.TrendChange.is_blank.Tie as tie
+
+returns : tie.Need-returns
+returns c = rw (c .is-blank .ensures, c .before .is-none2 .ensures, c .before .before .is-none .ensures)
+
+pub is-blank-spec : {M : Type 1} → statement M
+is-blank-spec = tie.close (tie.spec (λ c κs. tt) (λ c κs. tt) (λ c κs. tt) returns)

@@ -1,0 +1,3 @@
+-- The laws of reading a trend.
+pub mod Steps
+pub mod Turns

@@ -1,0 +1,4 @@
+pub mod Read
+pub mod Said
+pub mod Step
+pub mod Write
