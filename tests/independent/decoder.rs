@@ -1737,10 +1737,11 @@ fn read_runway(group: &[u8]) -> Result<Runway, u8> {
     })
 }
 
-/// "// for each temperature"; "M00 is 5", and so is M before slashes.
+/// "// for each temperature"; document 02, No. 2: M00 "is read as -0.3". M before slashes is 5.
 fn read_temperature((minus, figures): TemperatureParts) -> Result<Option<i32>, u8> {
     match (minus, optional(figures)?) {
-        (true, None | Some(0)) => Err(5),
+        (true, None) => Err(5),
+        (true, Some(0)) => Ok(Some(-3)),
         (true, Some(degrees)) => Ok(Some(-10 * degrees as i32)),
         (false, degrees) => Ok(degrees.map(|degrees| 10 * degrees as i32)),
     }
@@ -2140,12 +2141,16 @@ fn write_cloud(cloud: &Cloud) -> String {
     }
 }
 
-/// "written as whole degrees, -99 to 99, halves up"; "M goes by the rounded value".
+/// "written as whole degrees, -99 to 99, halves up"; document 02, No. 2: "M now follows the observed value".
 fn write_temperature(tenths: Option<i32>) -> String {
-    match tenths.map(|tenths| (tenths + 5).div_euclid(10)) {
-        None => figures(None, 2),
-        Some(degrees) if degrees < 0 => format!("M{:02}", -degrees),
-        Some(degrees) => format!("{degrees:02}"),
+    let Some(tenths) = tenths else {
+        return figures(None, 2);
+    };
+    let degrees = (tenths + 5).div_euclid(10).abs();
+    if tenths < 0 {
+        format!("M{degrees:02}")
+    } else {
+        format!("{degrees:02}")
     }
 }
 
@@ -2296,10 +2301,10 @@ mod tests {
 
     #[test]
     fn the_others_round_to_the_nearest() {
-        let written: Vec<_> = [25, -15, -4, -5, -6, -995, 994]
+        let written: Vec<_> = [25, -15, -4, -5, -6, -1, 0, -995, 994]
             .map(|tenths| write_temperature(Some(tenths)))
             .into();
-        assert_eq!(written, ["03", "M01", "00", "00", "M01", "M99", "99"]);
+        assert_eq!(written, ["03", "M01", "M00", "M00", "M01", "M00", "00", "M99", "99"]);
         assert_eq!([4, 5, 355, 354, 0].map(tens_of), [36, 1, 36, 35, 36]);
         let rain = [9, 10, 9885, 9884, 99_999].map(|tenths| rain_code(Rain::Tenths(tenths)));
         assert_eq!(rain, [999, 1, 989, 988, 989]);

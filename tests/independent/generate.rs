@@ -509,7 +509,7 @@ fn push_observed_sky(
 fn temperature(random: &mut Random) -> String {
     match random.below(5) {
         0 => "//".to_string(),
-        1 | 2 => format!("M{}", random.figures(1, 99, 2)),
+        1 | 2 => format!("M{}", random.figures(0, 99, 2)),
         _ => random.figures(0, 99, 2),
     }
 }
@@ -966,7 +966,7 @@ fn aerodrome_misses(group: &str) -> &'static [&'static str] {
         &["FM001200", "FM322300", "FM012400", "FM011260", "FM0112//"]
     } else if group.len() >= 5 && group.contains('/') {
         &[
-            "M00/M00", "M00/00", "01/M00", "M///01", "1//01", "/1/01", "M1//02", "///M//",
+            "M00/M00", "M00/00", "01/M00", "M///01", "M/////", "1//01", "/1/01", "M1//02", "///M//",
         ]
     } else if group.len() == 4 && group.bytes().all(|byte| byte.is_ascii_digit()) {
         &VISIBILITY_MISSES

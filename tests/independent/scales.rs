@@ -93,21 +93,25 @@ fn figures(s: &Scale, width: usize, list: &[u32]) {
     }
 }
 
-/// Half-degrees go up: the whole degree whose tenths are nearest, the greater of two.
+/// Half-degrees go up: the whole degree whose tenths are nearest, the greater of two. M follows the value.
 fn temperature(t: i64) {
     let answer = if !(-995..=994).contains(&t) {
         "out of range".into()
     } else {
         let whole = (-99..=99).min_by_key(|w| ((w * 10 - t).abs(), -w)).unwrap();
-        format!("{}{:02}", if whole < 0 { "M" } else { "" }, whole.abs())
+        format!("{}{:02}", if t < 0 { "M" } else { "" }, whole.abs())
     };
     line(tenths(t), answer);
 }
 
 fn degrees(minus: bool, whole: i64) {
     let text = format!("{}{:02}", if minus { "M" } else { "" }, whole);
-    let answer = if minus && whole == 0 { "unused".into() } else { tenths(if minus { -whole * 10 } else { whole * 10 }) };
-    line(text, answer);
+    let reading = match (minus, whole) {
+        (true, 0) => -3,
+        (true, whole) => -whole * 10,
+        (false, whole) => whole * 10,
+    };
+    line(text, tenths(reading));
 }
 
 fn signed(sign: i64, n: i64) {

@@ -234,7 +234,8 @@ module _ (r : Report) (arrays : Arrays r) (fine : judgeOf r ≡ judged.Fine) whe
 pub how-far : (t : Table) (v : ℕ) → DownOn t v (footOn t v)
 how-far = down-on
 
--- Aerodrome temperature and rain: "Value less reading, in tenths: -5 to 4"; Q: 0 to 9; "989 (from 988.5 mm) is open and is read 989.0"
+-- Aerodrome temperature and rain: "Value less reading, in tenths: -5 to 4", but for M00 "-2 to 2 tenths" and for 00, which "holds 0.0 to 0.4", 0 to 4; Q: 0 to 9;
+-- "989 (from 988.5 mm) is open and is read 989.0"
 pub temperature-far : (t : ℤ) → DegreesNear t (roundedDegrees t)
 temperature-far = degrees-near
 

@@ -12,7 +12,7 @@ use borrow.Author.Tests.{lt-ltb, le-ltb, le-leb, lt-leb, leb-true, ne-eqb}
 use Rattle.figures.proofs.Impossible.{impossible}
 use Rattle.figures.specs.Signed.{negative, withSign}
 use Rattle.figures.proofs.Signs.{magnitude-back}
-use Rattle.scales.specs.Degrees.{degreesFit, wholeDegrees, roundedDegrees, degreesOf, degreesReading, signedReading}
+use Rattle.scales.specs.Degrees.{degreesFit, wholeDegrees, minusZero, isMinusZero, roundedDegrees, degreesOf, degreesReading, farBelow, farAbove, signedReading}
 use Rattle.scales.specs.declared.kinds.Degrees.the-variants as degrees
 use Rattle.scales.specs.declared.kinds.Tenths.the-variants as tenths
 use Rattle.scales.proofs.Laws.{reached}
@@ -27,17 +27,12 @@ whole-below n =
     (λ h. let k : (suc n + 4) / 10 ≡ (5 - suc n) / 10 = omega arith in let z : (5 - suc n) / 10 ≡ 0 = omega arith in rw (le-ltb 5 (suc n) (omega arith), k, z))
     (reached 5 n)
 
--- minus goes by what is written
-minus-of : (k : ℕ) → negative (withSign true k) ≡ ltb 0 k
-minus-of zero = refl
-minus-of (suc k) = sym (lt-ltb 0 (suc k) (omega arith))
-
 -- ---- the figure of a value, by its sign and its magnitude m
-pub below-zero : (t : ℤ) (m : ℕ) → m ≡ natAbs t → negative t ≡ true → m ≤ 995 → degrees.Is (ltb 0 ((m + 4) / 10)) ((m + 4) / 10) ≡ degreesOf t
+pub below-zero : (t : ℤ) (m : ℕ) → m ≡ natAbs t → negative t ≡ true → m ≤ 995 → degrees.Is true ((m + 4) / 10) ≡ degreesOf t
 unfolding degreesOf
 below-zero (pos n) m e s h = absurd (false≢true s)
 below-zero (negsuc n) m e s h =
-    rw (e, le-leb n 994 (omega arith), whole-below n, minus-of ((suc n + 4) / 10), magnitude-back true ((suc n + 4) / 10))
+    rw (e, le-leb n 994 (omega arith), whole-below n, magnitude-back true ((suc n + 4) / 10))
 
 pub from-zero : (t : ℤ) (m : ℕ) → m ≡ natAbs t → negative t ≡ false → m ≤ 994 → degrees.Is false ((m + 5) / 10) ≡ degreesOf t
 unfolding degreesOf wholeDegrees
@@ -60,7 +55,7 @@ module _ (s : Bool) (w : ℕ) where
   unfolding degreesReading
   too-great h = rw (lt-ltb 99 w h)
 
-  pub minus-zero : w ≤ 99 → (s && eqb w 0) ≡ true → tenths.Unused ≡ degreesReading s w
+  pub minus-zero : w ≤ 99 → (s && eqb w 0) ≡ true → tenths.Is minusZero ≡ degreesReading s w
   unfolding degreesReading
   minus-zero h e = rw (le-ltb 99 w h, e)
 
@@ -92,25 +87,25 @@ module _ (s t : ℕ) where
 
 -- ---- what a value is read as, in tenths
 rounded-warm : (n : ℕ) → roundedDegrees (pos n) ≡ pos ((n + 5) / 10 * 10)
-unfolding roundedDegrees wholeDegrees
+unfolding roundedDegrees isMinusZero wholeDegrees
 rounded-warm n = refl
 
-rounded-cool : (n : ℕ) → n < 5 → roundedDegrees (negsuc n) ≡ pos 0
-unfolding roundedDegrees
+rounded-cool : (n : ℕ) → n < 5 → roundedDegrees (negsuc n) ≡ minusZero
+unfolding roundedDegrees isMinusZero
 rounded-cool n h = let k : (suc n + 4) / 10 ≡ 0 = omega arith in rw (whole-below n, k)
 
 ten-times : (j : ℕ) → suc j * 10 ≡ suc (j * 10 + 9)
 ten-times j = omega arith
 
 rounded-cold : (n : ℕ) → 5 ≤ n → roundedDegrees (negsuc n) ≡ negsuc ((n - 5) / 10 * 10 + 9)
-unfolding roundedDegrees
+unfolding roundedDegrees isMinusZero
 rounded-cold n h =
     let k : (suc n + 4) / 10 ≡ suc ((n - 5) / 10) = omega arith in
-    rw (whole-below n, k, ten-times ((n - 5) / 10))
+    rw (whole-below n, k, ne-eqb (suc ((n - 5) / 10)) 0 (λ z. omega arith), ten-times ((n - 5) / 10))
 
 -- ---- what is written reads back
 
-cool-written : (n : ℕ) → n < 5 → degrees.Is false 0 ≡ degreesOf (negsuc n)
+cool-written : (n : ℕ) → n < 5 → degrees.Is true 0 ≡ degreesOf (negsuc n)
 cool-written n h =
     let k : (suc n + 4) / 10 ≡ 0 = omega arith in
     rw k at (below-zero (negsuc n) (suc n) refl refl (omega arith))
@@ -118,25 +113,25 @@ cool-written n h =
 cold-written : (n : ℕ) → 5 ≤ n → n ≤ 994 → degrees.Is true (suc ((n - 5) / 10)) ≡ degreesOf (negsuc n)
 cold-written n l h =
     let k : (suc n + 4) / 10 ≡ suc ((n - 5) / 10) = omega arith in
-    rw (k, lt-ltb 0 (suc ((n - 5) / 10)) (omega arith)) at (below-zero (negsuc n) (suc n) refl refl (omega arith))
+    rw k at (below-zero (negsuc n) (suc n) refl refl (omega arith))
 
 -- whole degrees as they are written: minus, and the figures
 abbrev pub Written : Type 0
 Written = Bool × ℕ
 
 module _ (w : Written) where
-  -- what is written as the figures k after the sign s is read as they are
-  read-as : (t : ℤ) (s : Bool) (k : ℕ) → degrees.Is s k ≡ degreesOf t → degreesOf t ≡ degrees.Is (w .0) (w .1) → k ≤ 99 → (s && eqb k 0) ≡ false
-      → degreesReading (w .0) (w .1) ≡ tenths.Is (withSign s (k * 10))
-  read-as t s k i e h z =
+  -- what is written as the figures k after the sign s has their reading
+  read-as : (t : ℤ) (s : Bool) (k : ℕ) {u : ℤ} → degrees.Is s k ≡ degreesOf t → degreesOf t ≡ degrees.Is (w .0) (w .1) → tenths.Is u ≡ degreesReading s k
+      → degreesReading (w .0) (w .1) ≡ tenths.Is u
+  read-as t s k i e r =
       let a : s ≡ w .0 = cc in
       let b : k ≡ w .1 = cc in
-      rw (← a, ← b) (sym (whole-read s k h z))
+      rw (← a, ← b) (sym r)
 
   back : (t : ℤ) → degreesOf t ≡ degrees.Is (w .0) (w .1) → degreesReading (w .0) (w .1) ≡ tenths.Is (roundedDegrees t)
   back (pos n) e =
       ⊎-elim
-      (λ h. rw (rounded-warm n) (read-as (pos n) false ((n + 5) / 10) (from-zero (pos n) n refl refl h) e (omega arith) refl))
+      (λ h. rw (rounded-warm n) (read-as (pos n) false ((n + 5) / 10) (from-zero (pos n) n refl refl h) e (whole-read false ((n + 5) / 10) (omega arith) refl)))
       (λ h. absurd (out (too-hot (pos n) n refl refl h)))
       (reached n 994)
     where
@@ -152,13 +147,13 @@ module _ (w : Written) where
       out i = impossible (cc)
 
       cool : n < 5 → degreesReading (w .0) (w .1) ≡ tenths.Is (roundedDegrees (negsuc n))
-      cool h = rw (rounded-cool n h) (read-as (negsuc n) false 0 (cool-written n h) e (omega arith) refl)
+      cool h = rw (rounded-cool n h) (read-as (negsuc n) true 0 (cool-written n h) e (minus-zero true 0 (omega arith) refl))
 
       cold : 5 ≤ n → n ≤ 994 → degreesReading (w .0) (w .1) ≡ tenths.Is (roundedDegrees (negsuc n))
       cold l h =
           let j = (n - 5) / 10 in
           rw (rounded-cold n l)
-          (read-as (negsuc n) true (suc j) (cold-written n l h) e (omega arith) (ne-eqb (suc j) 0 (λ z. omega arith))
+          (read-as (negsuc n) true (suc j) (cold-written n l h) e (whole-read true (suc j) (omega arith) (ne-eqb (suc j) 0 (λ z. omega arith)))
           ∙ ap (λ (x : ℕ). tenths.Is (withSign true x)) (ten-times j))
 
 own : (w : Written) (t : ℤ) → degreesReading (w .0) (w .1) ≡ tenths.Is t → degreesOf t ≡ degrees.Is (w .0) (w .1)
@@ -172,8 +167,9 @@ own (false, k) t e =
     (λ h. let i : tenths.Unused ≡ degreesReading false k = too-great false k h in impossible (cc))
     (reached k 99)
 own (true, zero) t e =
-    let i : tenths.Unused ≡ degreesReading true 0 = minus-zero true 0 (omega arith) refl in
-    impossible (cc)
+    let i : tenths.Is minusZero ≡ degreesReading true 0 = minus-zero true 0 (omega arith) refl in
+    let j : minusZero ≡ t = cc in
+    rw (← j) (sym (cool-written 2 (omega arith)))
 own (true, suc k) t e =
     ⊎-elim
     (λ h.
@@ -191,13 +187,13 @@ degrees-rounds = rounds (λ t w. back w t) own (λ w t u e. impossible (cc))
 -- what may be written is written in whole degrees, and what is so written may be
 pub fit-written : (t : ℤ) → degreesFit t ≡ true → (w : Written) × (degreesOf t ≡ degrees.Is (w .0) (w .1))
 unfolding degreesOf
-fit-written t e = ((negative (wholeDegrees t), natAbs (wholeDegrees t)), rw e)
+fit-written t e = ((negative t, natAbs (wholeDegrees t)), rw e)
 
 pub written-fits : (t : ℤ) (minus : Bool) (n : ℕ) → degreesOf t ≡ degrees.Is minus n → degreesFit t ≡ true
 unfolding degreesOf
 written-fits t minus n e = go (degreesFit t) e
   where
-    go : (b : Bool) → cond b (degrees.Is (negative (wholeDegrees t)) (natAbs (wholeDegrees t))) degrees.OutOfRange ≡ degrees.Is minus n → b ≡ true
+    go : (b : Bool) → cond b (degrees.Is (negative t) (natAbs (wholeDegrees t))) degrees.OutOfRange ≡ degrees.Is minus n → b ≡ true
     go true e = refl
     go false e = impossible (cc)
 
@@ -207,18 +203,36 @@ two-figures minus n e = ⊎-elim (λ h. h) (λ h. let u = too-great minus n h in
 
 -- ---- how far off, in tenths, and the order
 
--- a value and its reading: "value less reading, in tenths: -5 to 4"
+-- a value and its reading: no further below it and above it than its class goes
 abbrev pub DegreesNear : ℤ → ℤ → Type 0
-DegreesNear value read = (leZ read (value +ℤ pos 5) ≡ true) × (leZ value (read +ℤ pos 4) ≡ true)
+DegreesNear value read = (leZ read (value +ℤ pos (farBelow read)) ≡ true) × (leZ value (read +ℤ pos (farAbove read)) ≡ true)
+
+-- M00: -0.5 to -0.1
+cool-near : (n : ℕ) → n < 5 → DegreesNear (negsuc n) minusZero
+unfolding farBelow farAbove
+cool-near zero h = (refl, refl)
+cool-near (suc zero) h = (refl, refl)
+cool-near (suc (suc zero)) h = (refl, refl)
+cool-near (suc (suc (suc zero))) h = (refl, refl)
+cool-near (suc (suc (suc (suc zero)))) h = (refl, refl)
+cool-near (suc (suc (suc (suc (suc n))))) h = absurd (omega arith)
 
 pub degrees-near : (t : ℤ) → DegreesNear t (roundedDegrees t)
+unfolding farBelow farAbove
 degrees-near (pos n) =
-    rw (rounded-warm n)
-    (le-leb ((n + 5) / 10 * 10) (n + 5) (omega arith), le-leb n ((n + 5) / 10 * 10 + 4) (omega arith))
+    ⊎-elim
+    (λ l.
+    let j = (n + 5) / 10 * 10 in
+    rw (rounded-warm n, ne-eqb j 0 (λ z. omega arith)) (le-leb j (n + 5) (omega arith), le-leb n (j + 4) (omega arith)))
+    (λ h. let j : (n + 5) / 10 * 10 ≡ 0 = omega arith in rw (rounded-warm n, j) (le-leb 0 (n + 0) (omega arith), le-leb n 4 (omega arith)))
+    (reached 5 n)
 degrees-near (negsuc n) =
     ⊎-elim
-    (λ l. let j = (n - 5) / 10 * 10 + 9 in rw (rounded-cold n l, lt-ltb 5 (suc n) (omega arith), lt-ltb 4 (suc j) (omega arith)) (le-leb (suc n - 6) j (omega arith), le-leb (suc j - 5) n (omega arith)))
-    (λ h. rw (rounded-cool n h, le-ltb 5 (suc n) (omega arith)) (le-leb 0 (5 - suc n) (omega arith), refl))
+    (λ l.
+    let j = (n - 5) / 10 * 10 + 9 in
+    rw (rounded-cold n l, ne-eqb j 2 (λ z. omega arith), lt-ltb 5 (suc n) (omega arith), lt-ltb 4 (suc j) (omega arith))
+    (le-leb (suc n - 6) j (omega arith), le-leb (suc j - 5) n (omega arith)))
+    (λ h. rw (rounded-cool n h) (cool-near n h))
     (reached 5 n)
 
 -- the greater value never reads smaller
@@ -230,13 +244,13 @@ degrees-order (pos n) (negsuc m) h = absurd (false≢true h)
 degrees-order (negsuc n) (pos m) h =
     ⊎-elim
     (λ l. rw (rounded-cold n l, rounded-warm m))
-    (λ l. rw (rounded-cool n l, rounded-warm m) (le-leb 0 ((m + 5) / 10 * 10) (omega arith)))
+    (λ l. rw (rounded-cool n l, rounded-warm m))
     (reached 5 n)
 degrees-order (negsuc n) (negsuc m) h =
     let k : m ≤ n = leb-true m n h in
     ⊎-elim
     (λ l. rw (rounded-cold n (omega arith), rounded-cold m l) (le-leb ((m - 5) / 10 * 10 + 9) ((n - 5) / 10 * 10 + 9) (omega arith)))
-    (λ l. ⊎-elim (λ g. rw (rounded-cold n g, rounded-cool m l)) (λ g. rw (rounded-cool n g, rounded-cool m l)) (reached 5 n))
+    (λ l. ⊎-elim (λ g. rw (rounded-cold n g, rounded-cool m l) (le-leb 2 ((n - 5) / 10 * 10 + 9) (omega arith))) (λ g. rw (rounded-cool n g, rounded-cool m l)) (reached 5 n))
     (reached 5 m)
 
 -- ---- the signed tenths of SYNOP and SHIP are exact: a sign's figure and three figures say the value

@@ -89,7 +89,7 @@ markedRows =
     (bytes "0375" ∷ bytes "P2000" ∷ [])
     ∷ row (bytes "2.5, -1.5, -0.4 degrees")
     (asDegrees (degreesOf (pos 25)) ∷ asDegrees (degreesOf (negsuc 14)) ∷ asDegrees (degreesOf (negsuc 3)) ∷ [])
-    (bytes "03" ∷ bytes "M01" ∷ bytes "00" ∷ [])
+    (bytes "03" ∷ bytes "M01" ∷ bytes "M00" ∷ [])
     ∷ row (bytes "directions 4; 5; 355")
     (asFigures 2 (directionFigure 4) ∷ asFigures 2 (directionFigure 5) ∷ asFigures 2 (directionFigure 355) ∷ [])
     (bytes "36" ∷ bytes "01" ∷ bytes "36" ∷ [])

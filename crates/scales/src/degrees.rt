@@ -1,4 +1,4 @@
-// Temperatures: tenths of a degree as whole degrees, halves up; and signed tenths, which are exact.
+// Temperatures: tenths of a degree as whole degrees, halves up, with the sign of the value; and signed tenths, which are exact.
 use crate::kinds::Degrees;
 use crate::kinds::Tenths;
 use figures::kinds::Signed;
@@ -8,17 +8,16 @@ ghost use Prim.Native.Nat.{_≤_};
 ghost use Rattle.figures.specs.Signed.{withSign};
 ghost use Rattle.scales.specs.Degrees.{degreesOf, degreesReading, signedReading};
 
-// -99.5 to 99.4 degrees. Below zero a half goes up, towards zero, and what rounds to 0 has no minus.
+// -99.5 to 99.4 degrees. Below zero a half goes up, towards zero, and the minus stays where that gives 0: -0.4 is M00.
 pub fn degrees_figure(tenths: i32) -> Degrees
     ensures { λ r. ⌜ r ≡ degreesOf tenths ⌝ }
 {
     let m = signed::magnitude(tenths);
     if signed::is_negative(tenths) {
         if m <= 995 {
-            let whole = (m + 4) / 10;
             Degrees::Is {
-                minus: 0 < whole,
-                whole,
+                minus: true,
+                whole: (m + 4) / 10,
             }
         } else {
             Degrees::OutOfRange
@@ -44,14 +43,14 @@ fn tenths_of(minus: bool, m: u32) -> Tenths
     }
 }
 
-// M00 has no reading.
+// M00 is read as the middle of its class, -0.3.
 pub fn degrees_reading(minus: bool, whole: u32) -> Tenths
     ensures { λ r. ⌜ r ≡ degreesReading minus whole ⌝ }
 {
     if 99 < whole {
         Tenths::Unused
     } else if minus & (whole == 0) {
-        Tenths::Unused
+        tenths_of(true, 3)
     } else {
         tenths_of(minus, whole * 10)
     }

@@ -1,4 +1,4 @@
--- `scales::degrees::degrees_reading` meets its contract: M00 and what is over 99 have no reading.
+-- `scales::degrees::degrees_reading` meets its contract: what is over 99 has no reading, and M00 has its own.
 -- Assumes nothing.
 use mathlib.Core.Path.{_∙_}
 use native.Mathlib.Omega.{arith}
@@ -11,7 +11,7 @@ pub degrees-reading-spec : {M : Type 1} → statement M
 degrees-reading-spec =
     tie.close
     (tie.spec
-    (λ c. search needs) (λ c κs. search needs)
+    (λ c κs. search needs) (λ c. search needs) (λ c κs. search needs)
     (λ c. too-great _ _ (omega arith))
-    (λ c. minus-zero _ _ (omega arith) (c .if2 .taken))
-    (λ c. c .tenths-of .ensures ∙ whole-read _ _ (omega arith) (c .before .if2 .left)))
+    (λ c. c .tenths-of .ensures ∙ minus-zero _ _ (omega arith) (c .before .if2 .taken))
+    (λ c. c .tenths-of2 .ensures ∙ whole-read _ _ (omega arith) (c .before .if2 .left)))
