@@ -1501,8 +1501,8 @@ fn are_precipitations(phenomena: &[&str]) -> bool {
         && phenomena.iter().all(|code| PRECIPITATIONS.contains(code))
 }
 
-/// "Every precipitation in a group must suit its descriptor." TS alone is 5 (ruling 26), the
-/// lists of SH and TS are the paper's (ruling 27).
+/// "Every precipitation in a group must suit its descriptor." The lists of SH and TS are the
+/// paper's (ruling 27); "TS alone is accepted" (request 3), no other descriptor (ruling 3.2).
 fn suits_descriptor(descriptor: Option<&str>, phenomena: &[&str]) -> bool {
     let all_of = |list: &[&str]| {
         are_precipitations(phenomena) && phenomena.iter().all(|code| list.contains(code))
@@ -1514,6 +1514,7 @@ fn suits_descriptor(descriptor: Option<&str>, phenomena: &[&str]) -> bool {
         }
         Some("MI" | "BC" | "PR") => phenomena == ["FG"],
         Some("DR" | "BL") => matches!(phenomena, ["DU" | "SA" | "SN"]),
+        Some("TS") if phenomena.is_empty() => true,
         Some("SH" | "TS") => all_of(&["RA", "SN", "PL", "GS", "GR"]),
         _ => phenomena == ["FG"] || all_of(&["DZ", "RA"]),
     }

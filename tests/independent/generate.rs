@@ -365,7 +365,7 @@ fn weather_codes(random: &mut Random, extent: Extent, bare: bool, automatic: boo
     let plain = if automatic { &plain } else { &plain[..8] };
     let choice = match extent {
         Extent::Longest => random.pick(&[1, 2]),
-        _ => random.below(10),
+        _ => random.below(11),
     };
     match choice {
         0 => format!("{}{}", sign, different_codes(random, extent, plain)),
@@ -387,6 +387,7 @@ fn weather_codes(random: &mut Random, extent: Extent, bare: bool, automatic: boo
             let sign = if sign == "-" { "" } else { sign };
             format!("{}{}", sign, random.pick(&["FC", "PO"]))
         }
+        9 => "TS".to_string(),
         _ => random
             .pick(&["BR", "FG", "FU", "VA", "DU", "SA", "HZ", "SQ", "PO", "FC"])
             .to_string(),
@@ -1042,16 +1043,16 @@ const VISIBILITY_MISSES: [&str; 14] = [
     "0025", "0825", "0850", "0950", "4950", "5100", "5500", "9500", "9998", "99//", "////", "10/5",
     "999/", "CAVOK",
 ];
-const RECENT_MISSES: [&str; 15] = [
-    "RE+RA", "RE-DS", "REVCSH", "REVCFG", "REVC", "RETS", "RESH", "REUP", "RERAUP", "RERARA",
-    "REFZFGRA", "RE//", "REMIRA", "RE+", "RENSW",
+const RECENT_MISSES: [&str; 17] = [
+    "RE+RA", "RE-DS", "REVCSH", "REVCFG", "REVC", "RE-TS", "REVCTS", "RETSTS", "RESH", "REUP",
+    "RERAUP", "RERARA", "REFZFGRA", "RE//", "REMIRA", "RE+", "RENSW",
 ];
-const WEATHER_MISSES: [&str; 48] = [
+const WEATHER_MISSES: [&str; 50] = [
     "+BLSN", "-DRSN", "+DRSN", "+DRSA", "-FC", "-PO", "+FG", "-FZFG", "+SQ", "+VA", "RARA",
     "RASNRA", "RASNPLGS", "SHDZ", "SHUP", "TSUP", "SHRARA", "TSGRGSGR", "FZSN", "FZDZSN", "FZFGDZ",
-    "FZUP", "MIRA", "MI", "TS", "SH", "-TS", "VCRA", "VCSHRA", "VCFZFG", "+VCFG", "-VCTS",
-    "VCDRSN", "VCBL", "VC", "BLRA", "BLSNRA", "DRSADU", "DUSA", "FGBR", "RAFG", "SHRAFG", "TSSHRA",
-    "UP", "-UP", "RAUP", "//", "NSW",
+    "FZUP", "MIRA", "MI", "SH", "-TS", "+TS", "TSTS", "TSFG", "VCRA", "VCSHRA", "VCFZFG", "+VCFG",
+    "-VCTS", "VCDRSN", "VCBL", "VC", "BLRA", "BLSNRA", "DRSADU", "DUSA", "FGBR", "RAFG", "SHRAFG",
+    "TSSHRA", "UP", "-UP", "RAUP", "//", "NSW",
 ];
 
 /// A right group put where it does not agree with the others, as far as its look tells.
@@ -1067,7 +1068,7 @@ fn disagree(random: &mut Random, at: usize, groups: &mut Vec<String>) {
         "000150KT",
     ];
     let skies = ["SKC", "NSC", "NCD", "VV000", "FEW000", "OVC999"];
-    let weathers = ["NSW", "UP", "RAUP", "RA", "FG", "-DZ"];
+    let weathers = ["NSW", "UP", "RAUP", "RA", "FG", "-DZ", "TS"];
     if groups[0] == "AAXX" || groups[0] == "BBXX" {
         let late = [
             "00123", "00099", "6////", "60011", "7////", "71122", "80099", "82000", "/0007",

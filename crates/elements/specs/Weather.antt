@@ -143,7 +143,8 @@ joined (c ∷ cs) = cond (isDescriptor c) (Under c cs) (Bare (c ∷ cs))
 
 abbrev pub right : Joined → Bool
 right (Bare cs) = bare cs
-right (Under d cs) = suits d cs
+-- "TS alone is accepted in METAR, SPECI, TAF and as RETS." (document 02, No. 3)
+right (Under d cs) = (one "TS" d && eqb (length cs) 0) || suits d cs
 
 -- "VC stands before only DS SS FG FC SH TS PO BLDU BLSA BLSN VA."
 abbrev pub inVicinity : Joined → Bool

@@ -1,7 +1,8 @@
 -- What codes that are joined as they may be are: codes of the table, a descriptor only in front, one or more, and after VC at most one beside it.
+-- And which descriptors stand alone.
 -- Assumes nothing.
 use mathlib.Core.Path.{_≡_, refl}
-use mathlib.Core.Bool.{Bool, true, false, cond, not, _&&_}
+use mathlib.Core.Bool.{Bool, true, false, cond, not, _&&_, and-true, and-false, or-false}
 use mathlib.Core.List.{List, [], _∷_}
 use Prim.Native.Nat.{ℕ, _≤_}
 use native.Mathlib.Omega.{arith}
@@ -14,7 +15,7 @@ use Rattle.record.specs.declared.aerodrome.Intensity.{Intensity}
 use Rattle.record.specs.declared.aerodrome.Intensity.the-variants as intensity
 use Rattle.record.specs.declared.aerodrome.Code.{Code}
 use Rattle.record.specs.declared.aerodrome.Code.the-variants as code
-use Rattle.elements.specs.Weather.{codesOf, among, one, isDescriptor, isPrecipitation, isPhenomenon, allAmong, differ, precipitations, single, suits, listed, under, joined, right, inVicinity, isDescribed, intensityFits}
+use Rattle.elements.specs.Weather.{codesOf, among, one, isDescriptor, isPrecipitation, isPhenomenon, allAmong, differ, precipitations, single, suits, bare, listed, under, Under, joined, right, inVicinity, isDescribed, intensityFits}
 use Rattle.weather.proofs.Table.{in-table, all-in-table}
 
 -- the codes of the table other than descriptors and VC; other than VC
@@ -78,20 +79,28 @@ module _ (cs : List (List ℕ)) where
       (λ h. either (one "DRBL" d) _ _ h drift
       (λ h. either (one "SHTS" d) _ _ h (fallen-as _) (λ h. or-cases (single (one "FG") cs) _ h fog (fallen-as _))))
 
-  right-plain : (d : Code) → right (under d cs) ≡ true → Plain cs
-  right-plain code.None h = or-cases (single isPhenomenon cs) (precipitations cs) h (lone (codesOf (bytes "BRFGFUVADUSAHZPOSQFCSSDS")) (unfold codesOf in refl)) fallen
-  right-plain (code.Letters a b) h = suits-plain (a ∷ b ∷ []) h
-
-  -- after VC
-  dusty : single (one "DSSSFGFCPOVA") cs ≡ true → Plain cs
-  dusty = lone (codesOf (bytes "DSSSFGFCPOVA")) (unfold codesOf in refl)
-
   none-plain : length cs ≡ 0 → allAmong isPlain cs ≡ true
   none-plain = go cs
     where
       go : (l : List (List ℕ)) → length l ≡ 0 → allAmong isPlain l ≡ true
       go [] e = refl
       go (c ∷ l) e = absurd (omega arith)
+
+  -- with no descriptor there is a code
+  bare-plain : bare cs ≡ true → Plain cs
+  bare-plain h = or-cases (single isPhenomenon cs) (precipitations cs) h (lone (codesOf (bytes "BRFGFUVADUSAHZPOSQFCSSDS")) (unfold codesOf in refl)) fallen
+
+  -- under one there may be none, as TS stands alone
+  right-plain : (d : Code) → right (under d cs) ≡ true → allAmong isPlain cs ≡ true
+  right-plain code.None h = bare-plain h .1
+  right-plain (code.Letters a b) h =
+      or-cases (one "TS" (a ∷ b ∷ []) && eqb (length cs) 0) (suits (a ∷ b ∷ []) cs) h
+      (λ h. none-plain (eqb-true (length cs) 0 (both (one "TS" (a ∷ b ∷ [])) _ h .1)))
+      (λ h. suits-plain (a ∷ b ∷ []) h .1)
+
+  -- after VC
+  dusty : single (one "DSSSFGFCPOVA") cs ≡ true → Plain cs
+  dusty = lone (codesOf (bytes "DSSSFGFCPOVA")) (unfold codesOf in refl)
 
   near-plain : (d : Code) → inVicinity (under d cs) ≡ true → (allAmong isPlain cs ≡ true) × (length cs ≤ 1)
   near-plain code.None h = (dusty h .1, omega (arith, single-one cs (one "DSSSFGFCPOVA") h))
@@ -101,16 +110,16 @@ module _ (cs : List (List ℕ)) where
       (λ h. let s = both (one "BL" (a ∷ b ∷ [])) _ h .1 in (drift s .1, omega (arith, single-one cs (one "DUSASN") s)))
 
   pub fit-plain : (i : Intensity) (d : Code) → intensityFits i (under d cs) ≡ true → allAmong isPlain cs ≡ true
-  fit-plain intensity.None d h = right-plain d h .1
-  fit-plain intensity.Light d h = right-plain d (both (right (under d cs)) _ h .0) .1
-  fit-plain intensity.Heavy d h = right-plain d (both (right (under d cs)) _ h .0) .1
+  fit-plain intensity.None d h = right-plain d h
+  fit-plain intensity.Light d h = right-plain d (both (right (under d cs)) _ h .0)
+  fit-plain intensity.Heavy d h = right-plain d (both (right (under d cs)) _ h .0)
   fit-plain intensity.Vicinity d h = near-plain d h .0
 
   -- without a descriptor there is a code
   pub fit-some : (i : Intensity) → intensityFits i (under code.None cs) ≡ true → 1 ≤ length cs
-  fit-some intensity.None h = right-plain code.None h .0
-  fit-some intensity.Light h = right-plain code.None (both (right (under code.None cs)) _ h .0) .0
-  fit-some intensity.Heavy h = right-plain code.None (both (right (under code.None cs)) _ h .0) .0
+  fit-some intensity.None h = bare-plain h .0
+  fit-some intensity.Light h = bare-plain (both (bare cs) _ h .0) .0
+  fit-some intensity.Heavy h = bare-plain (both (bare cs) _ h .0) .0
   fit-some intensity.Vicinity h = dusty h .0
 
   -- after VC at most one code beside the descriptor
@@ -127,6 +136,28 @@ module _ (cs : List (List ℕ)) where
       go : (d : Code) → isDescribed d ≡ true → allAmong isJoined (listed d cs) ≡ true
       go code.None e = rest
       go (code.Letters a b) e = rw (in-table isJoined (codesOf (bytes "MIBCPRDRBLSHTSFZ")) (unfold codesOf in refl) (a ∷ b ∷ []) e) rest
+
+-- ---- WHICH DESCRIPTORS STAND ALONE, in a text and in a record: TS, after VC also SH, and after a sign none
+
+abbrev pub aloneAfter : Intensity → List ℕ → Bool
+aloneAfter intensity.None d = one "TS" d
+aloneAfter intensity.Light d = false
+aloneAfter intensity.Heavy d = false
+aloneAfter intensity.Vicinity d = one "SHTS" d
+
+-- codes that suit a descriptor are at least one
+suits-none : (d : List ℕ) → suits d [] ≡ false
+suits-none d = go (suits d []) refl
+  where
+    go : (b : Bool) → suits d [] ≡ b → suits d [] ≡ false
+    go true e = absurd (omega (arith, suits-plain [] d e .0))
+    go false e = e
+
+pub stands-alone : (i : Intensity) (d : List ℕ) → intensityFits i (Under d []) ≡ aloneAfter i d
+stands-alone intensity.None d = rw (suits-none d, and-true (one "TS" d), or-false (one "TS" d))
+stands-alone intensity.Light d = and-false (right (Under d []))
+stands-alone intensity.Heavy d = and-false (right (Under d []))
+stands-alone intensity.Vicinity d = rw (and-true (one "SHTS" d), and-false (one "BL" d), or-false (one "SHTS" d))
 
 -- no plain code is a descriptor
 plain-only : (c : List ℕ) → isPlain c ≡ true → isDescriptor c ≡ false

@@ -109,7 +109,9 @@ pub fn is_right(d: Code, s: &[u8]) -> bool
 {
     match d {
         Code::None => is_single(b"BRFGFUVADUSAHZPOSQFCSSDS", s) | are_precipitations(s),
-        Code::Letters { first, second } => suit(first, second, s),
+        Code::Letters { first, second } => {
+            (is_one(b"TS", first, second) & (s.len() / 2 == 0)) | suit(first, second, s)
+        }
     }
 }
 
