@@ -11,7 +11,10 @@ use record::surface::Synop;
 use text::kinds::Refusal;
 use text::kinds::Verdict;
 ghost use mathlib.Core.Path.{_≡_};
-ghost use Rattle.report_record.specs.Record.{kindBy, ofSurface, ofObserved, ofForecast, refused};
+ghost use Rattle.record.specs.Blank.{blankSynop};
+ghost use Rattle.record.specs.Trend.{blankMetar};
+ghost use Rattle.record.specs.Taf.{blankTaf};
+ghost use Rattle.report_record.specs.Record.{reportOf, kindBy, ofSurface, ofObserved, ofForecast, refused};
 
 // The report of an accepted text has its kind, that of a refused one none.
 fn kind_by(verdict: Verdict, kind: Kind) -> Kind
@@ -26,74 +29,55 @@ fn kind_by(verdict: Verdict, kind: Kind) -> Kind
     }
 }
 
+// A report of this kind in which nothing is said: the parts that a reading does not fill.
+fn blank_report(kind: Kind) -> Report
+    ensures { λ r. ⌜ r ≡ reportOf kind blankSynop blankMetar blankTaf ⌝ }
+{
+    let surface = blank_synop();
+    let observed = blank_metar();
+    let forecast = blank_taf();
+    Report {
+        kind,
+        surface,
+        observed,
+        forecast,
+    }
+}
+
 // What the reader of SYNOP and SHIP answers; where it refuses the text, its record is blank.
 pub fn of_surface(verdict: Verdict, surface: Synop) -> Reading
     ensures { λ r. ⌜ r ≡ ofSurface verdict surface ⌝ }
 {
-    let kind = kind_by(verdict, Kind::Surface);
-    let observed = blank_metar();
-    let forecast = blank_taf();
-    Reading {
-        verdict,
-        report: Report {
-            kind,
-            surface,
-            observed,
-            forecast,
-        },
-    }
+    let mut report = blank_report(kind_by(verdict, Kind::Surface));
+    report.surface = surface;
+    Reading { verdict, report }
 }
 
 // The same of METAR and SPECI.
 pub fn of_observed(verdict: Verdict, observed: Metar) -> Reading
     ensures { λ r. ⌜ r ≡ ofObserved verdict observed ⌝ }
 {
-    let kind = kind_by(verdict, Kind::Observed);
-    let surface = blank_synop();
-    let forecast = blank_taf();
-    Reading {
-        verdict,
-        report: Report {
-            kind,
-            surface,
-            observed,
-            forecast,
-        },
-    }
+    let mut report = blank_report(kind_by(verdict, Kind::Observed));
+    report.observed = observed;
+    Reading { verdict, report }
 }
 
 // The same of TAF.
 pub fn of_forecast(verdict: Verdict, forecast: Taf) -> Reading
     ensures { λ r. ⌜ r ≡ ofForecast verdict forecast ⌝ }
 {
-    let kind = kind_by(verdict, Kind::Forecast);
-    let surface = blank_synop();
-    let observed = blank_metar();
-    Reading {
-        verdict,
-        report: Report {
-            kind,
-            surface,
-            observed,
-            forecast,
-        },
-    }
+    let mut report = blank_report(kind_by(verdict, Kind::Forecast));
+    report.forecast = forecast;
+    Reading { verdict, report }
 }
 
 // A text that no kind's reader has seen.
 pub fn refuse(refusal: Refusal, place: usize) -> Reading
     ensures { λ r. ⌜ r ≡ refused refusal place ⌝ }
 {
-    let surface = blank_synop();
-    let observed = blank_metar();
-    let forecast = blank_taf();
+    let report = blank_report(Kind::Missing);
     Reading {
         verdict: Verdict::Refused { refusal, place },
-        report: Report {
-            kind: Kind::Missing,
-            surface,
-            observed,
-            forecast,
-        },
+        report,
     }
 }
