@@ -17,9 +17,10 @@ ghost use mathlib.Core.Path.{_≡_};
 ghost use lib.ListN.{length};
 ghost use Rattle.report_record.specs.declared.kinds.Kind.the-variants as kind;
 ghost use Rattle.text.specs.Groups.{groupsFrom};
-ghost use Rattle.report.specs.Read.{nameBy, firstName, nameOf, readOf, restPlace, restOf};
+ghost use Rattle.text.specs.Part.{PartAt};
+ghost use Rattle.report.specs.Read.{nameBy, firstName, nameOf, readOf, restPlace};
 ghost use Rattle.report.specs.Write.{writtenBy, bufferAfter, writtenOf, bufferOf};
-ghost use Rattle.report.specs.Standing.{standsOf, standingOf};
+ghost use Rattle.report.specs.Standing.{standsOf, PartStanding};
 
 // ---- reading
 
@@ -141,13 +142,13 @@ pub fn rest_place(text: &[u8]) -> usize
     }
 }
 
-// The unread rest, a part of the caller's text.
+// The unread rest, where it lies in the caller's text: from its place to the text's end.
 pub fn rest(text: &[u8]) -> &[u8]
-    ensures { λ r. ⌜ now r ≡ restOf (now (text .entry)) ⌝ }
+    ensures { λ r. ⌜ PartAt (text .entry) r (restPlace (now (text .entry))) (length (now (text .entry))) ⌝ }
 {
     let place = rest_place(text);
     let end = text.len();
-    text::part(text, place, end)
+    text::part_at(text, place, end)
 }
 
 // ---- writing: the parts of the other kinds are judged first
@@ -205,7 +206,7 @@ pub fn which_stands(first: &[u8], second: &[u8]) -> Stands
 
 // The standing text's trimmed part, a part of whichever it stands in; where neither stands, the empty part at the first one's end.
 pub fn standing<'a>(first: &'a [u8], second: &'a [u8]) -> &'a [u8]
-    ensures { λ r. ⌜ now r ≡ standingOf (now (first .entry)) (now (second .entry)) ⌝ }
+    ensures { λ r. ⌜ PartStanding (standsOf (now (first .entry)) (now (second .entry))) (first .entry) (second .entry) r ⌝ }
 {
     let stands = which_stands(first, second);
     match stands {
@@ -213,7 +214,7 @@ pub fn standing<'a>(first: &'a [u8], second: &'a [u8]) -> &'a [u8]
         Stands::Second => text::trimmed(second),
         Stands::Neither => {
             let end = first.len();
-            text::part(first, end, end)
+            text::part_at(first, end, end)
         }
     }
 }

@@ -24,12 +24,8 @@ part-is t s e h k = simp (le-leb s e h, le-leb e (length t) k)
 pub part-length : (t : List ℕ) (s e : ℕ) → s ≤ e → e ≤ length t → length (partOf t s e) ≡ e - s
 part-length t s e h k = ap length (part-is t s e h k) ∙ length-take-le (e - s) (drop s t) (omega (arith, length-drop s t))
 
--- no part where it would end before its start, or past the text
-pub part-none : (t : List ℕ) (s e : ℕ) → e < s → partOf t s e ≡ []
-unfolding partOf
-part-none t s e h = simp (lt-leb s e h)
-
-pub part-over : (t : List ℕ) (s e : ℕ) → s ≤ e → length t < e → partOf t s e ≡ []
+-- no part where it would end past the text
+part-over : (t : List ℕ) (s e : ℕ) → s ≤ e → length t < e → partOf t s e ≡ []
 unfolding partOf
 part-over t s e h k = simp (le-leb s e h, lt-leb e (length t) k)
 

@@ -18,7 +18,7 @@ use Rattle.text.specs.Groups.{Piece, groupsIn, groupsFrom, partOf, space
 use Rattle.text.specs.Text.{equalsAt, bytesOf, tailOf, trimmedOf}
 use Rattle.text.proofs.Leads.{lead-cons-yes, lead-cons-no, lead-end}
 use Rattle.text.proofs.Groups.{at-group, inner-not-parting, part-is}
-use Rattle.text.proofs.Texts.{bytes-sound, tail-clear, trimmed-equals}
+use Rattle.text.proofs.Texts.{bytes-sound, tail-clear, trimmed-start, trimmed-equals}
 
 -- ---- lists of which each byte passes a test
 module _ (P : ℕ → Bool) where
@@ -126,14 +126,18 @@ pub join-trimmed : (gs : List (List ℕ)) → 0 < length gs → Wholes gs → tr
 join-trimmed [] h w = absurd (omega arith)
 join-trimmed ([] ∷ gs) h w = absurd (w .0 .0)
 join-trimmed ((x ∷ g) ∷ gs) h w =
-    trimmed-equals (join hs) n (sym (join-equals hs w)) 0 (sym none) some (omega (arith, length-join hs))
-    ∙ whole-part (join hs) (n + 1) (sym (length-join hs))
+    unfold trimmedOf in
+    rw (trimmed-start (join hs) n equals 0 (sym none) some, trimmed-equals (join hs) n equals 0 (sym none) some (omega (arith, length-join hs)))
+    (whole-part (join hs) (n + 1) (sym (length-join hs)))
   where
     hs : List (List ℕ)
     hs = (x ∷ g) ∷ gs
 
     n : ℕ
     n = length (parted hs)
+
+    equals : n ≡ equalsAt (join hs)
+    equals = sym (join-equals hs w)
 
     none : lead parting (join hs) ≡ 0
     none = unfold join parted in lead-cons-no parting x ((g ++ spaced gs) ++ (61 ∷ [])) (inner-not-parting x (w .0 .1 .0))

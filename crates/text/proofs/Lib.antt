@@ -2,6 +2,7 @@
 -- Assumes nothing.
 pub mod Leads
 pub mod Groups
+pub mod Parts
 pub mod Texts
 pub mod Joins
 pub mod Writes

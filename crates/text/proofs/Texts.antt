@@ -2,7 +2,7 @@
 -- Assumes nothing.
 use mathlib.Core.Path.{_≡_, sym, _∙_}
 use mathlib.Core.Bool.{or-true}
-use mathlib.Core.List.{List, []}
+use mathlib.Core.List.{List}
 use Prim.Native.Nat.{ℕ, _+_, _≤_, _<_}
 use native.Mathlib.Omega.{arith}
 use borrow.Author.Tests.{le-leb, lt-leb, lt-ltb, le-ltb, eq-eqb, ne-eqb}
@@ -10,8 +10,8 @@ use lib.ListN.{length, drop}
 use Rattle.text.specs.declared.kinds.Bytes.the-variants.{Sound, Length, Byte}
 use Rattle.text.specs.declared.kinds.Tail.the-variants.{Clear, Junk}
 use Rattle.text.specs.Bytes.{parting, allowed, lead, lastEnd}
-use Rattle.text.specs.Groups.{pastParting, partOf}
-use Rattle.text.specs.Text.{equalsAt, bytesOf, junkFrom, tailOf, trimmedEnd, trimmedOf}
+use Rattle.text.specs.Groups.{pastParting}
+use Rattle.text.specs.Text.{equalsAt, bytesOf, junkFrom, tailOf, isBare, trimmedStart, trimmedEnd}
 use Rattle.text.proofs.Groups.{past-end, past-within}
 
 -- ---- its length and bytes
@@ -63,14 +63,18 @@ module _ (t : List ℕ) (q : ℕ) (equals : q ≡ equalsAt t) where
 
   -- s is the first position that holds no parting byte
   module _ (s : ℕ) (first : s ≡ lead parting t) where
-    pub trimmed-none : q ≤ s → trimmedOf t ≡ []
-    unfolding trimmedOf
-    trimmed-none h = rw (← equals, ← first, le-leb q s h)
+    pub trimmed-none : q ≤ s → (trimmedStart t ≡ length t) × (trimmedEnd t ≡ length t)
+    unfolding trimmedStart trimmedEnd isBare
+    trimmed-none h = (rw (← equals, ← first, le-leb q s h), rw (← equals, ← first, le-leb q s h))
 
-    pub trimmed-equals : s < q → q < length t → trimmedOf t ≡ partOf t s (q + 1)
-    unfolding trimmedOf trimmedEnd
+    pub trimmed-start : s < q → trimmedStart t ≡ s
+    unfolding trimmedStart isBare
+    trimmed-start h = rw (← equals, ← first, lt-leb q s h)
+
+    pub trimmed-equals : s < q → q < length t → trimmedEnd t ≡ q + 1
+    unfolding trimmedEnd isBare
     trimmed-equals h k = rw (← equals, ← first, lt-leb q s h, lt-ltb q (length t) k)
 
-    pub trimmed-last : s < q → length t ≤ q → trimmedOf t ≡ partOf t s (lastEnd t)
-    unfolding trimmedOf trimmedEnd
+    pub trimmed-last : s < q → length t ≤ q → trimmedEnd t ≡ lastEnd t
+    unfolding trimmedEnd isBare
     trimmed-last h k = rw (← equals, ← first, lt-leb q s h, le-ltb q (length t) k)

@@ -1,12 +1,14 @@
 -- What is judged over a text as a whole: its length and bytes, what follows its "=", and its trimmed part.
 -- Assumes nothing: these are definitions.
 use Prim.Native.Nat.{ℕ, _+_}
-use mathlib.Core.Bool.{cond, _||_}
-use mathlib.Core.List.{List, []}
+use mathlib.Core.Bool.{Bool, cond, _||_}
+use mathlib.Core.List.{List}
 use lib.ListN.{length}
 use lib.Dec.{leb, ltb, eqb}
+use denote.Ref.{RefT, now}
 use Rattle.text.specs.Bytes.{parting, other, allowed, lead, lastEnd}
 use Rattle.text.specs.Groups.{partOf, pastParting}
+use Rattle.text.specs.Part.{PartAt}
 use Rattle.text.specs.declared.kinds.Tail.{Tail}
 use Rattle.text.specs.declared.kinds.Tail.the-variants.{Clear, Junk}
 use Rattle.text.specs.declared.kinds.Bytes.{Bytes}
@@ -30,10 +32,21 @@ junkFrom text p = cond (ltb (pastParting text p) (length text)) (Junk (pastParti
 unfoldable pub tailOf : List ℕ → Tail
 tailOf text = junkFrom text (equalsAt text + 1)
 
--- where the trimmed part ends: "through the first "=" or, without one, the last group"
-unfoldable pub trimmedEnd : List ℕ → ℕ
-trimmedEnd text = cond (ltb (equalsAt text) (length text)) (equalsAt text + 1) (lastEnd text)
+-- does no group stand before an "=" or the end?
+unfoldable pub isBare : List ℕ → Bool
+isBare text = leb (equalsAt text) (lead parting text)
 
--- "It runs from the first group's first byte"; where no group stands before an "=" or the end it is empty
+-- "It runs from the first group's first byte"; the text's end where there is no group
+unfoldable pub trimmedStart : List ℕ → ℕ
+trimmedStart text = cond (isBare text) (length text) (lead parting text)
+
+-- "through the first "=" or, without one, the last group"; the text's end where there is no group
+unfoldable pub trimmedEnd : List ℕ → ℕ
+trimmedEnd text = cond (isBare text) (length text) (cond (ltb (equalsAt text) (length text)) (equalsAt text + 1) (lastEnd text))
+
 unfoldable pub trimmedOf : List ℕ → List ℕ
-trimmedOf text = cond (leb (equalsAt text) (lead parting text)) [] (partOf text (lead parting text) (trimmedEnd text))
+trimmedOf text = partOf text (trimmedStart text) (trimmedEnd text)
+
+-- r is the trimmed part of the text t, where it lies in t
+abbrev pub TrimmedPart : RefT (List ℕ) → RefT (List ℕ) → Type 0
+TrimmedPart t r = PartAt t r (trimmedStart (now t)) (trimmedEnd (now t))

@@ -8,14 +8,14 @@ use kinds::Cut;
 use kinds::Refusal;
 use kinds::Tail;
 ghost use mathlib.Core.Path.{_≡_};
-ghost use mathlib.Core.List.{_∷_, []};
 ghost use Prim.Native.Nat.{_+_};
-ghost use lib.ListN.{drop};
+ghost use lib.ListN.{length, drop};
 ghost use Rattle.figures.specs.Figures.{every};
 ghost use Rattle.text.specs.Refusals.{numberOf};
 ghost use Rattle.text.specs.Bytes.{parting, inner, allowed, passes, lead, lastEnd};
 ghost use Rattle.text.specs.Groups.{nextOf, partOf};
-ghost use Rattle.text.specs.Text.{bytesOf, tailOf, trimmedOf};
+ghost use Rattle.text.specs.Part.{PartAt};
+ghost use Rattle.text.specs.Text.{bytesOf, tailOf, TrimmedPart};
 
 // Document 01's number of a refusal.
 pub fn refusal_number(r: Refusal) -> u8
@@ -124,15 +124,15 @@ pub fn next_group(text: &[u8], at: usize) -> Cut
 
 // The empty part at the text's end.
 fn no_part(text: &[u8]) -> &[u8]
-    ensures { λ r. ⌜ now r ≡ [] ⌝ }
+    ensures { λ r. ⌜ PartAt (text .entry) r (length (now (text .entry))) (length (now (text .entry))) ⌝ }
 {
     let over = text.len();
     &text[over..]
 }
 
-// The part of the text from start up to end; the empty part at the text's end where there is no such part.
-pub fn part(text: &[u8], start: usize, end: usize) -> &[u8]
-    ensures { λ r. ⌜ now r ≡ partOf (now (text .entry)) start end ⌝ }
+// The part of the text from start up to end, where it lies in the caller's text; the empty part at the text's end where there is no such part.
+pub fn part_at(text: &[u8], start: usize, end: usize) -> &[u8]
+    ensures { λ r. ⌜ PartAt (text .entry) r start end ⌝ }
 {
     if start <= end {
         if end <= text.len() {
@@ -140,6 +140,13 @@ pub fn part(text: &[u8], start: usize, end: usize) -> &[u8]
         }
     }
     no_part(text)
+}
+
+// The same part for its bytes, which are all that a reader asks of a group.
+pub fn part(text: &[u8], start: usize, end: usize) -> &[u8]
+    ensures { λ r. ⌜ now r ≡ partOf (now (text .entry)) start end ⌝ }
+{
+    part_at(text, start, end)
 }
 
 // The position after the last byte that is no parting byte; 0 where all are.
@@ -206,7 +213,7 @@ pub fn tail(text: &[u8]) -> Tail
 // From the first group's first byte through the first "=" or, without one, the last group; the empty part at the text's end where no group
 // stands before an "=" or the end.
 pub fn trimmed(text: &[u8]) -> &[u8]
-    ensures { λ r. ⌜ now r ≡ trimmedOf (now (text .entry)) ⌝ }
+    ensures { λ r. ⌜ TrimmedPart (text .entry) r ⌝ }
 {
     let start = reach(text, 0, Run::Parting);
     let equals = reach(text, 0, Run::Other);
@@ -214,8 +221,8 @@ pub fn trimmed(text: &[u8]) -> &[u8]
         return no_part(text);
     }
     if equals < text.len() {
-        part(text, start, equals + 1)
+        part_at(text, start, equals + 1)
     } else {
-        part(text, start, find_last_end(text))
+        part_at(text, start, find_last_end(text))
     }
 }

@@ -3,7 +3,8 @@
 use text::kinds::Cut;
 ghost use mathlib.Core.Path.{_≡_};
 ghost use Rattle.text.specs.Groups.{nextOf};
-ghost use Rattle.walker.specs.Walk.{afterOf, groupBytes};
+ghost use Rattle.text.specs.Part.{PartAt};
+ghost use Rattle.walker.specs.Walk.{startOf, afterOf};
 
 pub struct Walker<'a> {
     // The whole report.
@@ -22,13 +23,13 @@ pub fn after(cut: Cut) -> usize
     }
 }
 
-// The bytes of what was given: a group's own, as a part of the text; the empty part where the groups ended.
+// The bytes of what was given: a group's own, where they lie in the text; the empty part where the groups ended.
 pub fn bytes_at(text: &[u8], cut: Cut) -> &[u8]
-    ensures { λ r. ⌜ now r ≡ groupBytes (now (text .entry)) cut ⌝ }
+    ensures { λ r. ⌜ PartAt (text .entry) r (startOf cut) (afterOf cut) ⌝ }
 {
     match cut {
-        Cut::Group { start, end } => text::part(text, start, end),
-        Cut::End { at } => text::part(text, at, at),
+        Cut::Group { start, end } => text::part_at(text, start, end),
+        Cut::End { at } => text::part_at(text, at, at),
     }
 }
 
@@ -65,9 +66,9 @@ pub fn next<'s, 'a>(w: &'s mut Walker<'a>) -> Cut
     cut
 }
 
-// The bytes of what the walker gave.
+// The bytes of what the walker gave, where they lie in the text that it holds.
 pub fn bytes_of<'a>(w: Walker<'a>, cut: Cut) -> &'a [u8]
-    ensures { λ r. ⌜ now r ≡ groupBytes (now (w .entry .text)) cut ⌝ }
+    ensures { λ r. ⌜ PartAt (w .entry .text) r (startOf cut) (afterOf cut) ⌝ }
 {
     bytes_at(w.text, cut)
 }

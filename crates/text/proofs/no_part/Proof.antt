@@ -1,7 +1,9 @@
 -- `text::no_part` meets its contract: nothing stands after a text's end.
 -- Assumes nothing.
+use mathlib.Core.Path.{refl}
+use native.Mathlib.Omega.{arith}
 use borrow.Author.Needs.{needs}
-use lib.Seq.{drop-length, take-nil}
+use Rattle.text.proofs.Parts.{cut-at}
 use Rattle.text.proofs.no_part.Statement.{statement}
 use Rattle.text.proofs.no_part.Tie as tie
 
@@ -10,4 +12,4 @@ no-part-spec =
     tie.close
     (tie.spec
     (λ c. search needs) (λ c. search needs) (λ c. search needs)
-    (λ c. rw (drop-length, take-nil)))
+    (λ c. cut-at _ _ _ _ (omega arith) (omega arith) refl refl refl))

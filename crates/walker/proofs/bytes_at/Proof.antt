@@ -1,8 +1,6 @@
--- `walker::bytes_at` meets its contract: a group's part as it is cut, and a part from a position up to itself, which is empty.
+-- `walker::bytes_at` meets its contract: a group's part as it is cut, and the part from a position up to itself.
 -- Assumes nothing.
-use mathlib.Core.Path.{_∙_}
 use borrow.Author.Needs.{needs}
-use Rattle.text.proofs.Groups.{part-nothing}
 use Rattle.walker.proofs.bytes_at.Statement.{statement}
 use Rattle.walker.proofs.bytes_at.Tie as tie
 
@@ -11,5 +9,5 @@ bytes-at-spec =
     tie.close
     (tie.spec
     (λ c. search needs) (λ c κs. search needs) (λ c. search needs) (λ c κs. search needs)
-    (λ c. rw (c .before .before .cut .given .1) (c .part .ensures))
-    (λ c. rw (c .before .before .cut2 .given .1) (c .part2 .ensures ∙ part-nothing _ _)))
+    (λ c. rw (c .before .before .cut .given .1) (c .part-at .ensures))
+    (λ c. rw (c .before .before .cut2 .given .1) (c .part-at2 .ensures)))
