@@ -3,7 +3,6 @@ pub mod DegreesLaws
 pub mod DirectionLaws
 pub mod Laws
 pub mod Listed
-pub mod MarkedRows
 pub mod MetresLaws
 pub mod MetresRounds
 pub mod PressureLaws

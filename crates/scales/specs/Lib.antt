@@ -3,4 +3,3 @@ pub mod Metres
 pub mod Rounded
 pub mod Degrees
 pub mod Fields
-pub mod MarkedRows

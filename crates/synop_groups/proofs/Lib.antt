@@ -5,3 +5,4 @@ pub mod RoundTripFields
 pub mod RoundTripScales
 pub mod RoundTripHead
 pub mod RoundTrip
+pub mod MarkedRows

@@ -4,3 +4,4 @@ pub mod Reads
 pub mod Shows
 pub mod Judge
 pub mod Classes
+pub mod MarkedRows

@@ -1,4 +1,5 @@
--- "Lines that settle arguments": the rows marked *, as one list. Each row has the text that the definitions give and the text that the paper states.
+-- "Lines that settle arguments": the rows marked *, as one list. Each row has the text that the definitions give and the text that the paper states. A figure
+-- is asked of its scale; a refusal is asked of the group's own definition. The list stands here because both are seen from here.
 -- Assumes nothing: these are definitions.
 use Prim.Native.Nat.{ℕ}
 use mathlib.Core.Bool.{cond}
@@ -7,23 +8,21 @@ use lib.IntN.{pos, negsuc}
 use Rattle.figures.specs.Quote.{bytes}
 use Rattle.figures.specs.Figures.{figures}
 use Rattle.text.specs.Refusals.{numberOf}
-use Rattle.text.specs.declared.kinds.Refusal.the-variants as refusal
-use Rattle.scales.specs.Metres.{land, base, visibility, cloud, metresFigure, metresReading, rangeFigure}
+use Rattle.scales.specs.Metres.{land, base, visibility, cloud, metresFigure, rangeFigure}
 use Rattle.scales.specs.Rounded.{rainFigure, directionFigure}
-use Rattle.scales.specs.Degrees.{degreesOf, signedReading}
+use Rattle.scales.specs.Degrees.{degreesOf}
 use Rattle.scales.specs.declared.kinds.Figure.{Figure}
 use Rattle.scales.specs.declared.kinds.Figure.the-variants as figure
-use Rattle.scales.specs.declared.kinds.Reading.{Reading}
-use Rattle.scales.specs.declared.kinds.Reading.the-variants as reading
 use Rattle.scales.specs.declared.kinds.Range.{Range}
 use Rattle.scales.specs.declared.kinds.Range.the-variants.{Below, Exact, Above}
 use Rattle.scales.specs.declared.kinds.RangeFigure.{RangeFigure}
 use Rattle.scales.specs.declared.kinds.RangeFigure.the-variants as range
 use Rattle.scales.specs.declared.kinds.Degrees.{Degrees}
 use Rattle.scales.specs.declared.kinds.Degrees.the-variants as degrees
-use Rattle.scales.specs.declared.kinds.Tenths.{Tenths}
-use Rattle.scales.specs.declared.kinds.Tenths.the-variants as tenths
 use Rattle.scales.specs.declared.kinds.Rain.the-variants as rain
+use Rattle.synop_groups.specs.declared.kinds.Said.{Said}
+use Rattle.synop_groups.specs.declared.kinds.Said.the-variants as said
+use Rattle.synop_groups.specs.Reads.{saidAir, saidIndicators}
 
 -- ---- the texts of answers: figures at a width; what may not be written has no text
 abbrev asFigures : ℕ → Figure → List ℕ
@@ -43,17 +42,24 @@ abbrev asDegrees : Degrees → List ℕ
 asDegrees (degrees.Is minus whole) = cond minus (bytes "M") [] ++ figures 2 whole
 asDegrees degrees.OutOfRange = []
 
--- a figure without a reading is refused: "right shape, figure not in the table or range"; one with a reading is not
-abbrev refused : List ℕ
-refused = figures 1 (numberOf refusal.Figure)
-
-abbrev refusedReading : Reading → List ℕ
-refusedReading (reading.Is m) = []
-refusedReading reading.Unused = refused
-
-abbrev refusedTenths : Tenths → List ℕ
-refusedTenths (tenths.Is t) = []
-refusedTenths tenths.Unused = refused
+-- the number by which a group is refused; one that is read has none
+abbrev asRefusal : Said → List ℕ
+asRefusal (said.Refused f) = figures 1 (numberOf f)
+asRefusal (said.Time t) = []
+asRefusal (said.Station n) = []
+asRefusal (said.Position p) = []
+asRefusal (said.Indicators i) = []
+asRefusal (said.Wind w) = []
+asRefusal (said.Speed n) = []
+asRefusal (said.Air a) = []
+asRefusal (said.Moisture m) = []
+asRefusal (said.Pressure p) = []
+asRefusal (said.Level l) = []
+asRefusal (said.Tendency t) = []
+asRefusal (said.Rainfall r) = []
+asRefusal (said.Weather w) = []
+asRefusal (said.Clouds c) = []
+asRefusal (said.Clock c) = []
 
 -- ---- the rows: what is asked, what the definitions give, what the paper states
 pub record Row : Type 0 where
@@ -97,6 +103,6 @@ markedRows =
     (asFigures 3 (rainFigure (rain.Tenths 9)) ∷ asFigures 3 (rainFigure (rain.Tenths 10)) ∷ asFigures 3 (rainFigure (rain.Tenths 9885)) ∷ [])
     (bytes "999" ∷ bytes "001" ∷ bytes "989" ∷ [])
     ∷ row (bytes "11000; VV 55")
-    (refusedTenths (signedReading 1 0) ∷ refusedReading (metresReading land 55) ∷ [])
+    (asRefusal (saidAir (bytes "11000")) ∷ asRefusal (saidIndicators (bytes "43/55")) ∷ [])
     (bytes "5" ∷ bytes "5" ∷ [])
     ∷ []
