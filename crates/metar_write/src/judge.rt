@@ -17,21 +17,7 @@ use text::kinds::Judged;
 use weather_write::judge::judge_recents;
 use wind::judge::judge_variation;
 ghost use mathlib.Core.Path.{_≡_};
-ghost use mathlib.Core.Bool.{cond};
-ghost use Rattle.text.specs.declared.kinds.Judged.the-variants as judged;
-ghost use Rattle.text.specs.Judge.{andThen};
-ghost use Rattle.trend.specs.Write.{judgeTrend};
-ghost use Rattle.metar.specs.Write.{judgeHead, judgeObservation, judgeOf};
-
-// ---- the groups in written order
-
-fn judge_head(r: Observation) -> Judged
-    ensures { λ j. ⌜ j ≡ judgeHead r ⌝ }
-{
-    let station = r.station;
-    let time = r.time;
-    and_then(judge_station(station), judge_time(time))
-}
+ghost use Rattle.metar.specs.Write.{judgeObservation, judgeOf};
 
 fn judge_observation(r: Observation) -> Judged
     ensures { λ j. ⌜ j ≡ judgeObservation r ⌝ }
@@ -53,28 +39,23 @@ fn judge_observation(r: Observation) -> Judged
     and_then(wind_judged(false, true, body), from_variation)
 }
 
-// Of a NIL report there is nothing more to judge.
-fn judge_rest(nil: bool, r: Metar) -> Judged
-    ensures { λ j. ⌜ j ≡ cond nil judged.Fine (andThen (judgeObservation (r .observation)) (judgeTrend (r .trend))) ⌝ }
-{
-    if nil {
-        Judged::Fine
-    } else {
-        let observation = r.observation;
-        let trend = r.trend;
-        and_then(judge_observation(observation), judge_trend(trend))
-    }
-}
-
-// Foreign to a NIL report is what stands after its time.
+// Foreign to a NIL report is what stands after its time, and there is nothing more to judge of it.
 pub fn judge(r: Metar) -> Judged
     ensures { λ j. ⌜ j ≡ judgeOf r ⌝ }
 {
     let observation = r.observation;
     let trend = r.trend;
+    let station = observation.station;
+    let time = observation.time;
     let nil = observation.nil;
     let bare = observation.has_no_observation() & trend.is_blank();
     let foreign = judge_pair(!nil | bare, true);
-    let stood = and_then(judge_head(observation), judge_rest(nil, r));
-    and_then(foreign, stood)
+    let head = and_then(judge_station(station), judge_time(time));
+    if nil {
+        let fine = Judged::Fine;
+        and_then(foreign, and_then(head, fine))
+    } else {
+        let rest = and_then(judge_observation(observation), judge_trend(trend));
+        and_then(foreign, and_then(head, rest))
+    }
 }

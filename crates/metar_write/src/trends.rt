@@ -2,7 +2,6 @@
 use body::judge::has_element;
 use body::judge::judge_body;
 use body::write::put_body;
-use record::aerodrome::Body;
 use record::aerodrome::Tendency;
 use record::aerodrome::Trend;
 use record::aerodrome::TrendChange;
@@ -18,18 +17,11 @@ ghost use Prim.Native.Nat.{_≤_};
 ghost use lib.ListN.{take};
 ghost use Rattle.figures.specs.Put.{Put};
 ghost use Rattle.text.specs.Groups.{written};
-ghost use Rattle.trend.specs.Write.{judgeChangeBody, judgeChange, judgeEach, judgeTrend, showWord, showChange, showEach, showTrend};
+ghost use Rattle.trend.specs.Write.{judgeChange, judgeEach, judgeTrend, showWord, showChange, showEach, showTrend};
 
 // ---- judging
 
-fn judge_change_body(b: Body) -> Judged
-    ensures { λ j. ⌜ j ≡ judgeChangeBody b ⌝ }
-{
-    let told = judge_pair(has_element(b), true);
-    and_then(judge_body(true, false, true, false, b), told)
-}
-
-// Its word, which NOSIG must not stand beside, its times, its body.
+// Its word, which NOSIG must not stand beside, its times, its body, and that it has an element.
 fn judge_change(nosig: bool, c: TrendChange) -> Judged
     ensures { λ j. ⌜ j ≡ judgeChange nosig c ⌝ }
 {
@@ -39,7 +31,9 @@ fn judge_change(nosig: bool, c: TrendChange) -> Judged
     let body = c.body;
     let opened = judge_pair(!tendency.is_none(), !nosig);
     let timed = judge_pair(hours_fit(hours), true);
-    and_then(opened, and_then(timed, judge_change_body(body)))
+    let told = judge_pair(has_element(body), true);
+    let whole = and_then(judge_body(true, false, true, false, body), told);
+    and_then(opened, and_then(timed, whole))
 }
 
 // The first n changes.

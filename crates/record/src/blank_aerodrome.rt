@@ -44,7 +44,6 @@ ghost use mathlib.Core.Path.{_≡_};
 ghost use Rattle.record.specs.Body.{blankWind, blankWeathers, blankSky, blankBody};
 ghost use Rattle.record.specs.Observation.{blankRunways, blankObservation};
 ghost use Rattle.record.specs.Trend.{blankTrendChange, blankTrend, blankMetar};
-ghost use Rattle.record.specs.Trend.{blankTrendChange, blankTrend, blankMetar};
 ghost use Rattle.record.specs.Taf.{blankInstant, blankPeriod, blankLeg, blankChange, blankTaf};
 
 pub fn blank_station() -> Station
@@ -67,10 +66,14 @@ pub fn blank_instant() -> Instant
 fn blank_period() -> Period
     ensures { λ r. ⌜ r ≡ blankPeriod ⌝ }
 {
-    let instant = blank_instant();
+    let blank = Instant {
+        day: Number::Missing,
+        hour: Number::Missing,
+        minute: Number::Missing,
+    };
     Period {
-        from: instant,
-        to: instant,
+        from: blank,
+        to: blank,
     }
 }
 

@@ -1,4 +1,5 @@
 // Whether nothing is said in a METAR, SPECI or TAF, group by group and in the whole.
+// Two to four tests of single values are joined by `&&`, nested to the right: such a method is proved with no file.
 use crate::aerodrome::Amount;
 use crate::aerodrome::Body;
 use crate::aerodrome::Change;
@@ -63,7 +64,7 @@ impl Wind {
         let speed = self.speed;
         let gust = self.gust;
         let unit = self.unit;
-        direction.is_missing() & speed.is_missing() & gust.is_missing() & unit.is_missing()
+        direction.is_missing() && (speed.is_missing() && (gust.is_missing() && unit.is_missing()))
     }
 }
 
@@ -124,7 +125,7 @@ impl Runway {
         let side = self.side;
         let range = self.range;
         let course = self.course;
-        number.is_missing() & side.is_none() & range.is_missing() & course.is_none()
+        number.is_missing() && (side.is_none() && (range.is_missing() && course.is_none()))
     }
 }
 
@@ -233,7 +234,7 @@ impl Layer {
         let amount = self.amount;
         let height = self.height;
         let convective = self.convective;
-        amount.is_none() & height.is_missing() & convective.is_none()
+        amount.is_none() && (height.is_missing() && convective.is_none())
     }
 }
 
@@ -286,7 +287,7 @@ impl Temperatures {
     {
         let air = self.air;
         let dew = self.dew;
-        air.is_missing() & dew.is_missing()
+        air.is_missing() && dew.is_missing()
     }
 }
 
@@ -306,7 +307,7 @@ impl Instant {
         let day = self.day;
         let hour = self.hour;
         let minute = self.minute;
-        day.is_missing() & hour.is_missing() & minute.is_missing()
+        day.is_missing() && (hour.is_missing() && minute.is_missing())
     }
 }
 

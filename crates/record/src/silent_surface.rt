@@ -1,4 +1,5 @@
 // Whether nothing is said in a SYNOP or SHIP, group by group and in the whole.
+// Two to four tests of single values are joined by `&&`, nested to the right: such a method is proved with no file.
 use crate::letters::are_blank_from;
 use crate::surface::AtLevel;
 use crate::surface::CallSign;
@@ -44,7 +45,7 @@ impl Position {
     {
         let latitude = self.latitude;
         let longitude = self.longitude;
-        latitude.is_missing() & longitude.is_missing()
+        latitude.is_missing() && longitude.is_missing()
     }
 }
 
@@ -55,7 +56,7 @@ impl Time {
         let day = self.day;
         let hour = self.hour;
         let unit = self.unit;
-        day.is_missing() & hour.is_missing() & unit.is_missing()
+        day.is_missing() && (hour.is_missing() && unit.is_missing())
     }
 }
 
@@ -79,7 +80,7 @@ impl Indicators {
         let weather = self.weather;
         let base = self.base;
         let sight = self.sight;
-        rain.is_missing() & weather.is_missing() & base.is_missing() & sight.is_missing()
+        rain.is_missing() && (weather.is_missing() && (base.is_missing() && sight.is_missing()))
     }
 }
 
@@ -90,7 +91,7 @@ impl Wind {
         let cover = self.cover;
         let direction = self.direction;
         let speed = self.speed;
-        cover.is_missing() & direction.is_missing() & speed.is_missing()
+        cover.is_missing() && (direction.is_missing() && speed.is_missing())
     }
 }
 
@@ -147,7 +148,7 @@ impl Weather {
         let present = self.present;
         let past = self.past;
         let past2 = self.past2;
-        present.is_missing() & past.is_missing() & past2.is_missing()
+        present.is_missing() && (past.is_missing() && past2.is_missing())
     }
 }
 
@@ -159,7 +160,7 @@ impl Clouds {
         let low = self.low;
         let middle = self.middle;
         let high = self.high;
-        amount.is_missing() & low.is_missing() & middle.is_missing() & high.is_missing()
+        amount.is_missing() && (low.is_missing() && (middle.is_missing() && high.is_missing()))
     }
 }
 

@@ -141,7 +141,7 @@ unfolding figures.figures figures.scan figures.fieldAt figures.numberText figure
     runway.readRunway runway.showRunway runway.showRunways runway.judgeRunways
     temperatures.readTemperatures temperatures.readQnh temperatures.showTemperatures temperatures.showQnh temperatures.judgeTemperatures temperatures.judgeQnh
     metar-row.row metar-row.isKnown metar-row.words
-    trend-times.readMoment trend-times.readFrom trend-times.readUntil trend-times.readAt trend-times.hoursFit
+    trend-times.readMoment
     trend-row.row
     trend-read.comesTo
     trend-write.judgeChange trend-write.judgeTrend trend-write.showChange trend-write.showTrend

@@ -17,9 +17,9 @@ use Rattle.record.specs.Arrays.{BodyArrays}
 use Rattle.elements.specs.Body.{changing, bodyRow, hasElement, classBody}
 use Rattle.body.proofs.Places.{Live}
 use Rattle.body.proofs.Bodies.{FairBody, bodySizes, kept-body, element-classed}
-use Rattle.trend_row.specs.Times.{putFrom, putUntil, hoursFit}
+use Rattle.trend_row.specs.Times.{hoursFit}
 use Rattle.trend_row.specs.Row.{row}
-use Rattle.trend_row.proofs.TimesBack.{kept-from, kept-until, kept-at, times-back}
+use Rattle.trend_row.proofs.TimesBack.{kept-times, times-back}
 
 times-lens : Lens (λ (c : TrendChange). c .times) setTimes
 times-lens = record { got = λ a c. refl; same = λ c. refl; twice = λ a b c. refl }
@@ -44,12 +44,9 @@ pub kept-change-row : (c : TrendChange) → BodyArrays (c .body) → hoursFit (c
     → (acc : TrendChange) → acc .times ≡ blankTimes → acc .body ≡ blankBody → KeptRow changeSizes (row true) c acc
 unfolding row
 kept-change-row c arrays fit fair acc none bare =
-    let h = c .times .is in
+    let k = kept-times (c .times .is) fit (acc .times) (ap (λ (t : Times). t .is) none) in
     more (keep-none refl refl refl) refl
-    (more (kept-lifted times-lens (kept-from h fit _)) refl
-    (more (kept-lifted times-lens (kept-until h fit _)) refl
-    (more (kept-lifted times-lens (kept-at h fit _ (ap (λ (t : Times). putUntil h (putFrom h (t .is))) none))) refl
-    (kept-elements c _ arrays fair bare))))
+    (more (kept-lifted times-lens (k .0)) refl (more (kept-lifted times-lens (k .1)) refl (more (kept-lifted times-lens (k .2)) refl (kept-elements c _ arrays fair bare))))
 
 -- what is read back: the times are those of the change, each rounded number of the body is the reading of its class
 pub change-classed : (c acc : TrendChange) → acc .times ≡ blankTimes

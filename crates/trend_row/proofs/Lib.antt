@@ -1,6 +1,5 @@
--- The laws of the row of a trend's change, the test that tells its groups apart, what its times are read as, and that it keeps what is written of a change.
+-- The laws of the row of a trend's change, the test that tells its groups apart, and that it keeps what is written of a change.
 pub mod Rows
 pub mod Sound
-pub mod Moments
 pub mod TimesBack
 pub mod Changes

@@ -3,18 +3,18 @@
 -- Assumes nothing.
 use Prim.Native.Nat.{ℕ, _≤_}
 use native.Mathlib.Omega.{arith}
-use mathlib.Core.Path.{_≡_, refl, sym, ap, _∙_}
-use mathlib.Core.Bool.{Bool, true, _&&_}
-use mathlib.Core.List.{List, [], _∷_, _++_, append-assoc, append-nil}
-use lib.ListN.{length, replicate, length-append}
+use mathlib.Core.Path.{_≡_, refl, _∙_}
+use mathlib.Core.Bool.{Bool, true, false, _&&_}
+use mathlib.Core.List.{List, [], _∷_, _++_}
+use lib.ListN.{replicate}
 use lib.Dec.{leb, eqb}
 use borrow.Author.Tests.{leb-true, eqb-true}
 use Rattle.figures.specs.Quote.{bytes}
 use Rattle.figures.specs.declared.kinds.Field.the-variants as field
-use Rattle.figures.specs.Figures.{fieldAt, fieldText, numberText}
+use Rattle.figures.specs.Figures.{figures, fieldAt, fieldText, numberText}
 use Rattle.figures.proofs.Figures.{length-field, field-back}
 use Rattle.shapes.specs.Pattern.{low, high, fits, hasPattern}
-use Rattle.shapes.proofs.Patterns.{both, or-cases, starless, pattern-append, field-pattern}
+use Rattle.shapes.proofs.Patterns.{both, or-cases, pattern-append, field-pattern}
 use Rattle.places.specs.Engine.{Group, Read, Good, then}
 use Rattle.places.proofs.ReadBack.{one-pattern}
 use Rattle.places.proofs.Sizes.{measured, sized-any}
@@ -23,144 +23,78 @@ use Rattle.record.specs.declared.aerodrome.Moment.{Moment}
 use Rattle.record.specs.declared.aerodrome.Hours.{Hours}
 use Rattle.record.specs.declared.aerodrome.Hours.the-variants as hours
 use Rattle.record.specs.declared.aerodrome.Times.{Times}
-use Rattle.trend_row.specs.Times.{isMoment, isEnd, readMoment, untilOf, timesOf, readFrom, readUntil, readAt, showMoment, showFrom, showUntil, showAt, putFrom, putUntil, putAt, momentFits, hoursFit, momentPlace, fromPlace, untilPlace, atPlace}
+use Rattle.trend_row.specs.Times.{momentFits, readMoment, untilOf, timesOf, readFrom, readUntil, readAt, showMoment, showFrom, showUntil, showAt, putFrom, putUntil, putAt, hoursFit, momentPlace, fromPlace, untilPlace, atPlace}
 
--- ---- a number of two figures
+-- ---- GGgg after two letters
 
-module _ (n : ℕ) (few : n ≤ 59) where
-  two : length (numberText 2 n) ≡ 2
-  unfolding fieldText
-  two = length-field 2 (field.Number n) (omega arith) (omega arith)
-
-  hashes : hasPattern (numberText 2 n) (replicate 2 35) ≡ true
-  unfolding fieldText
-  hashes = field-pattern 2 (field.Number n) (omega arith) (omega arith)
-
-  -- where it stands in a group
-  found : (pre post : List ℕ) → fieldAt (pre ++ numberText 2 n ++ post) (length pre) 2 ≡ field.Number n
-  unfolding fieldText
-  found pre post = field-back pre post 2 (field.Number n) (omega arith) (omega arith) (omega arith)
-
--- ---- GGgg after a word
-
--- a word of two letters, which has its own shape
-record Lettered (word : List ℕ) : Type 0 where
-  pub two : length word ≡ 2
-  pub plain : starless word ≡ true
-  pub own : hasPattern word word ≡ true
-  pub room : measured 6 ((word ++ bytes "####") ∷ []) ≡ true
-
--- a test that both its numbers have two figures
-abbrev Narrow : (ℕ → ℕ → Bool) → Type 0
-Narrow right = (h m : ℕ) → right h m ≡ true → (h ≤ 59) × (m ≤ 59)
-
-moment-narrow : Narrow isMoment
-moment-narrow h m e =
-    let t = both (leb h 23) (leb m 59) e in
-    let a = leb-true h 23 (t .0) in
-    (omega arith, leb-true m 59 (t .1))
-
-end-narrow : Narrow isEnd
-end-narrow h m e =
-    or-cases (isMoment h m) (eqb h 24 && eqb m 0) e (moment-narrow h m)
-    (λ l.
-    let t = both (eqb h 24) (eqb m 0) l in
-    let a = eqb-true h 24 (t .0) in
-    let b = eqb-true m 0 (t .1) in
-    (omega arith, omega arith))
-
-module _ (word : List ℕ) (lettered : Lettered word) (right : ℕ → ℕ → Bool) (narrow : Narrow right) (t : Moment) (e : momentFits right t ≡ true) where
+module _ (a b : ℕ) (end : Bool) (t : Moment) (e : momentFits end t ≡ true) where
   abbrev said : Group
-  said = word ++ showMoment t
+  said = a ∷ b ∷ showMoment t
 
   abbrev shape : List ℕ
-  shape = word ++ bytes "####"
+  shape = a ∷ b ∷ bytes "####"
 
+  -- both its numbers have two figures
   few : (t .hour ≤ 59) × (t .minute ≤ 59)
-  few = narrow (t .hour) (t .minute) e
+  few =
+      or-cases (leb (t .hour) 23 && leb (t .minute) 59) (end && (eqb (t .hour) 24 && eqb (t .minute) 0)) e
+      (λ usual.
+      let u = both (leb (t .hour) 23) (leb (t .minute) 59) usual in
+      (omega (arith, leb-true (t .hour) 23 (u .0)), leb-true (t .minute) 59 (u .1)))
+      (λ last.
+      let l = both (eqb (t .hour) 24) (eqb (t .minute) 0) (both end (eqb (t .hour) 24 && eqb (t .minute) 0) last .1) in
+      (omega (arith, eqb-true (t .hour) 24 (l .0)), omega (arith, eqb-true (t .minute) 0 (l .1))))
 
-  -- IT HAS ITS PLACE'S SHAPE,
-  moment-shaped : hasPattern said shape ≡ true
-  moment-shaped =
-      let h = numberText 2 (t .hour) in
-      let m = numberText 2 (t .minute) in
-      let figured : hasPattern (h ++ m) (bytes "####") ≡ true =
-      pattern-append h m (replicate 2 35) (replicate 2 35) refl (two (t .hour) (few .0)) ∙ rw (hashes (t .hour) (few .0), hashes (t .minute) (few .1)) in
-      pattern-append word (h ++ m) word (bytes "####") (lettered .plain) refl ∙ rw (lettered .own, figured)
+  moment-figured : hasPattern (showMoment t) (bytes "####") ≡ true
+  unfolding fieldText
+  moment-figured =
+      let f = few in
+      let h = field-pattern 2 (field.Number (t .hour)) (omega arith) (omega arith) in
+      let m = field-pattern 2 (field.Number (t .minute)) (omega arith) (omega arith) in
+      let two = length-field 2 (field.Number (t .hour)) (omega arith) (omega arith) in
+      pattern-append (numberText 2 (t .hour)) (numberText 2 (t .minute)) (replicate 2 35) (replicate 2 35) refl two ∙ rw (h, m)
 
-  hour-found : fieldAt said 2 2 ≡ field.Number (t .hour)
-  hour-found =
-      ap (λ (g : List ℕ). fieldAt g 2 2) (sym (append-assoc word (numberText 2 (t .hour)) (numberText 2 (t .minute))))
-      ∙ rw (lettered .two) at (found (t .hour) (few .0) word (numberText 2 (t .minute)))
+  -- IT IS READ AS IT WAS.
+  moment-back : readMoment end said ≡ Good t
+  unfolding readMoment fieldText numberText figures
+  moment-back =
+      let f = few in
+      let h : fieldAt said 2 2 ≡ field.Number (t .hour) = field-back (a ∷ b ∷ []) (numberText 2 (t .minute)) 2 (field.Number (t .hour)) (omega arith) (omega arith) (omega arith) in
+      let m : fieldAt said 4 2 ≡ field.Number (t .minute) = field-back (a ∷ b ∷ numberText 2 (t .hour)) [] 2 (field.Number (t .minute)) (omega arith) (omega arith) (omega arith) in
+      rw (h, m, e)
 
-  minute-found : fieldAt said 4 2 ≡ field.Number (t .minute)
-  minute-found =
-      let h = numberText 2 (t .hour) in
-      let m = numberText 2 (t .minute) in
-      let four : length (word ++ h) ≡ 4 = rw (length-append word h, lettered .two, two (t .hour) (few .0)) in
-      ap (λ (g : List ℕ). fieldAt g 4 2) (sym (append-assoc word h m) ∙ sym (append-nil (word ++ h ++ m)))
-      ∙ rw four at (found (t .minute) (few .1) (word ++ h) [])
-
-  -- AND IS READ AS IT WAS.
-  moment-back : readMoment right said ≡ Good t
-  unfolding readMoment
-  moment-back = rw (hour-found, minute-found, e)
-
-  -- so a place that writes it, and reads it as the next times, keeps it
-  kept-moment : (read : Group → Times → Read Times) (show : Hours → List Group) (put : Hours → Hours → Hours) (next : Moment → Hours) (h : Hours) (acc : Times)
-      → show h ≡ said ∷ [] → read said acc ≡ then (readMoment right said) (λ m. Good (timesOf (next m))) → put h (acc .is) ≡ next t
+  -- so a place of these letters that writes it, and reads it as the next times, keeps it
+  kept-moment : hasPattern said shape ≡ true → measured 6 (shape ∷ []) ≡ true
+      → (read : Group → Times → Read Times) (show : Hours → List Group) (put : Hours → Hours → Hours) (next : Moment → Hours) (h : Hours) (acc : Times)
+      → show h ≡ said ∷ [] → read said acc ≡ then (readMoment end said) (λ m. Good (timesOf (next m))) → put h (acc .is) ≡ next t
       → Kept (momentPlace shape read show put) 6 (timesOf h) acc
-  kept-moment read show put next h acc is reads puts =
-      let covered = one-pattern shape said moment-shaped in
-      keep-one said is moment-shaped covered (sized-any 6 (shape ∷ []) said (lettered .room) covered) (omega arith) (rw (reads, moment-back, puts))
+  kept-moment shaped room read show put next h acc is reads puts =
+      let covered = one-pattern shape said shaped in
+      keep-one said is shaped covered (sized-any 6 (shape ∷ []) said room covered) (omega arith) (rw (reads, moment-back, puts))
 
--- ---- the three places
+-- ---- the three places: FM is the bytes 70 and 77, TL 84 and 76, AT 65 and 84
 
-from-lettered : Lettered (bytes "FM")
+module _ (h : Hours) (acc : Times) where
+  from-kept : (f : Moment) → momentFits false f ≡ true → showFrom h ≡ (bytes "FM" ++ showMoment f) ∷ [] → putFrom h (acc .is) ≡ hours.From f → Kept fromPlace 6 (timesOf h) acc
+  unfolding hasPattern fits low high
+  from-kept f e is puts = kept-moment 70 77 false f e (moment-figured 70 77 false f e) refl (λ g s. readFrom g) showFrom putFrom hours.From h acc is refl puts
+
+  until-kept : (u : Moment) → momentFits true u ≡ true → showUntil h ≡ (bytes "TL" ++ showMoment u) ∷ [] → putUntil h (acc .is) ≡ untilOf (acc .is) u → Kept untilPlace 6 (timesOf h) acc
+  unfolding hasPattern fits low high
+  until-kept u e is puts = kept-moment 84 76 true u e (moment-figured 84 76 true u e) refl readUntil showUntil putUntil (untilOf (acc .is)) h acc is refl puts
+
+-- WHAT IS WRITTEN OF TIMES THAT FIT IS KEPT, PLACE AFTER PLACE.
+pub kept-times : (h : Hours) → hoursFit h ≡ true → (acc : Times) → acc .is ≡ hours.None
+    → Kept fromPlace 6 (timesOf h) acc × Kept untilPlace 6 (timesOf h) (timesOf (putFrom h (acc .is))) × Kept atPlace 6 (timesOf h) (timesOf (putUntil h (putFrom h (acc .is))))
 unfolding hasPattern fits low high
-from-lettered = record { two = refl; plain = refl; own = refl; room = refl }
-
-until-lettered : Lettered (bytes "TL")
-unfolding hasPattern fits low high
-until-lettered = record { two = refl; plain = refl; own = refl; room = refl }
-
-at-lettered : Lettered (bytes "AT")
-unfolding hasPattern fits low high
-at-lettered = record { two = refl; plain = refl; own = refl; room = refl }
-
--- FM, whatever was read before
-pub kept-from : (h : Hours) → hoursFit h ≡ true → (acc : Times) → Kept fromPlace 6 (timesOf h) acc
-unfolding hoursFit readFrom
-kept-from hours.None e acc = keep-none refl refl refl
-kept-from (hours.From f) e acc =
-    kept-moment (bytes "FM") from-lettered isMoment moment-narrow f e (fromPlace .read 0) showFrom putFrom hours.From (hours.From f) acc refl refl refl
-kept-from (hours.Until u) e acc = keep-none refl refl refl
-kept-from (hours.Between f u) e acc =
-    kept-moment (bytes "FM") from-lettered isMoment moment-narrow f (both (momentFits isMoment f) (momentFits isEnd u) e .0) (fromPlace .read 0) showFrom putFrom hours.From
-    (hours.Between f u) acc refl refl refl
-kept-from (hours.At t) e acc = keep-none refl refl refl
-
--- TL, after FM or alone
-pub kept-until : (h : Hours) → hoursFit h ≡ true → (acc : Times) → Kept untilPlace 6 (timesOf h) acc
-unfolding hoursFit readUntil
-kept-until hours.None e acc = keep-none refl refl refl
-kept-until (hours.From f) e acc = keep-none refl refl refl
-kept-until (hours.Until u) e acc =
-    kept-moment (bytes "TL") until-lettered isEnd end-narrow u e readUntil showUntil putUntil (untilOf (acc .is)) (hours.Until u) acc refl refl refl
-kept-until (hours.Between f u) e acc =
-    kept-moment (bytes "TL") until-lettered isEnd end-narrow u (both (momentFits isMoment f) (momentFits isEnd u) e .1) readUntil showUntil putUntil (untilOf (acc .is))
-    (hours.Between f u) acc refl refl refl
-kept-until (hours.At t) e acc = keep-none refl refl refl
-
--- AT, where no other time was written
-pub kept-at : (h : Hours) → hoursFit h ≡ true → (acc : Times) → acc .is ≡ putUntil h (putFrom h hours.None) → Kept atPlace 6 (timesOf h) acc
-unfolding hoursFit readAt
-kept-at hours.None e acc none = keep-none refl refl refl
-kept-at (hours.From f) e acc none = keep-none refl refl refl
-kept-at (hours.Until u) e acc none = keep-none refl refl refl
-kept-at (hours.Between f u) e acc none = keep-none refl refl refl
-kept-at (hours.At t) e acc none =
-    kept-moment (bytes "AT") at-lettered isMoment moment-narrow t e readAt showAt putAt hours.At (hours.At t) acc refl (rw none) refl
+kept-times hours.None e acc none = (keep-none refl refl refl, keep-none refl refl refl, keep-none refl refl refl)
+kept-times (hours.From f) e acc none = (from-kept (hours.From f) acc f e refl refl, keep-none refl refl refl, keep-none refl refl refl)
+kept-times (hours.Until u) e acc none = (keep-none refl refl refl, until-kept (hours.Until u) acc u e refl refl, keep-none refl refl refl)
+kept-times (hours.Between f u) e acc none =
+    let t = both (momentFits false f) (momentFits true u) e in
+    (from-kept (hours.Between f u) acc f (t .0) refl refl, until-kept (hours.Between f u) (timesOf (hours.From f)) u (t .1) refl refl, keep-none refl refl refl)
+kept-times (hours.At t) e acc none =
+    (keep-none refl refl refl, keep-none refl refl refl, kept-moment 65 84 false t e (moment-figured 65 84 false t e) refl readAt showAt putAt hours.At (hours.At t) acc refl (rw none) refl)
 
 -- NOTHING OF THE TIMES IS LOST.
 pub times-back : (h : Hours) → putAt h (putUntil h (putFrom h hours.None)) ≡ h

@@ -2,7 +2,7 @@
 -- their hours)". Three places, in this order, which the row of a trend's change lifts; "times otherwise joined .. are 6".
 -- Assumes nothing: these are definitions.
 use Prim.Native.Nat.{ℕ}
-use mathlib.Core.Bool.{Bool, true, false, cond, _&&_, _||_}
+use mathlib.Core.Bool.{Bool, true, false, cond, not, _&&_, _||_}
 use mathlib.Core.List.{List, [], _∷_, _++_}
 use lib.Dec.{eqb}
 use Rattle.figures.specs.Quote.{bytes}
@@ -17,27 +17,27 @@ use Rattle.record.specs.declared.aerodrome.Times.{Times}
 use Rattle.record.specs.SilentAerodrome.{noHours}
 use Rattle.elements.specs.Parts.{figured, provided}
 use Rattle.aerodrome_groups.specs.Head.{isHour, isMinute}
-use Rattle.trend_row.specs.declared.kinds.MomentRead.{MomentRead}
-use Rattle.trend_row.specs.declared.kinds.MomentRead.the-variants as moment
+use Rattle.trend_row.specs.declared.kinds.Mark.{Mark}
+use Rattle.trend_row.specs.declared.kinds.Mark.the-variants as mark
 use Rattle.metar_row.specs.Row.{fromShape, untilShape, atShape}
 
 -- ---- GGgg
 
--- "0000 to 2359"
-abbrev pub isMoment : ℕ → ℕ → Bool
-isMoment h m = isHour h && isMinute m
+-- TL is where a change ends
+abbrev pub isEnd : Mark → Bool
+isEnd mark.From = false
+isEnd mark.Until = true
+isEnd mark.At = false
 
--- "TL to 2400"
-abbrev pub isEnd : ℕ → ℕ → Bool
-isEnd h m = isMoment h m || (eqb h 24 && eqb m 0)
+-- "0000 to 2359, TL to 2400"
+abbrev pub momentFits : Bool → Moment → Bool
+momentFits end t = (isHour (t .hour) && isMinute (t .minute)) || (end && (eqb (t .hour) 24 && eqb (t .minute) 0))
 
-unfoldable pub readMoment : (ℕ → ℕ → Bool) → Group → Read Moment
-readMoment right g = figured (fieldAt g 2 2) (λ h. figured (fieldAt g 4 2) (λ m. provided (right h m) (Good (record { hour = h; minute = m }))))
+abbrev pub momentOf : ℕ → ℕ → Moment
+momentOf h m = record { hour = h; minute = m }
 
--- the same, as the code's enum
-abbrev pub asMoment : Read Moment → MomentRead
-asMoment (Good t) = moment.Good t
-asMoment (Bad f) = moment.Bad f
+unfoldable pub readMoment : Bool → Group → Read Moment
+readMoment end g = figured (fieldAt g 2 2) (λ h. figured (fieldAt g 4 2) (λ m. provided (momentFits end (momentOf h m)) (Good (momentOf h m))))
 
 -- ---- reading, with the times that stand already
 
@@ -49,18 +49,31 @@ untilOf (hours.Until v) u = hours.Until u
 untilOf (hours.Between f v) u = hours.Between f u
 untilOf (hours.At t) u = hours.Until u
 
+abbrev pub withTime : Mark → Hours → Moment → Hours
+withTime mark.From h t = hours.From t
+withTime mark.Until h t = untilOf h t
+withTime mark.At h t = hours.At t
+
 abbrev pub timesOf : Hours → Times
 timesOf h = record { is = h }
 
-unfoldable pub readFrom : Group → Read Times
-readFrom g = then (readMoment isMoment g) (λ f. Good (timesOf (hours.From f)))
-
-unfoldable pub readUntil : Group → Times → Read Times
-readUntil g t = then (readMoment isEnd g) (λ u. Good (timesOf (untilOf (t .is) u)))
-
 -- "AT alone": beside another time it is 6, whatever its figures
-unfoldable pub readAt : Group → Times → Read Times
-readAt g t = cond (noHours (t .is)) (then (readMoment isMoment g) (λ a. Good (timesOf (hours.At a)))) (Bad refusal.Order)
+abbrev pub isBarred : Mark → Hours → Bool
+isBarred mark.From h = false
+isBarred mark.Until h = false
+isBarred mark.At h = not (noHours h)
+
+abbrev pub readTime : Mark → Group → Hours → Read Times
+readTime m g h = cond (isBarred m h) (Bad refusal.Order) (then (readMoment (isEnd m) g) (λ t. Good (timesOf (withTime m h t))))
+
+abbrev pub readFrom : Group → Read Times
+readFrom g = readTime mark.From g hours.None
+
+abbrev pub readUntil : Group → Times → Read Times
+readUntil g t = readTime mark.Until g (t .is)
+
+abbrev pub readAt : Group → Times → Read Times
+readAt g t = readTime mark.At g (t .is)
 
 -- ---- writing
 
@@ -112,15 +125,12 @@ putAt (hours.At t) acc = hours.At t
 
 -- ---- judging: "(in a record a value outside its range)"
 
-abbrev pub momentFits : (ℕ → ℕ → Bool) → Moment → Bool
-momentFits right t = right (t .hour) (t .minute)
-
-unfoldable pub hoursFit : Hours → Bool
+abbrev pub hoursFit : Hours → Bool
 hoursFit hours.None = true
-hoursFit (hours.From f) = momentFits isMoment f
-hoursFit (hours.Until u) = momentFits isEnd u
-hoursFit (hours.Between f u) = momentFits isMoment f && momentFits isEnd u
-hoursFit (hours.At t) = momentFits isMoment t
+hoursFit (hours.From f) = momentFits false f
+hoursFit (hours.Until u) = momentFits true u
+hoursFit (hours.Between f u) = momentFits false f && momentFits true u
+hoursFit (hours.At t) = momentFits false t
 
 -- ---- the places
 

@@ -1,15 +1,13 @@
-// What opens a part of a trend.
-use record::aerodrome::Moment;
-use text::kinds::Refusal;
-
+// What opens a part of a trend, and what a time of a change stands behind.
 pub enum Word {
     Nosig,
     Becoming,
     Temporary,
 }
 
-// GGgg as it is read.
-pub enum MomentRead {
-    Good(Moment),
-    Bad(Refusal),
+// FM, TL, AT.
+pub enum Mark {
+    From,
+    Until,
+    At,
 }

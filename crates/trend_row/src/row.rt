@@ -15,7 +15,7 @@ ghost use mathlib.Core.Path.{_≡_};
 ghost use mathlib.Core.Bool.{_&&_};
 ghost use lib.ListN.{drop};
 ghost use Rattle.places.specs.Seek.{answers, fitFrom, findOf};
-ghost use Rattle.places.specs.Engine.{placeAt, standsOf, mustsOf, mostsOf};
+ghost use Rattle.places.specs.Engine.{placeAt, standsOf, mostsOf};
 ghost use Rattle.trend_row.specs.Row.{isChange, row};
 ghost use Rattle.trend_row.specs.Tests.{HasAt};
 
@@ -57,13 +57,6 @@ fn mosts(free: bool) -> [u8; 8]
     }
 }
 
-// None must have a group.
-fn musts(free: bool) -> [bool; 8]
-    ensures { λ r. ⌜ r ≡ mustsOf (row free) ⌝ }
-{
-    [false; 8]
-}
-
 // May this place, where `count` groups stand, answer for the group, and has it the group's shape? A shape is asked for only where it may.
 fn is_fit(free: bool, all: bool, place: usize, count: usize, g: &[u8]) -> bool
     ensures { λ r. ⌜ r ≡ (answers all count (placeAt (row free) place .most) && placeAt (row free) place .has (now (g .entry))) ⌝ }
@@ -92,14 +85,14 @@ fn fit_from(free: bool, all: bool, place: usize, count: usize, g: &[u8]) -> usiz
     i
 }
 
-// The place that the group goes to.
+// The place that the group goes to. None must have a group.
 pub fn find(free: bool, place: usize, count: usize, g: &[u8]) -> Found
     ensures { λ r. ⌜ r ≡ findOf (standsOf (row free) (now (g .entry))) place count ⌝ }
 {
     let fit = fit_from(free, false, place, count, g);
     if fit < 8 {
         let most = mosts(free);
-        let must = musts(free);
+        let must = [false; 8];
         return found_at(&most, &must, place, count, fit);
     }
     if fit_from(free, true, 0, 0, g) < 8 {

@@ -1,5 +1,5 @@
 // The times of a trend's change: FM, TL and AT, each with GGgg.
-use crate::kinds::MomentRead;
+use crate::kinds::Mark;
 use elements::kinds::Said;
 use figures::field;
 use figures::kinds::Field;
@@ -11,18 +11,28 @@ use record::aerodrome::Times;
 use text::kinds::Refusal;
 use text::write::open_group;
 ghost use mathlib.Core.Path.{_≡_};
-ghost use mathlib.Core.Bool.{cond};
 ghost use mathlib.Core.List.{_∷_, [], _++_};
 ghost use Rattle.figures.specs.Put.{Put};
 ghost use Rattle.text.specs.Groups.{written};
 ghost use Rattle.elements.specs.Answers.{asTimes};
-ghost use Rattle.trend_row.specs.Times.{isMoment, isEnd, momentFits, asMoment, readMoment, untilOf, readFrom, readUntil, readAt, showMoment, showFrom, showUntil, showAt, hoursFit};
+ghost use Rattle.trend_row.specs.Times.{isEnd, momentFits, withTime, isBarred, readTime, readFrom, readUntil, readAt, showMoment, showFrom, showUntil, showAt, hoursFit};
 
 // ---- reading
 
+// TL is where a change ends.
+fn is_end(mark: Mark) -> bool
+    ensures { λ r. ⌜ r ≡ isEnd mark ⌝ }
+{
+    match mark {
+        Mark::From => false,
+        Mark::Until => true,
+        Mark::At => false,
+    }
+}
+
 // 0000 to 2359, or where a change ends 2400 too
 fn is_right(end: bool, t: Moment) -> bool
-    ensures { λ r. ⌜ r ≡ momentFits (cond end isEnd isMoment) t ⌝ }
+    ensures { λ r. ⌜ r ≡ momentFits end t ⌝ }
 {
     let hour = t.hour;
     let minute = t.minute;
@@ -31,76 +41,77 @@ fn is_right(end: bool, t: Moment) -> bool
     usual | (end & last)
 }
 
-fn read_moment(end: bool, g: &[u8]) -> MomentRead
-    ensures { λ r. ⌜ r ≡ asMoment (readMoment (cond end isEnd isMoment) (now (g .entry))) ⌝ }
+// The times that stand, with one more: TL after FM, or alone.
+fn with_time(mark: Mark, hours: Hours, t: Moment) -> Hours
+    ensures { λ r. ⌜ r ≡ withTime mark hours t ⌝ }
 {
+    match mark {
+        Mark::From => Hours::From(t),
+        Mark::Until => match hours {
+            Hours::None => Hours::Until(t),
+            Hours::From(from) => Hours::Between { from, until: t },
+            Hours::Until(_) => Hours::Until(t),
+            Hours::Between { from, until: _ } => Hours::Between { from, until: t },
+            Hours::At(_) => Hours::Until(t),
+        },
+        Mark::At => Hours::At(t),
+    }
+}
+
+// AT stands alone.
+fn is_barred(mark: Mark, hours: Hours) -> bool
+    ensures { λ r. ⌜ r ≡ isBarred mark hours ⌝ }
+{
+    match mark {
+        Mark::From => false,
+        Mark::Until => false,
+        Mark::At => !hours.is_none(),
+    }
+}
+
+fn read_time(mark: Mark, g: &[u8], hours: Hours) -> Said
+    ensures { λ r. ⌜ r ≡ asTimes (readTime mark (now (g .entry)) hours) ⌝ }
+{
+    if is_barred(mark, hours) {
+        return Said::Refused(Refusal::Order);
+    }
     let Field::Number(hour) = field(g, 2, 2) else {
-        return MomentRead::Bad(Refusal::Figure);
+        return Said::Refused(Refusal::Figure);
     };
     let Field::Number(minute) = field(g, 4, 2) else {
-        return MomentRead::Bad(Refusal::Figure);
+        return Said::Refused(Refusal::Figure);
     };
     let moment = Moment { hour, minute };
-    if is_right(end, moment) {
-        MomentRead::Good(moment)
+    if is_right(is_end(mark), moment) {
+        let is = with_time(mark, hours, moment);
+        Said::Times(Times { is })
     } else {
-        MomentRead::Bad(Refusal::Figure)
+        Said::Refused(Refusal::Figure)
     }
 }
 
 pub fn read_from(g: &[u8]) -> Said
     ensures { λ r. ⌜ r ≡ asTimes (readFrom (now (g .entry))) ⌝ }
 {
-    let read = read_moment(false, g);
-    match read {
-        MomentRead::Good(from) => Said::Times(Times {
-            is: Hours::From(from),
-        }),
-        MomentRead::Bad(refusal) => Said::Refused(refusal),
-    }
-}
-
-// TL after FM, or alone
-fn until_of(hours: Hours, until: Moment) -> Hours
-    ensures { λ r. ⌜ r ≡ untilOf hours until ⌝ }
-{
-    match hours {
-        Hours::None => Hours::Until(until),
-        Hours::From(from) => Hours::Between { from, until },
-        Hours::Until(_) => Hours::Until(until),
-        Hours::Between { from, until: _ } => Hours::Between { from, until },
-        Hours::At(_) => Hours::Until(until),
-    }
+    let mark = Mark::From;
+    let none = Hours::None;
+    read_time(mark, g, none)
 }
 
 pub fn read_until(g: &[u8], times: Times) -> Said
     ensures { λ r. ⌜ r ≡ asTimes (readUntil (now (g .entry)) times) ⌝ }
 {
+    let mark = Mark::Until;
     let hours = times.is;
-    let read = read_moment(true, g);
-    match read {
-        MomentRead::Good(until) => {
-            let is = until_of(hours, until);
-            Said::Times(Times { is })
-        }
-        MomentRead::Bad(refusal) => Said::Refused(refusal),
-    }
+    read_time(mark, g, hours)
 }
 
-// AT stands alone, whatever its figures.
 pub fn read_at(g: &[u8], times: Times) -> Said
     ensures { λ r. ⌜ r ≡ asTimes (readAt (now (g .entry)) times) ⌝ }
 {
+    let mark = Mark::At;
     let hours = times.is;
-    if hours.is_none() {
-        let read = read_moment(false, g);
-        match read {
-            MomentRead::Good(at) => Said::Times(Times { is: Hours::At(at) }),
-            MomentRead::Bad(refusal) => Said::Refused(refusal),
-        }
-    } else {
-        Said::Refused(Refusal::Order)
-    }
+    read_time(mark, g, hours)
 }
 
 // ---- judging
@@ -128,48 +139,19 @@ fn put_moment(out: &mut [u8], at: usize, word: &[u8], t: Moment) -> usize
     put_number(out, timed, 2, t.minute)
 }
 
-fn put_from(out: &mut [u8], at: usize, hours: Hours) -> usize
-    ensures { λ r. ⌜ Put (now (out .entry)) at (written at (showFrom hours)) r (now (out .exit)) ⌝ }
-{
-    match hours {
-        Hours::None => at,
-        Hours::From(from) => put_moment(out, at, b"FM", from),
-        Hours::Until(_) => at,
-        Hours::Between { from, until: _ } => put_moment(out, at, b"FM", from),
-        Hours::At(_) => at,
-    }
-}
-
-fn put_until(out: &mut [u8], at: usize, hours: Hours) -> usize
-    ensures { λ r. ⌜ Put (now (out .entry)) at (written at (showUntil hours)) r (now (out .exit)) ⌝ }
-{
-    match hours {
-        Hours::None => at,
-        Hours::From(_) => at,
-        Hours::Until(until) => put_moment(out, at, b"TL", until),
-        Hours::Between { from: _, until } => put_moment(out, at, b"TL", until),
-        Hours::At(_) => at,
-    }
-}
-
-fn put_at(out: &mut [u8], at: usize, hours: Hours) -> usize
-    ensures { λ r. ⌜ Put (now (out .entry)) at (written at (showAt hours)) r (now (out .exit)) ⌝ }
-{
-    match hours {
-        Hours::None => at,
-        Hours::From(_) => at,
-        Hours::Until(_) => at,
-        Hours::Between { from: _, until: _ } => at,
-        Hours::At(time) => put_moment(out, at, b"AT", time),
-    }
-}
-
 // The times in their order.
 pub fn put_times(out: &mut [u8], at: usize, times: Times) -> usize
     ensures { λ r. ⌜ Put (now (out .entry)) at (written at (showFrom (times .is) ++ (showUntil (times .is) ++ showAt (times .is)))) r (now (out .exit)) ⌝ }
 {
     let hours = times.is;
-    let begun = put_from(out, at, hours);
-    let ended = put_until(out, begun, hours);
-    put_at(out, ended, hours)
+    match hours {
+        Hours::None => at,
+        Hours::From(from) => put_moment(out, at, b"FM", from),
+        Hours::Until(until) => put_moment(out, at, b"TL", until),
+        Hours::Between { from, until } => {
+            let begun = put_moment(out, at, b"FM", from);
+            put_moment(out, begun, b"TL", until)
+        }
+        Hours::At(time) => put_moment(out, at, b"AT", time),
+    }
 }

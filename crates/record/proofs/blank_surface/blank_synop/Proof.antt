@@ -1,14 +1,7 @@
 -- `record::blank_surface::blank_synop` meets its contract: each part is blank.
 -- Assumes nothing.
-use borrow.Author.Needs.{needs}
 use Rattle.record.proofs.blank_surface.blank_synop.Statement.{statement}
 use Rattle.record.proofs.blank_surface.blank_synop.Tie as tie
 
-returns : tie.Need-returns
-returns c = rw (c .before .blank-site .ensures, c .blank-surface .ensures)
-
 pub blank-synop-spec : {M : Type 1} → statement M
-blank-synop-spec =
-    tie.close
-    (tie.spec
-    (λ c κs. search needs) (λ c κs. search needs) returns)
+blank-synop-spec = tie.close (tie.spec (λ c κs. tt) (λ c κs. tt) (λ c. rw (c .before .blank-site .ensures, c .blank-surface .ensures)))

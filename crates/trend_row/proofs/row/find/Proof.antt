@@ -7,7 +7,7 @@ use mathlib.Core.Bool.{true, false}
 use lib.ListN.{length}
 use Rattle.places.proofs.Fits.{find-fit, find-none}
 use Rattle.trend_row.specs.Row.{row}
-use Rattle.trend_row.proofs.Rows.{row-length}
+use Rattle.trend_row.proofs.Rows.{row-length, none-must}
 use Rattle.trend_row.proofs.row.find.Statement.{statement}
 use Rattle.trend_row.proofs.row.find.Tie as tie
 
@@ -15,11 +15,11 @@ pub find-spec : {M : Type 1} → statement M
 find-spec =
     tie.close
     (tie.spec
-    (λ c κs. search needs) (λ c κs. search needs) (λ c κs. search needs) (λ c. search needs) (λ c. search needs) (λ c κs. search needs)
+    (λ c κs. search needs) (λ c κs. search needs) (λ c. search needs) (λ c. search needs) (λ c κs. search needs)
     (λ c.
-    let a = c .before .before .before .before .before .before .before .before .args in
-    find-fit (row (a .free)) (a .g .now) (a .place) (a .count) (c .before .before .before .before .before .before .fit-from .ensures) (rw (row-length (a .free)) (omega arith))
-    (rw (← c .before .before .before .before .mosts .ensures, ← c .before .before .before .musts .ensures) (c .found-at .ensures)))
+    let a = c .before .before .before .before .before .before .before .args in
+    find-fit (row (a .free)) (a .g .now) (a .place) (a .count) (c .before .before .before .before .before .fit-from .ensures) (rw (row-length (a .free)) (omega arith))
+    (rw (← c .before .before .before .mosts .ensures, ← none-must (a .free)) (c .found-at .ensures)))
     (λ c κs. search needs)
     (λ c.
     let a = c .before .before .before .before .before .args in
