@@ -4,3 +4,4 @@ pub mod Promises
 pub mod Says
 pub mod Meets
 pub mod Changes
+pub mod Sayings

@@ -3,38 +3,51 @@
 -- Assumes nothing.
 use Prim.Native.Nat.{ℕ}
 use native.Mathlib.Omega.{arith}
-use mathlib.Core.Path.{_≡_, refl}
-use mathlib.Core.Bool.{Bool, true, false, cond, false≢true}
+use mathlib.Core.Path.{_≡_, refl, sym, ap, _∙_}
+use mathlib.Core.Bool.{Bool, true, false, cond}
 use mathlib.Core.List.{[], _∷_, _++_}
+use lib.ListN.{length}
 use Rattle.figures.specs.Quote.{bytes}
 use Rattle.figures.specs.Figures.{figures}
 use Rattle.text.specs.declared.kinds.Judged.the-variants as judged
-use Rattle.shapes.specs.Pattern.{low, high, fits, hasPattern}
-use Rattle.shapes.specs.Shape.{leading, split, partsOf, spellings}
-use Rattle.places.specs.Engine.{Group, Place, placeAt}
-use Rattle.places.proofs.ReadBack.{one-pattern, two-patterns}
-use Rattle.places.proofs.Sizes.{measured, sized-any}
-use Rattle.places.proofs.Kept.{Kept, keep-one, keep-none}
+use Rattle.shapes.specs.Pattern.{low, high, fits, hasPattern, hasAny}
+use Rattle.shapes.specs.Shape.{leading, split, partsOf, spellings, hasShape}
+use Rattle.places.specs.Engine.{Group, Place, placeAt, Good}
+use Rattle.places.proofs.ReadBack.{one-pattern, two-patterns, fill}
+use Rattle.places.proofs.Sizes.{measured, sized-any, Sized, sized-each}
+use Rattle.places.proofs.Kept.{Kept, keep-one, keep-none, keep-each}
 use Rattle.places.proofs.Lift.{Lens, Alike, kept-lifted, kept-in}
 use Rattle.scales.specs.Rounded.{dddFigure}
 use Rattle.record.specs.declared.aerodrome.Extremes.{Extremes}
 use Rattle.record.specs.declared.aerodrome.Extremes.the-variants as extremes
 use Rattle.record.specs.declared.aerodrome.Body.{Body}
 use Rattle.record.specs.declared.aerodrome.Observation.{Observation}
-use Rattle.record.specs.Observation.{setCorrected, setStation, setTime, setNil, setAutomatic, setBody, blankObservation}
+use Rattle.record.specs.Observation.{setCorrected, setStation, setTime, setNil, setAutomatic, setBody, blankObservation, blankRunways, setRunways, setRecents}
+use Rattle.record.specs.Body.{blankWeathers}
 use Rattle.elements.specs.Wind.{variationShape, showVariation, judgeVariation}
 use Rattle.elements.specs.Body.{Terms}
+use Rattle.elements.specs.Weather.{hasRecent, readRecent, withWeather, showRecent, showRecents, judgeRecent, judgeWeathers}
+use Rattle.elements.proofs.Fills.{filled-items}
 use Rattle.aerodrome_groups.specs.Head.{wordPlace}
 use Rattle.aerodrome_groups.specs.Temperatures.{temperaturesShape, qnhShape, showTemperatures, showQnh, judgeTemperatures, judgeQnh}
 use Rattle.wind.proofs.RoundTripVariation.{variation-shaped, variation-back}
+use Rattle.weather.proofs.Covers.{recent-covered}
+use Rattle.weather.proofs.RoundTrip.{recent-shaped, recent-back, recent-sized}
+use Rattle.weather.proofs.Lists.{addEach as addWeathers, weathers-back, weathers-all, weathers-three}
 use Rattle.aerodrome_groups.proofs.HeadKept.{kept-word}
 use Rattle.aerodrome_groups.proofs.TemperaturesBack.{temperatures-shaped, temperatures-back, qnh-shaped, qnh-back}
+use Rattle.aerodrome_groups.specs.Runway.{runwayShape, readRunway, withRunway, showRunways, judgeRunways, classRunways}
+use Rattle.aerodrome_groups.proofs.RunwaysBack.{addEach as addRunways, runways-shaped, runways-few, runways-back}
 use Rattle.body.proofs.Places.{Live}
 use Rattle.metar_row.specs.Row.{isName, observed, ofBody, row}
 
 temperatures-measured : measured 7 (spellings (partsOf temperaturesShape)) ≡ true
 unfolding low high leading split partsOf spellings
 temperatures-measured = refl
+
+runway-measured : measured 11 (spellings (partsOf runwayShape)) ≡ true
+unfolding low high leading split partsOf spellings
+runway-measured = refl
 
 -- ---- the head
 
@@ -133,3 +146,44 @@ module _ (r acc : Observation) (full : r .nil ≡ false) where
       let covered = one-pattern qnhShape (showQnh (r .qnh)) s in
       keep-one (showQnh (r .qnh)) (rw full) s covered (sized-any 5 (qnhShape ∷ []) (showQnh (r .qnh)) refl covered) (omega arith)
       (rw (qnh-back (r .qnh) e))
+
+-- ---- runway ranges, of which several may stand: read back group by group
+
+module _ (r acc : Observation) (blank : setRunways blankRunways acc ≡ acc) (four : length (r .runways .items) ≡ 4) (e : judgeRunways (r .runways) ≡ judged.Fine) where
+  runways-filled : fill (placeAt row 9) 0 (showRunways (r .runways)) acc ≡ Good (setRunways (classRunways (r .runways)) acc)
+  unfolding row
+  runways-filled =
+      ap (fill (placeAt row 9) 0 (showRunways (r .runways))) (sym blank)
+      ∙ filled-items (placeAt row 9) setRunways acc readRunway withRunway addRunways (λ k g rs. refl) (λ k rs. refl) (λ k g gs rs. refl)
+      (showRunways (r .runways)) blankRunways (classRunways (r .runways)) (runways-back (r .runways) four e)
+
+  pub kept-runways : Kept (placeAt row 9) 11 r acc
+  unfolding row
+  kept-runways =
+      let s = runways-shaped (r .runways) e in
+      keep-each refl s
+      (sized-each (λ g. hasShape runwayShape g ≡ true) 11 (spellings (partsOf runwayShape)) (showRunways (r .runways)) runway-measured s)
+      (runways-few (r .runways) four e) runways-filled
+
+-- ---- recent weather, of which several may stand
+
+module _ (r acc : Observation) (blank : setRecents blankWeathers acc ≡ acc) (same : acc .automatic ≡ r .automatic) (three : length (r .recents .items) ≡ 3)
+    (e : judgeWeathers (judgeRecent (r .automatic)) (r .recents) ≡ judged.Fine) where
+  recents-filled : fill (placeAt row 14) 0 (showRecents (r .recents)) acc ≡ Good (setRecents (r .recents) acc)
+  unfolding row showRecents
+  recents-filled =
+      let read = readRecent (acc .automatic) in
+      ap (fill (placeAt row 14) 0 (showRecents (r .recents))) (sym blank)
+      ∙ filled-items (placeAt row 14) setRecents acc read withWeather (addWeathers read) (λ k g ws. refl) (λ k ws. refl) (λ k g gs ws. refl)
+      (showRecents (r .recents)) blankWeathers (r .recents)
+      (weathers-back (r .recents) three read showRecent (judgeRecent (r .automatic)) (λ w h. rw same (recent-back (r .automatic) w h)) e)
+
+  pub kept-recents : Kept (placeAt row 14) 10 r acc
+  unfolding row showRecents
+  kept-recents =
+      keep-each refl
+      (weathers-all showRecent (judgeRecent (r .automatic)) (r .recents) e (λ g. (hasRecent g ≡ true) × (hasAny (bytes "RE*" ∷ []) g ≡ true))
+      (λ w h. let s = recent-shaped (r .automatic) w h in (s, recent-covered (showRecent w) s)))
+      (weathers-all showRecent (judgeRecent (r .automatic)) (r .recents) e (Sized 10)
+      (λ w h. let z = recent-sized (r .automatic) w h in record { whole = z .0; allow = z .1; short = z .2 }))
+      (weathers-three showRecent (judgeRecent (r .automatic)) (r .recents) e three) recents-filled

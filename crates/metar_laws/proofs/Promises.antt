@@ -3,7 +3,7 @@
 -- Assumes nothing.
 use mathlib.Core.Path.{_≡_, refl}
 use mathlib.Core.Bool.{Bool, true, false}
-use mathlib.Core.List.{List, [], _∷_, map}
+use mathlib.Core.List.{map}
 use lib.ListN.{length, take, drop}
 use Rattle.text.specs.declared.kinds.Judged.the-variants as judged
 use Rattle.text.specs.Groups.{groupsFrom}
@@ -21,15 +21,13 @@ use Rattle.metar.specs.Read.{groupsRead}
 use Rattle.elements.specs.Body.{changing}
 use Rattle.trend_row.specs.Row as trend-row
 use Rattle.trend_row.proofs.Changes.{live as trend-live}
-use Rattle.trend.specs.Write.{judgeChange, judgeEach, classChange, classTrend}
+use Rattle.trend.specs.Write.{classChange, classTrend}
 use Rattle.metar.specs.Write.{judgeOf, canonicalOf, classObservation, classedOf}
 use Rattle.record.specs.Arrays.{MetarArrays}
-use Rattle.record.proofs.Counted.{map-counted}
-use Rattle.text.proofs.Judging.{and-then}
+use Rattle.record.proofs.Counted.{map-counted, taken, dropped, EachRead, each-read}
 use Rattle.metar_laws.proofs.Places.{live}
 use Rattle.metar_laws.proofs.Report.{fair-observation, fair-bare}
-use Rattle.metar_laws.proofs.Trends.{FairChange, fair-change}
-use Rattle.metar_laws.proofs.TrendClasses.{change-is, taken, dropped}
+use Rattle.metar_laws.proofs.Trends.{Sound, change-is}
 use Rattle.metar_laws.proofs.Canonical.{trend-listed, read-canonical}
 
 -- ---- the record that is read back
@@ -54,16 +52,12 @@ pub record ChangeRead (c d : TrendChange) : Type 0 where
   pub times : d .times ≡ c .times
   pub body : BodyRead (c .body) (d .body)
 
-pub data EachRead : List TrendChange → List TrendChange → Type 0 where
-  none : EachRead [] []
-  more : {c d : TrendChange} {cs ds : List TrendChange} → ChangeRead c d → EachRead cs ds → EachRead (c ∷ cs) (d ∷ ds)
-
 -- the observation, and of the trend NOSIG and the changes up to the count; what stands past it is as it was
 pub record RecordRead (r q : Metar) : Type 0 where
   pub observation : ObservationRead (r .observation) (q .observation)
   pub nosig : q .trend .nosig ≡ r .trend .nosig
   pub count : q .trend .count ≡ r .trend .count
-  pub changes : EachRead (take (r .trend .count) (r .trend .items)) (take (r .trend .count) (q .trend .items))
+  pub changes : EachRead ChangeRead (take (r .trend .count) (r .trend .items)) (take (r .trend .count) (q .trend .items))
   pub past : drop (r .trend .count) (q .trend .items) ≡ drop (r .trend .count) (r .trend .items)
 
 -- ---- the observation
@@ -104,14 +98,8 @@ observation-read r n =
 
 -- ---- the trend
 
-change-read : (nosig : Bool) (c : TrendChange) → FairChange nosig c → ChangeRead c (classChange c)
-change-read nosig c f = rw (change-is c) (record { tendency = refl; times = refl; body = body-read changing trend-live (c .body) (f .body) })
-
-each-read : (nosig : Bool) (cs : List TrendChange) → judgeEach nosig cs ≡ judged.Fine → EachRead cs (map classChange cs)
-each-read nosig [] e = none
-each-read nosig (c ∷ cs) e =
-    let j = and-then (judgeChange nosig c) (judgeEach nosig cs) e in
-    more (change-read nosig c (fair-change nosig c (j .0))) (each-read nosig cs (j .1))
+change-read : (nosig : Bool) (c : TrendChange) → Sound nosig c → ChangeRead c (classChange c)
+change-read nosig c s = rw (change-is c) (record { tendency = refl; times = refl; body = body-read changing trend-live (c .body) (s .1 .body) })
 
 record-read : (r : Metar) → MetarArrays r → judgeOf r ≡ judged.Fine → RecordRead r (classedOf r)
 unfolding classedOf classTrend
@@ -122,8 +110,8 @@ record-read r arrays e =
       observation = observation-read (r .observation) (near r arrays e);
       nosig = refl;
       count = refl;
-      changes = rw (taken t l) (each-read (t .nosig) (take (t .count) (t .items)) (l .fine));
-      past = dropped t l;
+      changes = rw (taken classChange (t .count) (t .items) (l .many)) (each-read ChangeRead classChange (change-read (t .nosig)) (take (t .count) (t .items)) (l .each));
+      past = dropped classChange (t .count) (t .items) (l .many);
     }
 
 -- WHAT IS WRITTEN OF A RECORD THAT THE WRITER ACCEPTS IS READ, to the text's end, as a record that says the same.
@@ -140,4 +128,4 @@ blank-classed = refl
 pub items-classed : (r : Metar) → MetarArrays r → judgeOf r ≡ judged.Fine → classedOf r .trend .items ≡ map classChange (r .trend .items)
 unfolding classedOf classTrend
 items-classed r arrays e =
-    map-counted classChange blankTrendChange blank-classed (r .trend .count) 3 (r .trend .items) (trend-listed r arrays e .blank)
+    map-counted classChange blankTrendChange blank-classed (r .trend .count) 3 (r .trend .items) (trend-listed r arrays e .rest)

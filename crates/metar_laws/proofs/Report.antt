@@ -1,14 +1,13 @@
 -- A whole METAR or SPECI: the row keeps what is written of a record that is judged fine, with its observation or as NIL.
 -- Assumes nothing.
 use Prim.Native.Nat.{ℕ}
-use mathlib.Core.Path.{_≡_, refl, sym}
-use mathlib.Core.Bool.{Bool, true, false, not, cond, _&&_, _||_, false≢true}
+use mathlib.Core.Path.{_≡_, refl}
+use mathlib.Core.Bool.{Bool, true, false, not, cond, _||_}
 use mathlib.Core.List.{List, [], _∷_}
 use lib.ListN.{take, drop}
-use borrow.Author.Tests.{not-true}
 use Rattle.text.specs.declared.kinds.Judged.{Judged}
 use Rattle.text.specs.declared.kinds.Judged.the-variants as judged
-use Rattle.text.specs.Judge.{judge, andThen}
+use Rattle.text.specs.Judge.{judge}
 use Rattle.text.proofs.Judging.{fine, and-then}
 use Rattle.shapes.proofs.Patterns.{both}
 use Rattle.places.specs.Engine.{written, putAll}
@@ -35,8 +34,7 @@ use Rattle.body.proofs.Bodies.{FairBody}
 use Rattle.metar_row.specs.Row.{observed, row}
 use Rattle.trend.specs.Write.{judgeTrend}
 use Rattle.metar.specs.Write.{foreignBlank, judgeHead, judgeObservation, judgeOf}
-use Rattle.metar_laws.proofs.Places.{station-lens, time-lens, kept-name, kept-corrected, kept-nil, kept-automatic, kept-of, live, kept-variation, kept-temperatures, kept-qnh}
-use Rattle.metar_laws.proofs.Several.{kept-runways, kept-recents}
+use Rattle.metar_laws.proofs.Places.{station-lens, time-lens, kept-name, kept-corrected, kept-nil, kept-automatic, kept-of, live, kept-variation, kept-temperatures, kept-qnh, kept-runways, kept-recents}
 
 -- ---- what is judged fine
 

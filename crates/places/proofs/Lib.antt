@@ -10,3 +10,5 @@ pub mod Kept
 pub mod Lift
 pub mod Parts
 pub mod Turns
+pub mod Delivered
+pub mod Laid

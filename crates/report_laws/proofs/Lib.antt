@@ -1,4 +1,4 @@
--- The three demands on the library for every kind of report, the poor libraries that they shut out, and worked examples.
+-- The three demands on the library for every kind of report, the poor libraries that they shut out, worked examples, and that TAF and trend have one body.
 pub mod ByName
 pub mod Causes
 pub mod Numbers
@@ -6,3 +6,4 @@ pub mod RoundTrip
 pub mod Demands
 pub mod PoorLibraries
 pub mod Examples
+pub mod OneBody

@@ -4,6 +4,5 @@ pub mod Places
 pub mod Parts
 pub mod Changes
 pub mod Reports
-pub mod Classes
 pub mod Canonical
 pub mod Promises

@@ -61,6 +61,10 @@ fair-change c e =
     let t = and-then (judge (openingFits (c .opening) (c .period)) true) _ e in
     record { opens = fine (openingFits (c .opening) (c .period)) true (t .0) .0; part = fair-part (partOf (c .opening)) (c .body) (t .1) }
 
+-- a change that is judged fine, with its arrays
+abbrev pub Sound : Change → Type 0
+Sound c = BodyArrays (c .body) × FairChange c
+
 -- a report: what is judged of its head, and what stands after it
 pub record Fair (t : Taf) : Type 0 where
   pub blank : foreignBlank t ≡ true

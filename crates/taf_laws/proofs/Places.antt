@@ -1,7 +1,6 @@
 -- The places of a TAF's head one by one: what is written at each of a part that is judged fine has the place's shape, takes a known room, and is read back as
 -- what is put. Its words, the station, the time and the body are lifted places, which keep what their own laws say.
 -- Assumes nothing.
-use Prim.Native.Nat.{ℕ}
 use native.Mathlib.Omega.{arith}
 use mathlib.Core.Path.{_≡_, refl}
 use mathlib.Core.Bool.{true, false}

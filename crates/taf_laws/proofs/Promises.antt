@@ -1,35 +1,30 @@
 -- What the round trip promises of a TAF, in document 01's words: each exact field comes back as it was, each rounded number as the reading of its
 -- class, near its value and never above it where the scale rounds down, in the main part and in each change.
 -- Assumes nothing.
-use Prim.Native.Nat.{ℕ, zero, suc}
-use mathlib.Core.Path.{_≡_, refl, sym, ap, _∙_}
+use mathlib.Core.Path.{_≡_, refl}
 use mathlib.Core.Bool.{Bool, true, false, _||_}
-use mathlib.Core.List.{List, [], _∷_, _++_, map}
-use lib.ListN.{length, take, drop, replicate}
+use mathlib.Core.List.{map}
+use lib.ListN.{length, take, drop}
 use Rattle.text.specs.declared.kinds.Judged.the-variants as judged
 use Rattle.text.specs.Groups.{groupsFrom}
 use Rattle.text.specs.Text.{tailOf}
-use Rattle.text.proofs.Judging.{and-then}
 use Rattle.shapes.proofs.Patterns.{neither}
 use Rattle.places.specs.Engine.{Done}
-use Rattle.record.specs.declared.aerodrome.Body.{Body}
 use Rattle.record.specs.declared.aerodrome.Change.{Change}
 use Rattle.record.specs.declared.aerodrome.Taf.{Taf}
 use Rattle.record.specs.Taf.{blankChange}
 use Rattle.record.specs.Arrays.{TafArrays}
-use Rattle.record.proofs.Counted.{map-counted}
+use Rattle.record.proofs.Counted.{map-counted, taken, dropped, EachRead, each-read}
 use Rattle.elements.specs.Body.{classBody}
 use Rattle.body.proofs.Promises.{BodyRead, body-read, blank-read}
-use Rattle.taf_row.specs.declared.kinds.Part.{Part}
 use Rattle.taf_row.specs.declared.kinds.Part.the-variants as part
 use Rattle.taf_row.specs.Row.{forecastIn, row}
 use Rattle.taf.specs.Read.{partOf, groupsRead}
-use Rattle.taf.specs.Write.{judgeChange, judgeEach, judgeOf, canonicalOf, classChange, classedOf}
+use Rattle.taf.specs.Write.{judgeOf, canonicalOf, classChange, classedOf}
 use Rattle.taf_laws.proofs.Places.{live}
-use Rattle.taf_laws.proofs.Parts.{FairPart, fair-part, FairChange, fair-change, Fair, fair, over-bare}
-use Rattle.taf_laws.proofs.Changes.{listed}
-use Rattle.taf_laws.proofs.Classes.{change-is}
-use Rattle.taf_laws.proofs.Canonical.{read-canonical, taken, dropped}
+use Rattle.taf_laws.proofs.Parts.{fair-part, Sound, Fair, fair, over-bare}
+use Rattle.taf_laws.proofs.Changes.{listed, change-is}
+use Rattle.taf_laws.proofs.Canonical.{read-canonical}
 
 -- ---- the record that is read back
 
@@ -37,10 +32,6 @@ pub record ChangeRead (c d : Change) : Type 0 where
   pub opening : d .opening ≡ c .opening
   pub period : d .period ≡ c .period
   pub body : BodyRead (c .body) (d .body)
-
-pub data EachRead : List Change → List Change → Type 0 where
-  none : EachRead [] []
-  more : {c d : Change} {cs ds : List Change} → ChangeRead c d → EachRead cs ds → EachRead (c ∷ cs) (d ∷ ds)
 
 -- the head, the main part, the changes up to the count; what stands past it is as it was
 pub record RecordRead (t q : Taf) : Type 0 where
@@ -52,13 +43,10 @@ pub record RecordRead (t q : Taf) : Type 0 where
   pub cancelled : q .leg .cancelled ≡ t .leg .cancelled
   pub body : BodyRead (t .leg .body) (q .leg .body)
   pub count : q .changes .count ≡ t .changes .count
-  pub changes : EachRead (take (t .changes .count) (t .changes .items)) (take (t .changes .count) (q .changes .items))
+  pub changes : EachRead ChangeRead (take (t .changes .count) (t .changes .items)) (take (t .changes .count) (q .changes .items))
   pub past : drop (t .changes .count) (q .changes .items) ≡ drop (t .changes .count) (t .changes .items)
 
--- ---- a part
-
-part-read : (w : Part) (b : Body) → FairPart w b → BodyRead b (classBody b)
-part-read w b f = body-read (forecastIn w) (live w) b (f .body)
+-- ---- the main part
 
 main-read : (t : Taf) → TafArrays t → Fair t → BodyRead (t .leg .body) (classBody (t .leg .body))
 main-read t arrays f = go (t .leg .nil || t .leg .cancelled) refl
@@ -67,16 +55,14 @@ main-read t arrays f = go (t .leg .nil || t .leg .cancelled) refl
     go true o = blank-read (t .leg .body) (over-bare t arrays f o)
     go false o =
         let n = neither (t .leg .nil) (t .leg .cancelled) (rw o) in
-        part-read part.Main (t .leg .body) (fair-part part.Main (t .leg .body) (f .part (n .0) (n .1)))
+        body-read (forecastIn part.Main) (live part.Main) (t .leg .body) (fair-part part.Main (t .leg .body) (f .part (n .0) (n .1)) .body)
 
 -- ---- the changes
 
-change-read : (c : Change) → FairChange c → ChangeRead c (classChange c)
-change-read c f = rw (change-is c (f .opens)) (record { opening = refl; period = refl; body = part-read (partOf (c .opening)) (c .body) (f .part) })
-
-each-read : (cs : List Change) → judgeEach cs ≡ judged.Fine → EachRead cs (map classChange cs)
-each-read [] e = none
-each-read (c ∷ cs) e = let j = and-then (judgeChange c) (judgeEach cs) e in more (change-read c (fair-change c (j .0))) (each-read cs (j .1))
+change-read : (c : Change) → Sound c → ChangeRead c (classChange c)
+change-read c s =
+    let w = partOf (c .opening) in
+    rw (change-is c (s .1 .opens)) (record { opening = refl; period = refl; body = body-read (forecastIn w) (live w) (c .body) (s .1 .part .body) })
 
 record-read : (t : Taf) → TafArrays t → judgeOf t ≡ judged.Fine → RecordRead t (classedOf t)
 unfolding classedOf row
@@ -92,8 +78,8 @@ record-read t arrays e =
       cancelled = refl;
       body = main-read t arrays f;
       count = refl;
-      changes = rw (taken t l) (each-read (take (t .changes .count) (t .changes .items)) (l .fine));
-      past = dropped t l;
+      changes = rw (taken classChange (t .changes .count) (t .changes .items) (l .many)) (each-read ChangeRead classChange change-read (take (t .changes .count) (t .changes .items)) (l .each));
+      past = dropped classChange (t .changes .count) (t .changes .items) (l .many);
     }
 
 -- WHAT IS WRITTEN OF A RECORD THAT THE WRITER ACCEPTS IS READ, to the text's end, as a record that says the same.
@@ -110,4 +96,4 @@ blank-classed = refl
 pub items-classed : (t : Taf) → TafArrays t → judgeOf t ≡ judged.Fine → classedOf t .changes .items ≡ map classChange (t .changes .items)
 unfolding classedOf
 items-classed t arrays e =
-    map-counted classChange blankChange blank-classed (t .changes .count) 16 (t .changes .items) (listed t arrays (fair t e) .blank)
+    map-counted classChange blankChange blank-classed (t .changes .count) 16 (t .changes .items) (listed t arrays (fair t e) .rest)

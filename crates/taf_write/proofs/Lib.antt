@@ -1,3 +1,2 @@
 -- Laws that the proofs of the writer use.
-pub mod Judgings
 pub mod Writing

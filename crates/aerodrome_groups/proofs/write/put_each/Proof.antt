@@ -1,16 +1,19 @@
 -- `write::put_each` meets its contract. The loop keeps what was put so far.
 -- Assumes nothing.
 use Prim.Native.Nat.{_≤_, _-_, min}
-use mathlib.Core.Path.{_≡_}
-use mathlib.Core.List.{map}
+use mathlib.Core.Path.{_≡_, refl}
+use mathlib.Core.List.{[], _∷_, map}
 use native.Mathlib.Omega.{arith}
 use lib.ListN.{length, take}
 use borrow.Author.Needs.{needs}
 use Rattle.figures.specs.Put.{Put}
 use Rattle.figures.proofs.Puts.{put-none, length-put}
 use Rattle.text.specs.Groups.{written}
+use Rattle.places.proofs.Delivered.{one-more}
+use Rattle.record.specs.declared.aerodrome.Runway.{Runway}
+use Rattle.record.specs.Observation.{blankRunway}
+use Rattle.record.proofs.Counted.{take-most}
 use Rattle.aerodrome_groups.specs.Runway.{showRunway}
-use Rattle.aerodrome_groups.proofs.Writings.{one-more, take-four}
 use Rattle.aerodrome_groups.proofs.write.put_each.Statement.{statement}
 use Rattle.aerodrome_groups.proofs.write.put_each.Tie as tie
 
@@ -34,9 +37,9 @@ put-each-spec =
     (λ c. (
       omega arith,
       c .before .before .before .before .before .before .before .at-most-four .ensures,
-      one-more (c .before .before .before .before .before .before .before .before .before .args .t3) (c .before .before .before .before .before .before .loop .i) (omega (arith, four (c .before .before .before .before .before .before .before .before .before))) (c .before .before .before .before .before .before .loop .inv .2) (c .before .before .put-runway .ensures),
+      one-more (λ (w : Runway). showRunway w ∷ []) (map showRunway) refl (λ w ws. refl) (c .before .before .before .before .before .before .before .before .before .args .t3) (c .before .before .before .before .before .before .loop .i) blankRunway (omega (arith, four (c .before .before .before .before .before .before .before .before .before))) (c .before .before .before .before .before .before .loop .inv .2) (c .before .before .put-runway .ensures),
     ))
     (λ c. length-put (c .before .loop .inv .2))
     (λ c.
     let all : c .before .loop .i ≡ min (c .before .before .before .before .args .count) 4 = omega arith in
-    rw (all, take-four (c .before .before .before .before .args .t3) (c .before .before .before .before .args .count) (four (c .before .before .before .before))) at (c .before .loop .inv .2)))
+    rw (all, take-most 4 (c .before .before .before .before .args .t3) (c .before .before .before .before .args .count) (four (c .before .before .before .before))) at (c .before .loop .inv .2)))

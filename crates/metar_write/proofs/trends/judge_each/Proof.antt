@@ -33,19 +33,16 @@ judge-each-spec =
     let a = d .before .before .args in
     let b = a .t .nosig in (
       search needs,
-      d .loop .inv .1
-          ∙ each-next (judgeChange b) (judgeEach b) refl (λ x xs. refl) (a .t .items) (a .n) (slots (d .before .before)) (d .loop .i) _ (omega arith) (sym (c .before .before .judge-change .ensures) ∙ c .enum-told .given .1),
+      each-next (judgeChange b) (judgeEach b) refl (λ x xs. refl) (a .t .items) (a .n) (slots (d .before .before)) (d .loop .i) (d .loop .inv .1) _ (omega arith) (sym (c .before .before .judge-change .ensures) ∙ c .enum-told .given .1),
     ))
     (λ c. search needs)
     (λ c.
     let d = c .before .before .before .before .before .before in
     let a = d .before .before .args in
     let b = a .t .nosig in
-    sym
-    (d .loop .inv .1
-    ∙ each-stop (judgeChange b) (judgeEach b) refl (λ x xs. refl) (a .t .items) (a .n) (slots (d .before .before)) (d .loop .i) _ (omega arith) (sym (c .before .before .before .judge-change .ensures) ∙ c .before .judged .given .1)))
+    each-stop (judgeChange b) (judgeEach b) refl (λ x xs. refl) (a .t .items) (a .n) (slots (d .before .before)) (d .loop .i) (d .loop .inv .1) _ (omega arith) (sym (c .before .before .before .judge-change .ensures) ∙ c .before .judged .given .1))
     (λ c.
     let d = c .before in
     let a = d .before .before .args in
     let b = a .t .nosig in
-    sym (d .loop .inv .1 ∙ each-end (judgeChange b) (judgeEach b) refl (λ x xs. refl) (a .t .items) (a .n) (slots (d .before .before)) (d .loop .i) (omega arith))))
+    each-end (judgeChange b) (judgeEach b) refl (λ x xs. refl) (a .t .items) (a .n) (slots (d .before .before)) (d .loop .i) (d .loop .inv .1) (omega arith)))

@@ -9,7 +9,7 @@ use Rattle.figures.specs.Put.{Put}
 use Rattle.figures.proofs.Puts.{length-put}
 use Rattle.text.specs.Groups.{written}
 use Rattle.text.proofs.Writes.{write-none}
-use Rattle.body.proofs.Changes.{one-more}
+use Rattle.places.proofs.Delivered.{one-more}
 use Rattle.trend.specs.Write.{showChange, showEach}
 use Rattle.metar_write.proofs.trends.put_each.Statement.{statement}
 use Rattle.metar_write.proofs.trends.put_each.Tie as tie

@@ -9,10 +9,9 @@ use lib.ListN.{length, take, replicate}
 use lib.Seq.{length-take-le}
 use Rattle.figures.specs.Put.{Put}
 use Rattle.text.specs.Groups.{join, written}
-use Rattle.text.proofs.Writes.{made-within, made-text}
-use Rattle.synop.specs.Write.{groupsOf}
-use Rattle.synop_laws.proofs.Canonical.{groups-sizes}
-use Rattle.synop_write.proofs.Writing.{short, delivered}
+use Rattle.places.proofs.Delivered.{made, delivered}
+use Rattle.synop.specs.Write.{groupsOf, canonicalOf, writtenOf, bufferOf}
+use Rattle.synop_laws.proofs.Canonical.{groups-sizes, length-canonical}
 use Rattle.synop_write.proofs.write.write_fine.Statement.{statement}
 use Rattle.synop_write.proofs.write.write_fine.Tie as tie
 
@@ -21,24 +20,19 @@ nine : (c : tie.Start) → length (c .args .r .site .sign .letters) ≡ 9
 nine c = search needs
 
 -- the report as it is made over the array, which has room for the longest
-module _ (c : tie.Start) {end : ℕ} {e : List ℕ} (p : Put (replicate 128 0) 0 (written 0 (groupsOf (c .args .r)) ++ (61 ∷ [])) end e) where
-  fits : length (join (groupsOf (c .args .r))) ≤ 128
-  fits = let h = short (c .args .r) (c .pre) (nine c) in omega arith
-
-  within : end ≤ length e
-  within = made-within (groupsOf (c .args .r)) (groups-sizes (c .args .r) (nine c) (c .pre) .wholes) fits p
-
-  text : take end e ≡ join (groupsOf (c .args .r))
-  text = made-text (groupsOf (c .args .r)) (groups-sizes (c .args .r) (nine c) (c .pre) .wholes) fits p
+report : (c : tie.Start) {end : ℕ} {e : List ℕ} → Put (replicate 128 0) 0 (written 0 (groupsOf (c .args .r)) ++ (61 ∷ [])) end e
+    → (end ≤ length e) × (take end e ≡ join (groupsOf (c .args .r)))
+unfolding canonicalOf
+report c = made {n = 128} (groupsOf (c .args .r)) (groups-sizes (c .args .r) (nine c) (c .pre)) (omega (arith, length-canonical (c .args .r) (nine c) (c .pre)))
 
 pub write-fine-spec : {M : Type 1} → statement M
 write-fine-spec =
     tie.close
     (tie.spec
     (λ c. search needs) (λ c κs. tt)
-    (λ c. within (c .before .before .before .before) (c .before .put-report .ensures))
-    (λ c. sym (length-take-le _ _ (within (c .before .before .before .before .before) (c .before .before .put-report .ensures))))
+    (λ c. report (c .before .before .before .before) (c .before .put-report .ensures) .0)
+    (λ c. sym (length-take-le _ _ (report (c .before .before .before .before .before) (c .before .before .put-report .ensures) .0)))
     (λ c κs. tt) (λ c. search needs)
     (λ c.
     let d = c .before .before .before .before .before .before .before .before .before in
-    delivered (d .args .r) (d .pre) (d .args .out .now) (text d (c .before .before .before .before .before .before .put-report .ensures)) (c .before .before .deliver .ensures)))
+    unfold writtenOf bufferOf canonicalOf in delivered (d .args .out .now) (d .pre) (report d (c .before .before .before .before .before .before .put-report .ensures) .1) (c .before .before .deliver .ensures)))

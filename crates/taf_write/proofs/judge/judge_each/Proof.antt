@@ -31,18 +31,15 @@ judge-each-spec =
     (λ c.
     let d = c .before .before .before .before .before .before in
     let a = d .before .args in
-    sym
-    (d .loop .inv .1
-    ∙ each-stop judgeChange judgeEach refl (λ x xs. refl) (a .t1) (a .count) (slots (d .before)) (d .loop .i) _ (omega arith) (sym (c .before .before .before .judge-change .ensures) ∙ c .before .judged .given .1)))
+    each-stop judgeChange judgeEach refl (λ x xs. refl) (a .t1) (a .count) (slots (d .before)) (d .loop .i) (d .loop .inv .1) _ (omega arith) (sym (c .before .before .before .judge-change .ensures) ∙ c .before .judged .given .1))
     (λ c. search needs) (λ c. search needs) (λ c. search needs)
     (λ c.
     let d = c .before .before .before .before .before in
     let a = d .before .args in (
       search needs,
-      d .loop .inv .1
-          ∙ each-next judgeChange judgeEach refl (λ x xs. refl) (a .t1) (a .count) (slots (d .before)) (d .loop .i) _ (omega arith) (sym (c .before .before .judge-change .ensures) ∙ c .enum-told .given .1),
+      each-next judgeChange judgeEach refl (λ x xs. refl) (a .t1) (a .count) (slots (d .before)) (d .loop .i) (d .loop .inv .1) _ (omega arith) (sym (c .before .before .judge-change .ensures) ∙ c .enum-told .given .1),
     ))
     (λ c.
     let d = c .before in
     let a = d .before .args in
-    sym (d .loop .inv .1 ∙ each-end judgeChange judgeEach refl (λ x xs. refl) (a .t1) (a .count) (slots (d .before)) (d .loop .i) (omega arith))))
+    each-end judgeChange judgeEach refl (λ x xs. refl) (a .t1) (a .count) (slots (d .before)) (d .loop .i) (d .loop .inv .1) (omega arith)))

@@ -1,6 +1,5 @@
 -- `taf_write::judge::judge_rest` meets its contract, by its test.
 -- Assumes nothing.
-use Rattle.taf_write.proofs.Judgings.{both}
 use Rattle.taf_write.proofs.judge.judge_rest.Statement.{statement}
 use Rattle.taf_write.proofs.judge.judge_rest.Tie as tie
 
@@ -10,4 +9,4 @@ judge-rest-spec =
     (tie.spec
     (λ c κs. tt) (λ c κs. tt) (λ c κs. tt) (λ c κs. tt)
     (λ c. rw (c .if1 .taken))
-    (λ c. both (c .before .before .before .before .if1 .left) (c .and-then .ensures) (rw (c .before .before .before .period-fits .ensures) at (c .before .before .judge .ensures)) (c .before .judge-forecast .ensures)))
+    (λ c. rw (c .before .before .before .before .if1 .left, c .and-then .ensures, c .before .before .judge .ensures, c .before .before .before .period-fits .ensures, c .before .judge-forecast .ensures)))

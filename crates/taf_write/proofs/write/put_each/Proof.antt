@@ -8,9 +8,9 @@ use borrow.Author.Needs.{needs}
 use Rattle.figures.specs.Put.{Put}
 use Rattle.figures.proofs.Puts.{put-none, length-put}
 use Rattle.text.specs.Groups.{written}
-use Rattle.body.proofs.Changes.{one-more}
+use Rattle.record.proofs.Counted.{take-most}
+use Rattle.places.proofs.Delivered.{one-more}
 use Rattle.taf.specs.Write.{showChange, showEach}
-use Rattle.taf_write.proofs.Writing.{take-sixteen}
 use Rattle.taf_write.proofs.write.put_each.Statement.{statement}
 use Rattle.taf_write.proofs.write.put_each.Tie as tie
 
@@ -41,4 +41,4 @@ put-each-spec =
     (λ c.
     let d = c .before .before .before .before in
     let all : c .before .loop .i ≡ min (d .args .count) 16 = omega arith in
-    rw (all, take-sixteen (d .args .t3) (d .args .count) (sixteen d)) at (c .before .loop .inv .2)))
+    rw (all, take-most 16 (d .args .t3) (d .args .count) (sixteen d)) at (c .before .loop .inv .2)))
