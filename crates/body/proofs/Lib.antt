@@ -1,7 +1,9 @@
 pub mod Places
 pub mod Bodies
 pub mod Promises
+pub mod Variants
 pub mod Says
 pub mod Meets
+pub mod Parts
 pub mod Changes
 pub mod Sayings

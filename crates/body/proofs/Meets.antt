@@ -2,28 +2,29 @@
 -- Assumes nothing.
 use Prim.Native.Nat.{ℕ, _+_}
 use native.Mathlib.Omega.{arith}
-use mathlib.Core.Path.{_≡_, sym, ap, _∙_}
+use mathlib.Core.Path.{_≡_, refl, sym, ap, _∙_}
 use mathlib.Core.Bool.{Bool, true}
 use mathlib.Core.List.{List}
-use types.Run.{OneOf}
-use denote.Enum.Declared.{tagOf}
 use Rattle.text.specs.declared.kinds.Refusal.{Refusal}
 use Rattle.text.specs.Groups.{partOf}
 use Rattle.text.proofs.Groups.{Follows}
 use Rattle.places.specs.declared.kinds.Turn.{Turn}
 use Rattle.places.specs.declared.kinds.Turn.the-variants as turn
-use Rattle.places.specs.Engine.{Group, Place, placeAt, onward, taken}
+use Rattle.places.specs.Engine.{Group, Read, Good, Bad, then, Place, onward, taken}
 use Rattle.places.specs.Parts.{stepBy}
 use Rattle.places.specs.Turn.{turnAt}
 use Rattle.places.proofs.Loop.{atMost, turnStep, turn-steps, turn-room}
 use Rattle.elements.specs.declared.kinds.Said.{Said}
-use Rattle.elements.specs.declared.kinds.Said.the-variants as said
-use Rattle.elements.proofs.kinds.Said as says
+use Rattle.body.specs.declared.kinds.Saying.{Saying}
 use Rattle.body.specs.declared.kinds.Met.{Met}
 use Rattle.body.specs.declared.kinds.Met.the-variants as met
-use Rattle.body.specs.Said.{unlessRefused}
-use Rattle.body.specs.Met.{Lies, Meets}
-use Rattle.body.proofs.Says.{said-fine, not-refused}
+use Rattle.body.specs.Said.{unlessRefused, SaysAt}
+use Rattle.body.specs.Met.{metAs, Lies, Meets}
+use Rattle.body.proofs.Says.{unless-then}
+
+-- what is refused is so with any record
+unless-all : {R : Type 0} (r : R) (x : Said) → unlessRefused x r ≡ then (unlessRefused x (tt {0})) (λ u. Good r)
+unless-all r x = unless-then (λ u. r) (tt {0}) x
 
 module _ {R : Type 0} (row : List (Place R)) (halts : Group → Bool) (put : ℕ → Group → Said → R → R) (c k : ℕ) (seen : R → Type 0)
     {text : List ℕ} {at start end : ℕ} (follows : Follows text at start end) {g : Group} (cut : g ≡ partOf text start end)
@@ -44,13 +45,17 @@ module _ {R : Type 0} (row : List (Place R)) (halts : Group → Bool) (put : ℕ
   meets-fault {f} is = (end, lies, λ r is-seen. steps (turn.Refused f) is r)
 
   -- the group goes to place i, and says this there
-  module _ {i j : ℕ} (is : u ≡ turn.At i j) (x : Said) (says-it : (r : R) → seen r → unlessRefused x (put j g x r) ≡ placeAt row i .read j g r) where
-    reads : (r : R) → seen r → stepBy row halts c k r (partOf text start end) ≡ taken (onward row i) (j + 1) (unlessRefused x (put j (partOf text start end) x r))
-    reads r is-seen = steps (turn.At i j) is r ∙ ap (taken (onward row i) (j + 1)) (sym (rw cut at (says-it r is-seen)))
+  pub meets-said : {i j : ℕ} → u ≡ turn.At i j → atMost 4 row ≡ true → (x : Said) → SaysAt row put seen i j g x
+      → {m : Met} → m ≡ metAs start (unlessRefused x (record { said = x; place = i; count = j; start = start; end = end })) → meets m
+  meets-said {i} {j} is few x says-it e = rw (e, unless-all {R = Saying} (record { said = x; place = i; count = j; start = start; end = end }) x) (go (unlessRefused x (tt {0})) refl)
+    where
+      reads : (v : Read (Unit {0})) → unlessRefused x (tt {0}) ≡ v → (r : R) → seen r
+          → stepBy row halts c k r (partOf text start end) ≡ taken (onward row i) (j + 1) (then v (λ u. Good (put j (partOf text start end) x r)))
+      reads v is-v r is-seen =
+          let said : unlessRefused x (put j (partOf text start end) x r) ≡ then v (λ u. Good (put j (partOf text start end) x r)) =
+          rw (unless-all (put j (partOf text start end) x r) x, is-v) in
+          steps (turn.At i j) is r ∙ ap (taken (onward row i) (j + 1)) (sym (rw cut at (says-it r is-seen)) ∙ said)
 
-    pub meets-bad : {f : Refusal} → x ≡ said.Refused f → meets (met.Refused f start)
-    meets-bad bad = (end, lies, λ r is-seen. rw bad at (reads r is-seen))
-
-    pub meets-good : atMost 4 row ≡ true → OneOf said-fine (tagOf says.the-type x) → meets (met.Says (record { said = x; place = i; count = j; start = start; end = end }))
-    meets-good few fine =
-        (lies, turn-room row halts c k g 4 few turns is, λ r is-seen. reads r is-seen ∙ ap (taken (onward row i) (j + 1)) (not-refused (put j (partOf text start end) x r) x fine))
+      go : (v : Read (Unit {0})) → unlessRefused x (tt {0}) ≡ v → meets (metAs start (then v (λ u. Good (record { said = x; place = i; count = j; start = start; end = end }))))
+      go (Good u) is-v = (lies, turn-room row halts c k g 4 few turns is, reads (Good u) is-v)
+      go (Bad f) is-v = (end, lies, reads (Bad f) is-v)

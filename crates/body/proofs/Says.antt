@@ -2,12 +2,11 @@
 -- Assumes nothing.
 use Prim.Native.Nat.{ℕ, _≤_}
 use mathlib.Core.Path.{_≡_, refl, sym, ap, _∙_}
-use mathlib.Core.Bool.{Bool, true, false, cond, not, _&&_, _||_, false≢true}
+use mathlib.Core.Bool.{Bool, true, false, cond, not, _&&_, _||_}
 use mathlib.Core.List.{List, [], _∷_}
-use lib.ListN.{take, List·getD-eq-default}
-use lib.Dec.{T, eqb}
-use mir.Val.{hasKey}
-use types.Run.{OneOf, hit, miss}
+use lib.ListN.{length, take, List·getD-eq-default}
+use lib.Dec.{eqb}
+use types.Run.{OneOf}
 use denote.Enum.Declared.{tagOf}
 use Rattle.figures.specs.Quote.{bytes}
 use Rattle.text.specs.declared.kinds.Refusal.the-variants as refusal
@@ -32,7 +31,8 @@ use Rattle.elements.specs.Sky.{layerShape, readLayer, readAlone, rises, addLaye
 use Rattle.elements.specs.Body.{Terms, besideOthers, readWeatherOrNsw, bodyRow}
 use Rattle.elements.specs.Answers.{asSaid, asWind, asVisibility, unlessWrong, layerSaid, aloneSaid, skySaid}
 use Rattle.elements.proofs.Answers.{said-put}
-use Rattle.body.specs.Said.{unlessRefused, putSaid, withSaid, weatherSaid, isOfBody, Says}
+use Rattle.body.specs.Said.{unlessRefused, putSaid, withSaid, weatherSaid, isOfBody, Says, SaysAt}
+use Rattle.body.proofs.Variants.{each, by-tag, never}
 
 own-as : {A : Type 0} (makes : A → Said) → ((a : A) → isOfBody (makes a) ≡ true) → (x : Read A) → isOfBody (asSaid makes x) ≡ true
 own-as makes own (Good a) = own a
@@ -155,40 +155,13 @@ module _ (forecast may automatic : Bool) (k : ℕ) (g : Group) (b : Body) where
         puts = λ required silent. ap (λ (p : Place Body). p .read k g b) (sym (List·getD-eq-default (bodyRow (terms required silent)) nowhere h));
       }
 
--- a place by its number
-pub says-at : (forecast may automatic : Bool) (j k : ℕ) (g : Group) (b : Body) {i : ℕ} {x y : Said} → i ≡ j → x ≡ y → Says forecast may automatic j k g b y
-    → Says forecast may automatic i k g b x
-says-at forecast may automatic j k g b p q s = rw (p, q) s
-
 -- what is no part of the body leaves it as it is, and so does a refusal
 abbrev elsewhere : List ℕ
 elsewhere = 0 ∷ 1 ∷ 2 ∷ 3 ∷ 4 ∷ 5 ∷ 6 ∷ 7 ∷ 8 ∷ 10 ∷ 12 ∷ 17 ∷ 18 ∷ 19 ∷ 20 ∷ 21 ∷ 22 ∷ []
 
-pub others : (k : ℕ) (x : Said) → OneOf elsewhere (tagOf says.the-type x) → (b : Body) → b ≡ putSaid k x b
+pub others : (k : ℕ) (b : Body) (x : Said) → OneOf elsewhere (tagOf says.the-type x) → b ≡ putSaid k x b
 unfolding putSaid
-others k (said.Wind x) told b = absurd (miss elsewhere 9 tt told)
-others k (said.Visibility x) told b = absurd (miss elsewhere 11 tt told)
-others k (said.Weather x) told b = absurd (miss elsewhere 13 tt told)
-others k said.Nsw told b = absurd (miss elsewhere 14 tt told)
-others k (said.Layer x) told b = absurd (miss elsewhere 15 tt told)
-others k (said.Cover x) told b = absurd (miss elsewhere 16 tt told)
-others k (said.Special x) told b = refl
-others k said.Corrected told b = refl
-others k (said.Correction x) told b = refl
-others k said.Station told b = refl
-others k (said.Time x) told b = refl
-others k said.Nil told b = refl
-others k said.Automatic told b = refl
-others k (said.Period x) told b = refl
-others k said.Cancelled told b = refl
-others k (said.Variation x) told b = refl
-others k (said.Runway x) told b = refl
-others k (said.Temperatures x) told b = refl
-others k (said.Qnh x) told b = refl
-others k (said.Recent x) told b = refl
-others k said.Nothing told b = refl
-others k (said.Refused f) told b = refl
-others k (said.Times x) told b = refl
+others k b = by-tag elsewhere (λ x. b ≡ putSaid k x b) (search never)
 
 -- by what the group was found to say
 pub put-by : (k : ℕ) (b : Body) {x y : Said} → x ≡ y → putSaid k y b ≡ putSaid k x b
@@ -199,81 +172,38 @@ abbrev pub said-fine : List ℕ
 said-fine = 0 ∷ 1 ∷ 2 ∷ 3 ∷ 4 ∷ 5 ∷ 6 ∷ 7 ∷ 8 ∷ 9 ∷ 10 ∷ 11 ∷ 12 ∷ 13 ∷ 14 ∷ 15 ∷ 16 ∷ 17 ∷ 18 ∷ 19 ∷ 20 ∷ 22 ∷ []
 
 pub not-refused : {R : Type 0} (r : R) (x : Said) → OneOf said-fine (tagOf says.the-type x) → unlessRefused x r ≡ Good r
-not-refused r (said.Special x) told = refl
-not-refused r said.Corrected told = refl
-not-refused r (said.Correction x) told = refl
-not-refused r said.Station told = refl
-not-refused r (said.Time x) told = refl
-not-refused r said.Nil told = refl
-not-refused r said.Automatic told = refl
-not-refused r (said.Period x) told = refl
-not-refused r said.Cancelled told = refl
-not-refused r (said.Wind x) told = refl
-not-refused r (said.Variation x) told = refl
-not-refused r (said.Visibility x) told = refl
-not-refused r (said.Runway x) told = refl
-not-refused r (said.Weather x) told = refl
-not-refused r said.Nsw told = refl
-not-refused r (said.Layer x) told = refl
-not-refused r (said.Cover x) told = refl
-not-refused r (said.Temperatures x) told = refl
-not-refused r (said.Qnh x) told = refl
-not-refused r (said.Recent x) told = refl
-not-refused r said.Nothing told = refl
-not-refused r (said.Refused f) told = absurd (miss said-fine 21 tt told)
-not-refused r (said.Times x) told = refl
-
--- ---- a record that holds the body, as every kind has it
+not-refused r = by-tag said-fine (λ x. unlessRefused x r ≡ Good r) (search never)
 
 -- what is said, put into a part of a record, is so put into the record
 pub unless-then : {B R : Type 0} (h : B → R) (b : B) (x : Said) → unlessRefused x (h b) ≡ then (unlessRefused x b) (λ b. Good (h b))
-unless-then h b (said.Special x) = refl
-unless-then h b said.Corrected = refl
-unless-then h b (said.Correction x) = refl
-unless-then h b said.Station = refl
-unless-then h b (said.Time x) = refl
-unless-then h b said.Nil = refl
-unless-then h b said.Automatic = refl
-unless-then h b (said.Period x) = refl
-unless-then h b said.Cancelled = refl
-unless-then h b (said.Wind x) = refl
-unless-then h b (said.Variation x) = refl
-unless-then h b (said.Visibility x) = refl
-unless-then h b (said.Runway x) = refl
-unless-then h b (said.Weather x) = refl
-unless-then h b said.Nsw = refl
-unless-then h b (said.Layer x) = refl
-unless-then h b (said.Cover x) = refl
-unless-then h b (said.Temperatures x) = refl
-unless-then h b (said.Qnh x) = refl
-unless-then h b (said.Recent x) = refl
-unless-then h b said.Nothing = refl
-unless-then h b (said.Refused f) = refl
-unless-then h b (said.Times x) = refl
+unless-then h b = each (λ x. unlessRefused x (h b) ≡ then (unlessRefused x b) (λ b. Good (h b))) search
 
--- what is of the body, or a refusal, by its tag
-pub tag-in : (ks : List ℕ) → T (hasKey ks 9) → T (hasKey ks 11) → T (hasKey ks 13) → T (hasKey ks 14) → T (hasKey ks 15) → T (hasKey ks 16) → T (hasKey ks 21) → (x : Said) → isOfBody x ≡ true
-    → OneOf ks (tagOf says.the-type x)
-tag-in ks wind view weather nsw layer cover bad (said.Special x) own = absurd (false≢true own)
-tag-in ks wind view weather nsw layer cover bad said.Corrected own = absurd (false≢true own)
-tag-in ks wind view weather nsw layer cover bad (said.Correction x) own = absurd (false≢true own)
-tag-in ks wind view weather nsw layer cover bad said.Station own = absurd (false≢true own)
-tag-in ks wind view weather nsw layer cover bad (said.Time x) own = absurd (false≢true own)
-tag-in ks wind view weather nsw layer cover bad said.Nil own = absurd (false≢true own)
-tag-in ks wind view weather nsw layer cover bad said.Automatic own = absurd (false≢true own)
-tag-in ks wind view weather nsw layer cover bad (said.Period x) own = absurd (false≢true own)
-tag-in ks wind view weather nsw layer cover bad said.Cancelled own = absurd (false≢true own)
-tag-in ks wind view weather nsw layer cover bad (said.Wind x) own = hit ks 9 wind
-tag-in ks wind view weather nsw layer cover bad (said.Variation x) own = absurd (false≢true own)
-tag-in ks wind view weather nsw layer cover bad (said.Visibility x) own = hit ks 11 view
-tag-in ks wind view weather nsw layer cover bad (said.Runway x) own = absurd (false≢true own)
-tag-in ks wind view weather nsw layer cover bad (said.Weather x) own = hit ks 13 weather
-tag-in ks wind view weather nsw layer cover bad said.Nsw own = hit ks 14 nsw
-tag-in ks wind view weather nsw layer cover bad (said.Layer x) own = hit ks 15 layer
-tag-in ks wind view weather nsw layer cover bad (said.Cover x) own = hit ks 16 cover
-tag-in ks wind view weather nsw layer cover bad (said.Temperatures x) own = absurd (false≢true own)
-tag-in ks wind view weather nsw layer cover bad (said.Qnh x) own = absurd (false≢true own)
-tag-in ks wind view weather nsw layer cover bad (said.Recent x) own = absurd (false≢true own)
-tag-in ks wind view weather nsw layer cover bad said.Nothing own = absurd (false≢true own)
-tag-in ks wind view weather nsw layer cover bad (said.Refused f) own = hit ks 21 bad
-tag-in ks wind view weather nsw layer cover bad (said.Times x) own = absurd (false≢true own)
+-- ---- a group at a place of a row, of any record
+
+module _ {R : Type 0} (row : List (Place R)) (put : ℕ → Group → Said → R → R) (seen : R → Type 0) (k : ℕ) (g : Group) where
+  abbrev AtPlace : ℕ → Said → Type 0
+  AtPlace i x = SaysAt row put seen i k g x
+
+  -- what a group is read as, where it says one value that goes into one part of the record
+  pub value-says : {A : Type 0} (i : ℕ) (makes : A → Said) (set : A → R → R) (x : Read A)
+      → ((r : R) (a : A) → unlessRefused (makes a) (put k g (makes a) r) ≡ Good (set a r))
+      → ((r : R) → seen r → placeAt row i .read k g r ≡ then x (λ a. Good (set a r))) → AtPlace i (asSaid makes x)
+  value-says i makes set x good reads r is = said-put makes (λ y. unlessRefused y (put k g y r)) (λ a. set a r) (good r) (λ f. refl) x ∙ sym (reads r is)
+
+  -- past the row no group is taken
+  pub past-says : (i : ℕ) → length row ≤ i → AtPlace i (said.Refused refusal.Shape)
+  past-says i h r is = ap (λ (p : Place R). p .read k g r) (sym (List·getD-eq-default row nowhere h))
+
+  -- a place of the body, which the record holds
+  module _ (body : R → Body) (set : Body → R → R) (b : Body) (held : (r : R) → seen r → body r ≡ b)
+      (onto : (r : R) (x : Said) → isOfBody x ≡ true → set (putSaid k x (body r)) r ≡ put k g x r) where
+    pub body-says : (i : ℕ) {forecast may automatic : Bool} {j : ℕ} {x : Said} → Says forecast may automatic j k g b x
+        → ((r : R) → seen r → (required : Bool) × (silent : Bool)
+        × (placeAt row i .read k g r
+        ≡ then (placeAt (bodyRow (record { forecast = forecast; required = required; mayNsw = may; automatic = automatic; silent = silent })) j .read k g (body r)) (λ b. Good (set b r))))
+        → AtPlace i x
+    body-says i {x = x} s reads r is =
+        let (required, silent, at) = reads r is in
+        let own : unlessRefused x (put k g x r) ≡ then (withSaid k x (body r)) (λ b. Good (set b r)) =
+        rw (← onto r x (s .own)) (unless-then (λ b. set b r) (putSaid k x (body r)) x) in
+        own ∙ ap (λ (y : Read Body). then y (λ b. Good (set b r))) (rw (← held r is) at (s .puts required silent)) ∙ sym at

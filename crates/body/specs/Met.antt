@@ -6,11 +6,17 @@ use mathlib.Core.Bool.{Bool}
 use mathlib.Core.List.{List, [], _∷_}
 use lib.ListN.{length}
 use Rattle.text.specs.Groups.{partOf, groupsFrom}
-use Rattle.places.specs.Engine.{Group, Place, onward, Step, On, Halt, Stop}
+use Rattle.places.specs.Engine.{Group, Read, Good, Bad, Place, onward, Step, On, Halt, Stop}
 use Rattle.places.specs.Parts.{stepBy}
 use Rattle.elements.specs.declared.kinds.Said.{Said}
+use Rattle.body.specs.declared.kinds.Saying.{Saying}
 use Rattle.body.specs.declared.kinds.Met.{Met}
 use Rattle.body.specs.declared.kinds.Met.the-variants as met
+
+-- a group at its place, which is taken, or refused where it starts
+abbrev pub metAs : ℕ → Read Saying → Met
+metAs start (Good x) = met.Says x
+metAs start (Bad f) = met.Refused f start
 
 -- the next group at or after a position of the text stands from `start` up to `end`
 pub record Lies (text : List ℕ) (at start end : ℕ) : Type 0 where

@@ -3,8 +3,9 @@
 use Prim.Native.Nat.{ℕ}
 use mathlib.Core.Path.{_≡_}
 use mathlib.Core.Bool.{Bool, true, false, cond}
+use mathlib.Core.List.{List}
 use Rattle.text.specs.declared.kinds.Refusal.the-variants as refusal
-use Rattle.places.specs.Engine.{Group, Read, Good, Bad, placeAt}
+use Rattle.places.specs.Engine.{Group, Read, Good, Bad, Place, placeAt}
 use Rattle.record.specs.declared.aerodrome.Weather.{Weather}
 use Rattle.record.specs.declared.aerodrome.Body.{Body}
 use Rattle.record.specs.Body.{setWind, setVisibility, setWeathers, setNsw, setSky}
@@ -106,3 +107,7 @@ pub record Says (forecast may automatic : Bool) (i k : ℕ) (g : Group) (b : Bod
   pub own : isOfBody x ≡ true
   pub puts : (required silent : Bool)
       → withSaid k x b ≡ placeAt (bodyRow (record { forecast = forecast; required = required; mayNsw = may; automatic = automatic; silent = silent })) i .read k g b
+
+-- A group at place i of any row says this: put into any record of which this much is seen, it is what the place reads.
+abbrev pub SaysAt : {R : Type 0} → List (Place R) → (ℕ → Group → Said → R → R) → (R → Type 0) → ℕ → ℕ → Group → Said → Type 0
+SaysAt {R} row put seen i k g x = (r : R) → seen r → unlessRefused x (put k g x r) ≡ placeAt row i .read k g r

@@ -1,4 +1,6 @@
-// What a group at one of the body's places says, and the body with it.
+// What a group at one of the body's places says, and the body with it; what a group comes to by what it says.
+use crate::kinds::Met;
+use crate::kinds::Saying;
 use elements::kinds::Said;
 use elements::kinds::WeatherRead;
 use record::aerodrome::Body;
@@ -23,7 +25,8 @@ ghost use Rattle.elements.specs.declared.kinds.Said.the-variants as said;
 ghost use Rattle.elements.specs.Answers.{unlessWrong};
 ghost use Rattle.elements.specs.Body.{hasWeatherOrNsw};
 ghost use Rattle.elements.specs.Weather.{readWeather};
-ghost use Rattle.body.specs.Said.{putSaid, Says, weatherSaid};
+ghost use Rattle.body.specs.Said.{unlessRefused, putSaid, Says, weatherSaid};
+ghost use Rattle.body.specs.Met.{metAs};
 
 // NSW, where it may stand: before any weather, and not beside CAVOK.
 fn say_nsw(may: bool, count: usize, cavok: bool) -> Said
@@ -135,4 +138,20 @@ pub fn put(said: Said, count: usize, b: Body) -> Body
         _ => {}
     }
     a
+}
+
+// A group from `start` up to `end` that says this at its place, where `count` groups stand: it is refused, or taken.
+pub fn meet_said(said: Said, place: usize, count: usize, start: usize, end: usize) -> Met
+    ensures { λ m. ⌜ m ≡ metAs start (unlessRefused said (record { said = said; place = place; count = count; start = start; end = end })) ⌝ }
+{
+    if let Said::Refused(refusal) = said {
+        return Met::Refused { refusal, start };
+    }
+    Met::Says(Saying {
+        said,
+        place,
+        count,
+        start,
+        end,
+    })
 }

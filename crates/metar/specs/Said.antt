@@ -3,7 +3,7 @@
 use Prim.Native.Nat.{ℕ}
 use mathlib.Core.Path.{_≡_}
 use mathlib.Core.Bool.{Bool, true}
-use Rattle.places.specs.Engine.{Group, Read, placeAt}
+use Rattle.places.specs.Engine.{Group}
 use Rattle.record.specs.declared.aerodrome.Body.{Body}
 use Rattle.record.specs.declared.aerodrome.Observation.{Observation}
 use Rattle.record.specs.Observation.{setSpecial, setCorrected, setStation, setTime, setNil, setAutomatic, setBody, setVariation, setRunways, setTemperatures, setQnh, setRecents}
@@ -12,7 +12,7 @@ use Rattle.elements.specs.declared.kinds.Said.the-variants as said
 use Rattle.elements.specs.Weather.{withWeather}
 use Rattle.aerodrome_groups.specs.Head.{stationOf}
 use Rattle.aerodrome_groups.specs.Runway.{withRunway}
-use Rattle.body.specs.Said.{unlessRefused, putSaid}
+use Rattle.body.specs.Said.{putSaid, SaysAt}
 use Rattle.metar_row.specs.Row.{row}
 
 -- the record with what is said of the body
@@ -47,4 +47,4 @@ reportSaid k g (said.Times x) r = ontoBody k (said.Times x) r
 
 -- A group at place i says this: put into any record with this body, AUTO or not, it is what the place reads.
 abbrev pub Says : ℕ → ℕ → Group → Bool → Body → Said → Type 0
-Says i k g automatic b x = (r : Observation) → r .automatic ≡ automatic → r .body ≡ b → unlessRefused x (reportSaid k g x r) ≡ placeAt row i .read k g r
+Says i k g automatic b x = SaysAt row reportSaid (λ r. (r .automatic ≡ automatic) × (r .body ≡ b)) i k g x

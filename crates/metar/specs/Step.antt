@@ -6,7 +6,7 @@ use lib.ListN.{length}
 use Rattle.text.specs.Groups.{partOf, groupsFrom}
 use Rattle.text.specs.Text.{tailOf}
 use Rattle.places.specs.Engine.{Outcome}
-use Rattle.places.specs.Parts.{turned, ended, unless, owes, further}
+use Rattle.places.specs.Parts.{turned, unless, owes, further}
 use Rattle.record.specs.declared.aerodrome.Observation.{Observation}
 use Rattle.record.specs.declared.aerodrome.Metar.{Metar}
 use Rattle.record.specs.Trend.{blankTrend}
@@ -17,11 +17,7 @@ use Rattle.metar.specs.Read.{mainPart}
 abbrev pub alone : Observation → Metar
 alone o = record { observation = o; trend = blankTrend }
 
--- the groups are over, where k groups stand at place c
-abbrev pub overAt : List ℕ → ℕ → ℕ → Observation → Outcome Metar
-overAt text c k o = ended (tailOf text) (length text) (owes mainPart c k o) (mainPart .takes o)
-
--- a word stands from start up to end
+-- a word stands from start up to end, where k groups stand at place c
 abbrev pub wordAt : List ℕ → ℕ → ℕ → ℕ → ℕ → Observation → Outcome Metar
 wordAt text start end c k o =
     unless (owes mainPart c k o) start

@@ -6,11 +6,12 @@ use crate::step::say_at;
 use aerodrome_groups::read::add_runway;
 use aerodrome_groups::read::station_of;
 use body::kinds::Met;
-use body::kinds::Saying;
+use body::read::meet_said;
 use body::read::put;
 use elements::kinds::Said;
 use metar_row::go_past;
 use metar_row::musts;
+use places::end_verdict;
 use places::kinds::Turn;
 use record::aerodrome::Body;
 use record::aerodrome::Metar;
@@ -22,7 +23,6 @@ use text::kinds::Cut;
 use text::kinds::Verdict;
 use text::part;
 use trend::kinds::Next;
-use trend::part::end_verdict;
 use trend::read::read_trend;
 use trend::word::meet_word;
 use weather::read::add_weather;
@@ -35,10 +35,11 @@ ghost use Rattle.places.specs.Parts.{owes};
 ghost use Rattle.record.specs.declared.aerodrome.Observation.{Observation};
 ghost use Rattle.body.specs.Met.{Meets};
 ghost use Rattle.metar_row.specs.Row.{row, words};
-ghost use Rattle.places.specs.Answer.{outcomeOf};
+ghost use Rattle.places.specs.Answer.{outcomeOf, endVerdict};
 ghost use Rattle.metar.specs.Said.{reportSaid};
 ghost use Rattle.trend.specs.Step.{afterPart};
-ghost use Rattle.metar.specs.Step.{alone, overAt, wordAt};
+ghost use Rattle.trend.specs.declared.kinds.Next.the-variants as next;
+ghost use Rattle.metar.specs.Step.{alone, wordAt};
 ghost use Rattle.metar.specs.Read.{mainPart, behindName, answer};
 
 // The verdict, with the observation and the trend where the text is accepted.
@@ -51,7 +52,7 @@ fn answer_with(verdict: Verdict, observation: Observation, trend: Trend) -> Read
     }
 }
 
-// The same without a trend.
+// The same without a trend. The observation is stored in a blank report: a blank trend that is handed over by value would be copied field by field.
 fn answer_alone(verdict: Verdict, observation: Observation) -> Reading
     ensures { λ r. ⌜ r ≡ answer (outcomeOf verdict (alone observation)) ⌝ }
 {
@@ -75,7 +76,7 @@ fn owes(place: usize, count: usize) -> bool
 
 // What follows the observation where the groups are over.
 fn after_groups(text: &[u8], place: usize, count: usize) -> Next
-    ensures { λ r. ⌜ ((o : Observation) → overAt (now (text .entry)) place count o ≡ afterPart (now (text .entry)) 0 (alone o) r) ⌝ }
+    ensures { λ r. ⌜ ((o : Observation) → r ≡ next.End (endVerdict (tailOf (now (text .entry))) (length (now (text .entry))) (owes mainPart place count o))) ⌝ }
 {
     let verdict = end_verdict(text, owes(place, count));
     Next::End(verdict)
@@ -121,16 +122,7 @@ fn meet(text: &[u8], from: usize, place: usize, count: usize, automatic: bool, b
             count: standing,
         } => {
             let said = say_at(there, standing, g, automatic, body);
-            if let Said::Refused(refusal) = said {
-                return Met::Refused { refusal, start };
-            }
-            Met::Says(Saying {
-                said,
-                place: there,
-                count: standing,
-                start,
-                end,
-            })
+            meet_said(said, there, standing, start, end)
         }
     }
 }

@@ -11,8 +11,8 @@ use lib.ListN.{length}
 use Rattle.text.specs.declared.kinds.Tail.the-variants.{Clear}
 use Rattle.text.specs.declared.kinds.Bytes.the-variants as judgement
 use Rattle.text.specs.Groups.{groupsFrom, join}
-use Rattle.text.specs.Text.{bytesOf, tailOf}
-use Rattle.text.proofs.Joins.{round-trip-bytes, join-tail, join-sound}
+use Rattle.text.specs.Text.{bytesOf}
+use Rattle.text.proofs.Joins.{round-trip-bytes, join-sound}
 use Rattle.figures.proofs.Impossible.{impossible}
 use Rattle.shapes.specs.Pattern.{Pattern, hasAny}
 use Rattle.places.specs.Engine.{Group, Good, Place, Done, run, written, putAll}
@@ -81,9 +81,6 @@ module _ {R : Type 0} where
 
     pub text-sound : 0 < length (written row r) → rowRoom ns row ≤ 2048 → bytesOf (join (written row r)) ≡ judgement.Sound
     text-sound some h = let s = text-short some in join-sound (written row r) (kept-sizes kept .allow) (omega arith)
-
-    pub text-tail : tailOf (join (written row r)) ≡ Clear
-    text-tail = join-tail (written row r) (kept-sizes kept .wholes)
 
     pub text-back : 0 < length row → sound words row ≡ true → Covered row → (end : ℕ)
         → run row words Clear end 0 0 acc (groupsFrom (join (written row r)) 0) ≡ Done end (putAll row r acc)

@@ -1,12 +1,12 @@
 -- How the search for a group's place, and for what is owed, unrolls along a row.
 -- Assumes nothing.
-use Prim.Native.Nat.{ℕ, suc, _+_, _-_, _<_}
+use Prim.Native.Nat.{ℕ, zero, suc, _+_, _-_, _<_}
 use native.Mathlib.Omega.{arith}
 use native.Mathlib.Numerals.{add-one}
 use mathlib.Core.Path.{_≡_, refl, sym}
 use mathlib.Core.Bool.{Bool, true, false, _&&_, _||_, cond, false≢true}
 use mathlib.Core.List.{List, [], _∷_}
-use lib.ListN.{length, getD, take, drop, drop-of-length-le, length-drop}
+use lib.ListN.{length, getD, take, drop, replicate, drop-of-length-le, length-drop}
 use lib.Seq.{drop-cons, take-all, take-nil}
 use lib.Dec.{ltb, eqb}
 use borrow.Author.Tests.{ltb-false}
@@ -53,3 +53,15 @@ owed-stop us i k end e = go (ltb i end) refl (ltb i (length us)) refl e
 
 pub owed-all : (us : List Bool) (i k : ℕ) → owed k (take (length us - i) (drop i us)) ≡ owed k (drop i us)
 owed-all us i k = rw (take-all (length us - i) (drop i us) (simp length-drop (omega arith)))
+
+-- where no place must have a group, none is owed
+none-owed : (n k : ℕ) → owed k (replicate n false) ≡ false
+unfolding owed
+none-owed zero k = refl
+none-owed (suc n) k = none-owed n 0
+
+pub none-left : (n c k : ℕ) → owed k (drop c (replicate n false)) ≡ false
+unfolding owed
+none-left n zero k = none-owed n k
+none-left zero (suc c) k = refl
+none-left (suc n) (suc c) k = none-left n c k

@@ -1,17 +1,21 @@
-// The place engine's code, for every report kind: where a group goes in a row of places, and whether a required group is absent. A kind hands
-// over which places have the group's shape, how many groups may stand at each, and which must have one.
+// The place engine's code, for every report kind: where a group goes in a row of places, whether a required group is absent, and the verdict at the text's end. A kind
+// hands over which places have the group's shape, how many groups may stand at each, and which must have one.
 pub mod kinds;
 
 use kinds::Found;
 use kinds::Turn;
 use text::kinds::Refusal;
+use text::kinds::Tail;
+use text::kinds::Verdict;
 ghost use mathlib.Core.Path.{_≡_};
 ghost use Prim.Native.Nat.{_-_};
 ghost use mathlib.Core.Bool.{cond};
 ghost use lib.Dec.{eqb};
-ghost use lib.ListN.{getD, take, drop};
+ghost use lib.ListN.{length, getD, take, drop};
+ghost use Rattle.text.specs.Text.{tailOf};
 ghost use Rattle.places.specs.Seek.{answers, foundAt, owed, refusalOf};
 ghost use Rattle.places.specs.Turn.{turnBy};
+ghost use Rattle.places.specs.Answer.{endVerdict};
 
 // May a place answer for a group where `count` groups stand and `most` may? One more may stand there, or it repeats and is full; `all`: in any case.
 pub fn may_answer(all: bool, count: usize, most: usize) -> bool
@@ -103,5 +107,28 @@ pub fn turn_by(found: Found) -> Turn
         Found::Full => Turn::Refused(Refusal::Limit),
         Found::Earlier => Turn::Refused(Refusal::Order),
         Found::Unknown => Turn::Refused(Refusal::Shape),
+    }
+}
+
+// The verdict where the groups are over: what follows the "=" is refused first, an absence last.
+pub fn end_verdict(text: &[u8], lacking: bool) -> Verdict
+    ensures { λ r. ⌜ r ≡ endVerdict (tailOf (now (text .entry))) (length (now (text .entry))) lacking ⌝ }
+{
+    let tail = text::tail(text);
+    match tail {
+        Tail::Junk(place) => Verdict::Refused {
+            refusal: Refusal::Shape,
+            place,
+        },
+        Tail::Clear => {
+            if lacking {
+                Verdict::Refused {
+                    refusal: Refusal::Absence,
+                    place: text.len(),
+                }
+            } else {
+                Verdict::Accepted { rest: text.len() }
+            }
+        }
     }
 }

@@ -4,7 +4,7 @@ use Prim.Native.Nat.{ℕ, suc, _+_, _-_, _≤_, _<_}
 use native.Mathlib.Omega.{arith}
 use native.Mathlib.Numerals.{add-one}
 use mathlib.Core.Path.{_≡_, refl, sym, ap, _∙_}
-use mathlib.Core.Bool.{Bool, true, false}
+use mathlib.Core.Bool.{true, false}
 use mathlib.Core.List.{List, [], _∷_}
 use lib.ListN.{length, set}
 use lib.Seq.{sets, set-comm}
@@ -12,7 +12,6 @@ use borrow.Author.Tests.{lt-ltb}
 use Rattle.text.specs.declared.kinds.Refusal.{Refusal}
 use Rattle.text.specs.declared.kinds.Refusal.the-variants as refusal
 use Rattle.text.specs.declared.kinds.Tail.{Tail}
-use Rattle.text.specs.declared.kinds.Tail.the-variants.{Clear, Junk}
 use Rattle.text.specs.declared.kinds.Verdict.{Verdict}
 use Rattle.text.specs.Groups.{Piece, groupsFrom, partOf as bytesOf}
 use Rattle.text.specs.Text.{tailOf}
@@ -21,11 +20,11 @@ use Rattle.figures.specs.Quote.{bytes}
 use Rattle.figures.proofs.Impossible.{impossible}
 use Rattle.shapes.specs.Pattern.{low, high, fits, hasAny, clash, clashEach}
 use Rattle.shapes.proofs.Patterns.{excluded-each}
-use Rattle.places.specs.Engine.{Group, onward, On, step, Outcome}
-use Rattle.places.specs.Answer.{outcomeOf}
-use Rattle.places.specs.Parts.{runTo, stepBy, ended, further, reportOf}
+use Rattle.places.specs.Engine.{Group, On, step, Outcome}
+use Rattle.places.specs.Answer.{outcomeOf, endVerdict}
+use Rattle.places.specs.Parts.{runTo, stepBy, opened, reportOf}
 use Rattle.places.proofs.Going.{step-first}
-use Rattle.places.proofs.Turns.{comes, within, within-over, within-on, within-fault, within-halt}
+use Rattle.places.proofs.Turns.{comes, within, no-room, one-more}
 use Rattle.record.specs.declared.aerodrome.Opening.{Opening}
 use Rattle.record.specs.declared.aerodrome.Opening.the-variants as kind
 use Rattle.record.specs.declared.aerodrome.Period.{Period}
@@ -33,14 +32,14 @@ use Rattle.record.specs.declared.aerodrome.Leg.{Leg}
 use Rattle.record.specs.declared.aerodrome.Change.{Change}
 use Rattle.record.specs.declared.aerodrome.Taf.{Taf}
 use Rattle.record.specs.Taf.{blankPeriod, blankLeg, blankTaf, setPeriod}
-use Rattle.body.specs.declared.kinds.Saying.{Saying}
 use Rattle.body.specs.declared.kinds.Met.{Met}
 use Rattle.body.specs.declared.kinds.Met.the-variants as met
 use Rattle.body.specs.Met.{Meets}
+use Rattle.body.proofs.Parts.{Reached as PartReached, reads-over, reads-word, word-ahead, reads-fault}
 use Rattle.taf_row.specs.declared.kinds.Part.{Part}
 use Rattle.taf_row.specs.declared.kinds.Part.the-variants as part
 use Rattle.taf.specs.declared.kinds.Opened.{Opened}
-use Rattle.taf.specs.declared.kinds.Opened.the-variants as opened
+use Rattle.taf.specs.declared.kinds.Opened.the-variants as opening
 use Rattle.taf.specs.declared.kinds.Next.the-variants as next
 use Rattle.taf.specs.declared.kinds.PartRead.{PartRead}
 use Rattle.taf.specs.declared.kinds.Ahead.{Ahead}
@@ -49,17 +48,17 @@ use Rattle.taf_row.specs.Row.{word, row, changeWords}
 use Rattle.taf_row.specs.Tests.{joins, owesIn}
 use Rattle.taf.specs.Said.{partSaid}
 use Rattle.taf.specs.Read.{probableGroup, fromGroup, openedBy, afterProbable, partOf, changeOf, partIn, changePart, changes, groupsRead, behindName, answer}
-use Rattle.taf.specs.Step.{begunBy, Begins, partBy, changeFrom, bodyFrom, refusedAt, atEnd, afterPart, MetWord, PartDone, noneAhead, ReadAhead}
+use Rattle.taf.specs.Step.{begunBy, Begins, moreAfter, partBy, changeFrom, bodyFrom, refusedAt, afterPart, MetWord, PartDone, noneAhead, ReadAhead}
 
 -- ---- what a change word opens
 
 module _ (g : Group) where
-  pub opens-becoming : word "BECMG" g ≡ true → begunBy (opened.Good kind.Becoming blankPeriod) ≡ openedBy g
+  pub opens-becoming : word "BECMG" g ≡ true → begunBy (opening.Good kind.Becoming blankPeriod) ≡ openedBy g
   unfolding openedBy
   opens-becoming a = rw a
 
   module _ (a : word "BECMG" g ≡ false) where
-    pub opens-temporary : word "TEMPO" g ≡ true → begunBy (opened.Good kind.Temporary blankPeriod) ≡ openedBy g
+    pub opens-temporary : word "TEMPO" g ≡ true → begunBy (opening.Good kind.Temporary blankPeriod) ≡ openedBy g
     unfolding openedBy
     opens-temporary b = rw (a, b)
 
@@ -92,114 +91,53 @@ module _ (g : Group) (start end n : ℕ) where
   meets-lacking = record { reads = λ text t. refl; ahead = λ o q to e. impossible (cc) }
 
   pub meets-full : 16 ≤ n → MetWord g start end n false (refusedAt refusal.Limit start)
-  unfolding further
-  meets-full h = let none : 16 - n ≡ 0 = omega arith in record { reads = λ text t. rw none; ahead = λ o q to e. impossible (cc) }
+  meets-full h = record { reads = λ text t. no-room (tailOf text) (length text) changes 16 n t _ (openedBy g) (groupsFrom text end) h; ahead = λ o q to e. impossible (cc) }
 
-  module _ (few : n < 16) where
-    one-less : 16 - n ≡ suc (16 - (n + 1))
-    one-less = omega arith
+  module _ (few : n < 16) (x : Opened) (e : begunBy x ≡ openedBy g) where
+    abbrev opens : List ℕ → Taf → Outcome Taf
+    opens text t = opened (tailOf text) (length text) changes (moreAfter text (n + 1)) t (record { start = start; bytes = g }) (begunBy x) (groupsFrom text end)
 
-    pub meets-good : (o : Opening) (p : Period) {x : Opened} → begunBy x ≡ openedBy g → x ≡ opened.Good o p → MetWord g start end n false (next.Change o p end)
-    unfolding further changeFrom
-    meets-good o p e is =
-        record {
-          reads = λ text t. rw (one-less, ← e, is);
-          ahead = λ o′ q to z. let same : end ≡ to = cc in (sym same, few);
-        }
+    room : (text : List ℕ) (t : Taf) → moreAfter text n t (record { start = start; bytes = g }) (openedBy g) (groupsFrom text end) ≡ opens text t
+    room text t = rw e (one-more (tailOf text) (length text) changes 16 n t _ (openedBy g) (groupsFrom text end) few)
 
-    pub meets-bad : {x : Opened} {f : Refusal} → begunBy x ≡ openedBy g → x ≡ opened.Bad f → MetWord g start end n false (refusedAt f start)
-    unfolding further
-    meets-bad e is = record { reads = λ text t. rw (one-less, ← e, is); ahead = λ o q to z. impossible (cc) }
+    pub meets-good : (o : Opening) (p : Period) → x ≡ opening.Good o p → MetWord g start end n false (next.Change o p end)
+    unfolding changeFrom
+    meets-good o p is = record { reads = λ text t. rw is at (room text t); ahead = λ o′ q to z. let same : end ≡ to = cc in (sym same, few) }
+
+    pub meets-bad : {f : Refusal} → x ≡ opening.Bad f → MetWord g start end n false (refusedAt f start)
+    meets-bad is = record { reads = λ text t. rw is at (room text t); ahead = λ o q to z. impossible (cc) }
 
 -- ---- a part, from group to group
 
--- a part is being read, n changes in the report that takes it in
-unfoldable pub goes-on : List ℕ → Part → ℕ → (Leg → Taf) → ℕ → ℕ → Leg → ℕ → Outcome Taf
-goes-on text w n takes c k r at = within changes text (partIn w takes) (16 - n) c k r at
+-- a part has been read from a position on, n changes in the report that takes it in
+abbrev pub Reached : List ℕ → Part → ℕ → ℕ → Leg → ℕ → ℕ → ℕ → Leg → ℕ → Type 0
+Reached text w n first r₀ start c k r at = PartReached changes text (partIn w) (row w) (hasAny changeWords) (16 - n) first r₀ start c k r at
 
--- a part has been read from a position on: the text is read as from where reading stands
-pub record Reached (text : List ℕ) (w : Part) (n first : ℕ) (r₀ : Leg) (start c k : ℕ) (r : Leg) (at : ℕ) : Type 0 where
-  pub same : (takes : Leg → Taf) → partBy text w takes n first r₀ start ≡ goes-on text w n takes c k r at
-  pub later : start ≤ at
+-- a part with the body that the loop sees
+abbrev Like : Leg → Leg → Type 0
+Like r a = a .body ≡ r .body
 
-pub starts : (text : List ℕ) (w : Part) (n k : ℕ) (r : Leg) (at : ℕ) → Reached text w n k r at 0 k r at
-unfolding partBy goes-on within comes
-starts text w n k r at = record { same = λ takes. refl; later = omega arith }
+-- and ends with the next group, as the part with this body meets it
+module _ {text : List ℕ} {w : Part} {n first : ℕ} {r₀ : Leg} {start c k : ℕ} {r : Leg} {at : ℕ} (reached : Reached text w n first r₀ start c k r at)
+    {m : Met} (meets : Meets (row w) (hasAny changeWords) partSaid c k (Like r) text at m) where
+  pub part-over : {x : PartRead} → m ≡ met.Over → x ≡ record { next = next.End (endVerdict (tailOf text) (length text) (owesIn w c k r)); leg = r }
+      → PartDone text w n first r₀ start x
+  unfolding partBy within comes
+  part-over is e = record { reads = λ takes. rw e (reads-over reached partSaid (Like r) meets refl is takes); ahead = λ o q to z. impossible (let y = rw e at z in cc) }
 
-end-is : (text : List ℕ) (tail : Tail) (n end : ℕ) (b : Bool) (t : Taf) → ended tail end b t ≡ afterPart text n t (atEnd tail end b)
-end-is text (Junk at) n end b t = refl
-end-is text Clear n end true t = refl
-end-is text Clear n end false t = refl
+  pub part-word : {from to : ℕ} {x : PartRead} → m ≡ met.Halt from to
+      → (x .leg ≡ r) × MetWord (bytesOf text from to) from to n (owesIn w c k r) (x .next) → PartDone text w n first r₀ start x
+  unfolding partBy within comes
+  part-word is (same, word) =
+      let (before, inside) = word-ahead reached partSaid (Like r) meets refl is in
+      record {
+        reads = λ takes. reads-word reached partSaid (Like r) meets refl is takes ∙ rw same (word .reads text (takes r));
+        ahead = λ o q at′ z. let h = word .ahead o q at′ z in rw (h .0) (before, inside, h .1);
+      }
 
-end-stays : (tail : Tail) (end : ℕ) (b : Bool) (o : Opening) (q : Period) (to : ℕ) → atEnd tail end b ≡ next.Change o q to → ⊥
-end-stays (Junk at) end b o q to e = impossible (cc)
-end-stays Clear end true o q to e = impossible (cc)
-end-stays Clear end false o q to e = impossible (cc)
-
--- by the next group, as the part with this body meets it
-module _ {text : List ℕ} {w : Part} {n first : ℕ} {r₀ : Leg} {start c k : ℕ} {r : Leg} {at : ℕ} (reached : Reached text w n first r₀ start c k r at) where
-  abbrev meeting : Met → Type 0
-  meeting m = Meets (row w) (hasAny changeWords) partSaid c k (λ (a : Leg). a .body ≡ r .body) text at m
-
-  abbrev done : PartRead → Type 0
-  done x = PartDone text w n first r₀ start x
-
-  module _ {m : Met} (meets : meeting m) where
-    met-as : {v : Met} → m ≡ v → meeting v
-    met-as is = rw is at meets
-
-    pub part-over : {x : PartRead} → m ≡ met.Over → x ≡ record { next = atEnd (tailOf text) (length text) (owesIn w c k r); leg = r } → done x
-    unfolding goes-on
-    part-over is e =
-        record {
-          reads = λ takes.
-              reached .same takes
-              ∙ within-over changes text (partIn w takes) (16 - n) c k r at (met-as is)
-              ∙ rw e (end-is text (tailOf text) n (length text) (owesIn w c k r) (takes r));
-          ahead = λ o q to z. absurd (end-stays (tailOf text) (length text) (owesIn w c k r) o q to (rw e at z));
-        }
-
-    pub part-word : {from to : ℕ} {x : PartRead} → m ≡ met.Halt from to
-        → (x .leg ≡ r) × MetWord (bytesOf text from to) from to n (owesIn w c k r) (x .next) → done x
-    unfolding goes-on comes
-    part-word {from} {to} is (same, word) =
-        let (lies, halts) = met-as is in
-        record {
-          reads = λ takes.
-              reached .same takes
-              ∙ within-halt changes text (partIn w takes) (16 - n) c k r at from to _ (lies .groups) (halts r refl)
-              ∙ rw same (word .reads text (takes r));
-          ahead = λ o q at′ z.
-              let h = word .ahead o q at′ z in
-              (omega (arith, h .0, reached .later, lies .ahead), omega (arith, h .0, lies .within), h .1);
-        }
-
-    pub part-fault : {f : Refusal} {from : ℕ} {x : PartRead} → m ≡ met.Refused f from → x .next ≡ refusedAt f from → done x
-    unfolding goes-on
-    part-fault {f} {from} is e =
-        let (to, lies, stops) = met-as is in
-        record {
-          reads = λ takes.
-              reached .same takes ∙ within-fault changes text (partIn w takes) (16 - n) c k r at from to _ (lies .groups) f (stops r refl) ∙ rw e;
-          ahead = λ o q at′ z. impossible (let y = sym e ∙ z in cc);
-        }
-
-    -- the group is taken
-    module _ {x : Saying} (is : m ≡ met.Says x) where
-      pub part-ahead : (at < x .end) × (x .end ≤ length text) × (x .count < 4)
-      part-ahead = let (lies, few, goes) = met-as is in (lies .ahead, lies .within, few)
-
-      pub part-on : {c′ : ℕ} {r′ : Leg} → c′ ≡ onward (row w) (x .place) → r′ ≡ partSaid (x .count) (bytesOf text (x .start) (x .end)) (x .said) r
-          → Reached text w n first r₀ start c′ (x .count + 1) r′ (x .end)
-      unfolding goes-on
-      part-on past put =
-          let (lies, few, goes) = met-as is in
-          record {
-            same = λ takes.
-                reached .same takes
-                ∙ rw (past, put) (within-on changes text (partIn w takes) (16 - n) c k r at (x .start) (x .end) _ (lies .groups) _ _ _ (goes r refl));
-            later = omega (arith, reached .later, lies .ahead);
-          }
+  pub part-fault : {f : Refusal} {from : ℕ} {x : PartRead} → m ≡ met.Refused f from → x .next ≡ refusedAt f from → PartDone text w n first r₀ start x
+  unfolding partBy within comes
+  part-fault is e = record { reads = λ takes. reads-fault reached partSaid (Like r) meets refl is takes ∙ rw e; ahead = λ o q at′ z. impossible (let y = sym e ∙ z in cc) }
 
 -- ---- what is read from a change on
 

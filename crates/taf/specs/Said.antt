@@ -3,14 +3,14 @@
 use Prim.Native.Nat.{ℕ}
 use mathlib.Core.Path.{_≡_}
 use mathlib.Core.Bool.{true}
-use Rattle.places.specs.Engine.{Group, placeAt}
+use Rattle.places.specs.Engine.{Group}
 use Rattle.record.specs.declared.aerodrome.Body.{Body}
 use Rattle.record.specs.declared.aerodrome.Leg.{Leg}
 use Rattle.record.specs.Taf.{setCorrection, setStation, setTime, setNil, setPeriod, setCancelled, setBody}
 use Rattle.elements.specs.declared.kinds.Said.{Said}
 use Rattle.elements.specs.declared.kinds.Said.the-variants as said
 use Rattle.aerodrome_groups.specs.Head.{stationOf}
-use Rattle.body.specs.Said.{unlessRefused, putSaid}
+use Rattle.body.specs.Said.{putSaid, SaysAt}
 use Rattle.taf_row.specs.declared.kinds.Part.{Part}
 use Rattle.taf_row.specs.Row.{row}
 
@@ -46,4 +46,4 @@ partSaid k g (said.Times x) r = ontoBody k (said.Times x) r
 
 -- A group at place i of a part's row says this: put into any part with this body it is what the place reads.
 abbrev pub Says : Part → ℕ → ℕ → Group → Body → Said → Type 0
-Says w i k g b x = (r : Leg) → r .body ≡ b → unlessRefused x (partSaid k g x r) ≡ placeAt (row w) i .read k g r
+Says w i k g b x = SaysAt (row w) partSaid (λ r. r .body ≡ b) i k g x

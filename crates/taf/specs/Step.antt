@@ -2,14 +2,11 @@
 -- Assumes nothing: these are definitions.
 use Prim.Native.Nat.{ℕ, _+_, _-_, _≤_, _<_}
 use mathlib.Core.Path.{_≡_}
-use mathlib.Core.Bool.{Bool, true, false}
+use mathlib.Core.Bool.{Bool}
 use mathlib.Core.List.{List}
 use lib.ListN.{length}
 use lib.Seq.{sets}
 use Rattle.text.specs.declared.kinds.Refusal.{Refusal}
-use Rattle.text.specs.declared.kinds.Refusal.the-variants as refusal
-use Rattle.text.specs.declared.kinds.Tail.{Tail}
-use Rattle.text.specs.declared.kinds.Tail.the-variants.{Clear, Junk}
 use Rattle.text.specs.declared.kinds.Verdict.{Verdict}
 use Rattle.text.specs.declared.kinds.Verdict.the-variants as verdict
 use Rattle.text.specs.Groups.{groupsFrom}
@@ -74,12 +71,6 @@ bodyFrom text n o p at t = partFrom (tailOf text) (length text) (changePart t o)
 
 abbrev pub refusedAt : Refusal → ℕ → Next
 refusedAt f at = next.End (verdict.Refused f at)
-
--- the text's end: what follows the "=" is refused first, an absence last
-abbrev pub atEnd : Tail → ℕ → Bool → Next
-atEnd (Junk at) end lacking = refusedAt refusal.Shape at
-atEnd Clear end true = refusedAt refusal.Absence end
-atEnd Clear end false = next.End (verdict.Accepted end)
 
 abbrev pub afterPart : List ℕ → ℕ → Taf → Next → Outcome Taf
 afterPart text n t (next.End v) = outcomeOf v t

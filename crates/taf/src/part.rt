@@ -7,9 +7,10 @@ use crate::kinds::PartRead;
 use crate::word::open_change;
 use aerodrome_groups::read::station_of;
 use body::kinds::Met;
-use body::kinds::Saying;
+use body::read::meet_said;
 use body::read::put;
 use elements::kinds::Said;
+use places::end_verdict;
 use places::kinds::Turn;
 use record::aerodrome::Body;
 use record::aerodrome::Correction;
@@ -23,7 +24,6 @@ use taf_row::tests::is_full;
 use taf_row::tests::owes;
 use text::kinds::Cut;
 use text::kinds::Refusal;
-use text::kinds::Tail;
 use text::kinds::Verdict;
 use weather::read::add_weather;
 ghost use mathlib.Core.Path.{_≡_};
@@ -32,33 +32,18 @@ ghost use Rattle.text.specs.Groups.{partOf};
 ghost use Rattle.text.specs.Text.{tailOf};
 ghost use Rattle.record.specs.Taf.{blankLeg, setCorrection, setPeriod, setBody};
 ghost use Rattle.shapes.specs.Pattern.{hasAny};
+ghost use Rattle.places.specs.Answer.{endVerdict};
 ghost use Rattle.body.specs.Met.{Meets};
 ghost use Rattle.taf_row.specs.Row.{row, changeWords};
 ghost use Rattle.taf_row.specs.Tests.{owesIn};
 ghost use Rattle.taf.specs.Said.{partSaid};
-ghost use Rattle.taf.specs.Step.{refusedAt, atEnd, MetWord, PartDone};
+ghost use Rattle.taf.specs.Step.{refusedAt, MetWord, PartDone};
+ghost use Rattle.taf.specs.declared.kinds.Next.the-variants as next;
 
 fn refuse(refusal: Refusal, place: usize) -> Next
     ensures { λ r. ⌜ r ≡ refusedAt refusal place ⌝ }
 {
     Next::End(Verdict::Refused { refusal, place })
-}
-
-// The groups are over: what follows the "=" is refused first, an absence last.
-fn after_end(text: &[u8], lacking: bool) -> Next
-    ensures { λ r. ⌜ r ≡ atEnd (tailOf (now (text .entry))) (length (now (text .entry))) lacking ⌝ }
-{
-    let tail = text::tail(text);
-    match tail {
-        Tail::Junk(junk) => refuse(Refusal::Shape, junk),
-        Tail::Clear => {
-            if lacking {
-                refuse(Refusal::Absence, text.len())
-            } else {
-                Next::End(Verdict::Accepted { rest: text.len() })
-            }
-        }
-    }
 }
 
 // A change word from start up to end, n changes before it: the part before it must lack nothing, and there must be room.
@@ -93,10 +78,11 @@ fn with_body(body: Body, leg: Leg) -> Leg
 }
 
 fn end_part(text: &[u8], part: Part, place: usize, count: usize, leg: Leg, body: Body) -> PartRead
-    ensures { λ r. ⌜ r ≡ record { next = atEnd (tailOf (now (text .entry))) (length (now (text .entry))) (owesIn part place count (setBody body leg)); leg = setBody body leg } ⌝ }
+    ensures { λ r. ⌜ r ≡ record { next = next.End (endVerdict (tailOf (now (text .entry))) (length (now (text .entry))) (owesIn part place count (setBody body leg))); leg = setBody body leg } ⌝ }
 {
     let leg = with_body(body, leg);
-    let next = after_end(text, owes(part, place, count, leg));
+    let verdict = end_verdict(text, owes(part, place, count, leg));
+    let next = Next::End(verdict);
     PartRead { next, leg }
 }
 
@@ -145,16 +131,7 @@ fn meet(text: &[u8], from: usize, part: Part, place: usize, count: usize, body: 
             count: standing,
         } => {
             let said = say_at(part, there, standing, g, body);
-            if let Said::Refused(refusal) = said {
-                return Met::Refused { refusal, start };
-            }
-            Met::Says(Saying {
-                said,
-                place: there,
-                count: standing,
-                start,
-                end,
-            })
+            meet_said(said, there, standing, start, end)
         }
     }
 }

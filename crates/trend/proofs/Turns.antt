@@ -1,17 +1,15 @@
 -- The laws of a trend's parts: what a word comes to, how a part is read from group to group, and how the trend is read from part to part.
 -- Assumes nothing.
-use Prim.Native.Nat.{ℕ, zero, suc, _+_, _-_, _≤_, _<_}
+use Prim.Native.Nat.{ℕ, _+_, _-_, _≤_, _<_}
 use native.Mathlib.Omega.{arith}
 use mathlib.Core.Path.{_≡_, refl, sym, ap, _∙_}
 use mathlib.Core.Bool.{Bool, true, false, cond, not, _||_, or-false, false≢true}
 use mathlib.Core.List.{List, [], _∷_}
-use lib.ListN.{length, drop, replicate, set, length-set}
+use lib.ListN.{length, set, length-set}
 use lib.Dec.{ltb}
 use borrow.Author.Tests.{lt-ltb, ltb-false, leb-true, leb-false, not-false}
 use Rattle.text.specs.declared.kinds.Refusal.{Refusal}
 use Rattle.text.specs.declared.kinds.Refusal.the-variants as refusal
-use Rattle.text.specs.declared.kinds.Tail.{Tail}
-use Rattle.text.specs.declared.kinds.Tail.the-variants.{Clear, Junk}
 use Rattle.text.specs.declared.kinds.Verdict.{Verdict}
 use Rattle.text.specs.declared.kinds.Verdict.the-variants as verdict
 use Rattle.text.specs.Groups.{Piece, groupsFrom, partOf as bytesOf}
@@ -19,20 +17,20 @@ use Rattle.text.specs.Text.{tailOf}
 use Rattle.figures.specs.Quote.{bytes}
 use Rattle.figures.proofs.Impossible.{impossible}
 use Rattle.shapes.specs.Pattern.{hasPattern, hasAny}
-use Rattle.places.specs.Seek.{owed}
-use Rattle.places.specs.Engine.{Group, Outcome}
-use Rattle.places.specs.Parts.{Bars, ended, owes, partFrom, begins, further}
-use Rattle.places.proofs.Turns.{comes, within, within-over, within-on, within-fault, within-halt}
+use Rattle.places.specs.Engine.{Group}
+use Rattle.places.specs.Answer.{endVerdict}
+use Rattle.places.specs.Parts.{Bars, owes, partFrom, begins}
+use Rattle.places.proofs.Seek.{none-left}
+use Rattle.places.proofs.Turns.{comes, within, no-room, one-more}
 use Rattle.record.specs.declared.aerodrome.TrendChange.{TrendChange}
 use Rattle.record.specs.declared.aerodrome.Trend.{Trend}
 use Rattle.record.specs.declared.aerodrome.Observation.{Observation}
 use Rattle.record.specs.declared.aerodrome.Metar.{Metar}
 use Rattle.record.specs.Trend.{blankTrend}
-use Rattle.elements.specs.declared.kinds.Said.{Said}
-use Rattle.body.specs.declared.kinds.Saying.{Saying}
 use Rattle.body.specs.declared.kinds.Met.{Met}
 use Rattle.body.specs.declared.kinds.Met.the-variants as met
 use Rattle.body.specs.Met.{Meets}
+use Rattle.body.proofs.Parts.{Reached as PartReached, reads-over, reads-word, word-ahead, reads-fault}
 use Rattle.metar_row.specs.Row.{stopWords, words}
 use Rattle.trend_row.specs.declared.kinds.Word.{Word}
 use Rattle.trend_row.specs.declared.kinds.Word.the-variants as word
@@ -44,9 +42,7 @@ use Rattle.trend.specs.declared.kinds.Next.the-variants as next
 use Rattle.trend.specs.declared.kinds.PartRead.{PartRead}
 use Rattle.trend.specs.Said.{changeSaid}
 use Rattle.trend.specs.Read.{startOf, opens, comesTo, taking, partIn, partAfter, parts}
-use Rattle.trend.proofs.Steps.{row-endless}
-use Rattle.places.specs.Answer.{outcomeOf}
-use Rattle.trend.specs.Step.{moreAfter, partBy, refusedAt, endVerdict, afterPart, nosigMet, changeMet, Holds, MetWord, PartDone, TrendRead}
+use Rattle.trend.specs.Step.{moreAfter, partBy, refusedAt, afterPart, nosigMet, changeMet, Holds, MetWord, PartDone, TrendRead}
 
 -- ---- a word
 
@@ -84,15 +80,16 @@ module _ (g : Group) (start end n : ℕ) where
 
   module _ {w : Word} (is : (r : Metar) → Holds n false r → comesTo (r .trend) g ≡ opens w) where
     full : 3 ≤ n → MetWord g start end n false false (refusedAt refusal.Limit start)
-    unfolding further
-    full h = let none : 3 - n ≡ 0 = omega arith in record { reads = λ text r held. rw (is r held, none); ahead = λ w to e. impossible (cc) }
+    full h =
+        record {
+          reads = λ text r held. rw (is r held) (no-room (tailOf text) (length text) parts 3 n r _ _ (groupsFrom text end) h);
+          ahead = λ w to e. impossible (cc);
+        }
 
     opened : n < 3 → MetWord g start end n false false (next.Part w end)
-    unfolding further
     opened few =
-        let one-less : 3 - n ≡ suc (3 - (n + 1)) = omega arith in
         record {
-          reads = λ text r held. rw (is r held, one-less) (begins-there text (n + 1) r w end);
+          reads = λ text r held. rw (is r held) (one-more (tailOf text) (length text) parts 3 n r _ _ (groupsFrom text end) few ∙ begins-there text (n + 1) r w end);
           ahead = λ v to e. let same : end ≡ to = cc in (sym same, few, refl);
         }
 
@@ -117,104 +114,48 @@ module _ (g : Group) (start end n : ℕ) where
 
 -- ---- a part, from group to group
 
-none-owed : (n k : ℕ) → owed k (replicate n false) ≡ false
-unfolding owed
-none-owed zero k = refl
-none-owed (suc n) k = none-owed n 0
-
-none-left : (n c k : ℕ) → owed k (drop c (replicate n false)) ≡ false
-unfolding owed
-none-left n zero k = none-owed n k
-none-left zero (suc c) k = refl
-none-left (suc n) (suc c) k = none-left n c k
-
 -- no place must have a group: a part owes what it lacks
 owes-lacks : (w : Word) (takes : TrendChange → Metar) (c k : ℕ) (r : TrendChange) → owes (partIn w takes) c k r ≡ lacksIn w (r .body)
 owes-lacks w takes c k r = rw (← none-must (isChange w), none-left 8 c k)
 
--- a part is being read, the n-th that the report takes in
-unfoldable pub goes-on : List ℕ → Word → ℕ → (TrendChange → Metar) → ℕ → ℕ → TrendChange → ℕ → Outcome Metar
-goes-on text w n takes c k r at = within parts text (partIn w takes) (3 - n) c k r at
+-- a part has been read from behind its word on, the n-th that the report takes in; free or not, as its word says
+abbrev pub Reached : List ℕ → Bool → Word → ℕ → ℕ → ℕ → ℕ → TrendChange → ℕ → Type 0
+Reached text free w n start c k r at = PartReached parts text (partIn w) (row free) (hasAny words) (3 - n) 0 (startOf w) start c k r at
 
--- a part has been read from a position on: the text is read as from where reading stands
-pub record Reached (text : List ℕ) (w : Word) (n start c k : ℕ) (r : TrendChange) (at : ℕ) : Type 0 where
-  pub same : (takes : TrendChange → Metar) → partBy text w takes n start ≡ goes-on text w n takes c k r at
-  pub later : start ≤ at
+-- a change with the times and the body that the loop sees
+abbrev Like : TrendChange → TrendChange → Type 0
+Like r a = (a .times ≡ r .times) × (a .body ≡ r .body)
 
-pub starts : (text : List ℕ) (w : Word) (n at : ℕ) → Reached text w n at 0 0 (startOf w) at
-unfolding partBy goes-on within comes
-starts text w n at = record { same = λ takes. refl; later = omega arith }
+-- and ends with the next group, as the part with these times and this body meets it
+module _ (free : Bool) {text : List ℕ} {w : Word} {n start c k : ℕ} {r : TrendChange} {at : ℕ} (reached : Reached text free w n start c k r at)
+    {m : Met} (meets : Meets (row free) (hasAny words) changeSaid c k (Like r) text at m) where
+  pub part-over : {x : PartRead} → m ≡ met.Over → x ≡ record { next = next.End (endVerdict (tailOf text) (length text) (lacksIn w (r .body))); change = r }
+      → PartDone text w n start x
+  unfolding partBy within comes
+  part-over is e =
+      record {
+        reads = λ takes held. reads-over reached changeSaid (Like r) meets (refl, refl) is takes ∙ rw (e, owes-lacks w takes c k r);
+        ahead = λ v to z. impossible (let y = rw e at z in cc);
+      }
 
-end-is : (tail : Tail) (end : ℕ) (lacking : Bool) (r : Metar) → ended tail end lacking r ≡ outcomeOf (endVerdict tail end lacking) r
-end-is (Junk at) end lacking r = refl
-end-is Clear end true r = refl
-end-is Clear end false r = refl
+  pub part-word : {from to : ℕ} {x : PartRead} → m ≡ met.Halt from to
+      → (x .change ≡ r) × MetWord (bytesOf text from to) from to n (not (isChange w)) (lacksIn w (r .body)) (x .next) → PartDone text w n start x
+  unfolding partBy within comes
+  part-word is (same, word) =
+      let (before, inside) = word-ahead reached changeSaid (Like r) meets (refl, refl) is in
+      record {
+        reads = λ takes held.
+            reads-word reached changeSaid (Like r) meets (refl, refl) is takes ∙ rw (owes-lacks w takes c k r, same) (word .reads text (takes r) (rw same at held));
+        ahead = λ v at′ z. let h = word .ahead v at′ z in rw (h .0) (before, inside, h .1, not-false (isChange w) (h .2));
+      }
 
--- by the next group, as the part with these times and this body meets it
-module _ {text : List ℕ} {w : Word} {n start c k : ℕ} {r : TrendChange} {at : ℕ} (reached : Reached text w n start c k r at)
-    {free : Bool} (freed : free ≡ isChange w) where
-  abbrev meeting : Bool → Met → Type 0
-  meeting is m = Meets (row is) (hasAny words) changeSaid c k (λ (a : TrendChange). (a .times ≡ r .times) × (a .body ≡ r .body)) text at m
-
-  abbrev done : PartRead → Type 0
-  done x = PartDone text w n start x
-
-  module _ {m : Met} (meets : meeting free m) where
-    met-as : {v : Met} → m ≡ v → meeting (isChange w) v
-    met-as is = rw (is, freed) at meets
-
-    pub part-over : {x : PartRead} → m ≡ met.Over → x ≡ record { next = next.End (endVerdict (tailOf text) (length text) (lacksIn w (r .body))); change = r } → done x
-    unfolding goes-on
-    part-over is e =
-        record {
-          reads = λ takes held.
-              reached .same takes
-              ∙ within-over parts text (partIn w takes) (3 - n) c k r at (met-as is)
-              ∙ rw (e, owes-lacks w takes c k r) (end-is (tailOf text) (length text) (lacksIn w (r .body)) (takes r));
-          ahead = λ v to z. impossible (let y = rw e at z in cc);
-        }
-
-    pub part-word : {from to : ℕ} {x : PartRead} → m ≡ met.Halt from to
-        → (x .change ≡ r) × MetWord (bytesOf text from to) from to n (not (isChange w)) (lacksIn w (r .body)) (x .next) → done x
-    unfolding goes-on comes
-    part-word {from} {to} {x} is (same, word) =
-        let (lies, halts) = met-as is in
-        record {
-          reads = λ takes held.
-              reached .same takes
-              ∙ within-halt parts text (partIn w takes) (3 - n) c k r at from to _ (lies .groups) (halts r (refl, refl))
-              ∙ rw (owes-lacks w takes c k r, same) (word .reads text (takes r) (rw same at held));
-          ahead = λ v at′ z.
-              let h = word .ahead v at′ z in
-              (omega (arith, h .0, reached .later, lies .ahead), omega (arith, h .0, lies .within), h .1, not-false (isChange w) (h .2));
-        }
-
-    pub part-fault : {f : Refusal} {from : ℕ} {x : PartRead} → m ≡ met.Refused f from → x .next ≡ refusedAt f from → done x
-    unfolding goes-on
-    part-fault {f} {from} is e =
-        let (to, lies, stops) = met-as is in
-        record {
-          reads = λ takes held.
-              reached .same takes ∙ within-fault parts text (partIn w takes) (3 - n) c k r at from to _ (lies .groups) f (stops r (refl, refl)) ∙ rw e;
-          ahead = λ v at′ z. impossible (let y = sym e ∙ z in cc);
-        }
-
-    -- the group is taken
-    module _ {x : Saying} (is : m ≡ met.Says x) where
-      pub part-ahead : (at < x .end) × (x .end ≤ length text) × (x .count < 4)
-      part-ahead = let (lies, few, goes) = met-as is in (lies .ahead, lies .within, few)
-
-      pub part-on : {y : Said} {r′ : TrendChange} → x .said ≡ y → r′ ≡ changeSaid (x .count) (bytesOf text (x .start) (x .end)) y r
-          → Reached text w n start (x .place) (x .count + 1) r′ (x .end)
-      unfolding goes-on
-      part-on tells put =
-          let (lies, few, goes) = met-as is in
-          record {
-            same = λ takes.
-                reached .same takes
-                ∙ rw (put, ← tells, row-endless (isChange w) (x .place)) (within-on parts text (partIn w takes) (3 - n) c k r at (x .start) (x .end) _ (lies .groups) _ _ _ (goes r (refl, refl)));
-            later = omega (arith, reached .later, lies .ahead);
-          }
+  pub part-fault : {f : Refusal} {from : ℕ} {x : PartRead} → m ≡ met.Refused f from → x .next ≡ refusedAt f from → PartDone text w n start x
+  unfolding partBy within comes
+  part-fault is e =
+      record {
+        reads = λ takes held. reads-fault reached changeSaid (Like r) meets (refl, refl) is takes ∙ rw e;
+        ahead = λ v at′ z. impossible (let y = sym e ∙ z in cc);
+      }
 
 -- ---- the trend, from part to part
 

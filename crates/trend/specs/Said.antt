@@ -3,14 +3,14 @@
 use Prim.Native.Nat.{ℕ}
 use mathlib.Core.Path.{_≡_}
 use mathlib.Core.Bool.{Bool}
-use Rattle.places.specs.Engine.{Group, placeAt}
+use Rattle.places.specs.Engine.{Group}
 use Rattle.record.specs.declared.aerodrome.Times.{Times}
 use Rattle.record.specs.declared.aerodrome.Body.{Body}
 use Rattle.record.specs.declared.aerodrome.TrendChange.{TrendChange}
 use Rattle.record.specs.Trend.{setTimes, setBody}
 use Rattle.elements.specs.declared.kinds.Said.{Said}
 use Rattle.elements.specs.declared.kinds.Said.the-variants as said
-use Rattle.body.specs.Said.{unlessRefused, putSaid}
+use Rattle.body.specs.Said.{putSaid, SaysAt}
 use Rattle.trend_row.specs.Row.{row}
 
 -- the change with what is said of the body
@@ -45,4 +45,4 @@ changeSaid k g (said.Refused f) c = ontoBody k (said.Refused f) c
 
 -- A group at place i says this: put into any change with these times and this body it is what the place reads.
 abbrev pub Says : Bool → ℕ → ℕ → Group → Times → Body → Said → Type 0
-Says free i k g t b x = (c : TrendChange) → c .times ≡ t → c .body ≡ b → unlessRefused x (changeSaid k g x c) ≡ placeAt (row free) i .read k g c
+Says free i k g t b x = SaysAt (row free) changeSaid (λ c. (c .times ≡ t) × (c .body ≡ b)) i k g x

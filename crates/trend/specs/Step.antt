@@ -9,9 +9,6 @@ use lib.Dec.{ltb}
 use Rattle.figures.specs.Quote.{bytes}
 use Rattle.text.specs.declared.kinds.Refusal.{Refusal}
 use Rattle.text.specs.declared.kinds.Refusal.the-variants as refusal
-use Rattle.text.specs.declared.kinds.Tail.{Tail}
-use Rattle.text.specs.declared.kinds.Tail.the-variants.{Clear, Junk}
-use Rattle.text.specs.declared.kinds.Verdict.{Verdict}
 use Rattle.text.specs.declared.kinds.Verdict.the-variants as verdict
 use Rattle.text.specs.Groups.{groupsFrom}
 use Rattle.text.specs.Text.{tailOf}
@@ -47,12 +44,6 @@ partBy text w takes n at = partFrom (tailOf text) (length text) (partIn w takes)
 
 abbrev pub refusedAt : Refusal → ℕ → Next
 refusedAt f at = next.End (verdict.Refused f at)
-
--- the text's end: what follows the "=" is refused first, an absence last
-abbrev pub endVerdict : Tail → ℕ → Bool → Verdict
-endVerdict (Junk at) end lacking = verdict.Refused refusal.Shape at
-endVerdict Clear end true = verdict.Refused refusal.Absence end
-endVerdict Clear end false = verdict.Accepted end
 
 abbrev pub afterPart : List ℕ → ℕ → Metar → Next → Outcome Metar
 afterPart text n r (next.End v) = outcomeOf v r

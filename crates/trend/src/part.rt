@@ -6,9 +6,10 @@ use crate::kinds::PartRead;
 use crate::word::meet_word;
 use crate::word::refuse;
 use body::kinds::Met;
-use body::kinds::Saying;
+use body::read::meet_said;
 use body::read::put;
 use elements::kinds::Said;
+use places::end_verdict;
 use places::kinds::Turn;
 use record::aerodrome::Body;
 use record::aerodrome::Tendency;
@@ -17,8 +18,6 @@ use record::aerodrome::TrendChange;
 use record::blank_aerodrome::blank_trend_change;
 use text::kinds::Cut;
 use text::kinds::Refusal;
-use text::kinds::Tail;
-use text::kinds::Verdict;
 use trend_row::kinds::Word;
 use trend_row::row::is_change;
 use trend_row::tests::lacks;
@@ -27,13 +26,14 @@ ghost use mathlib.Core.Bool.{not};
 ghost use lib.ListN.{length};
 ghost use Rattle.text.specs.Text.{tailOf};
 ghost use Rattle.shapes.specs.Pattern.{hasAny};
+ghost use Rattle.places.specs.Answer.{endVerdict};
 ghost use Rattle.body.specs.Met.{Meets};
 ghost use Rattle.metar_row.specs.Row.{words};
 ghost use Rattle.trend_row.specs.Row.{isChange, row};
 ghost use Rattle.trend_row.specs.Tests.{lacksIn};
 ghost use Rattle.trend.specs.Read.{tendencyOf, startOf};
 ghost use Rattle.trend.specs.Said.{changeSaid};
-ghost use Rattle.trend.specs.Step.{refusedAt, endVerdict, MetWord, PartDone};
+ghost use Rattle.trend.specs.Step.{refusedAt, MetWord, PartDone};
 ghost use Rattle.trend.specs.declared.kinds.Next.the-variants as next;
 
 fn tendency_of(word: Word) -> Tendency
@@ -58,29 +58,6 @@ fn start_of(word: Word) -> TrendChange
         tendency,
         times,
         body,
-    }
-}
-
-// The groups are over: what follows the "=" is refused first, an absence last.
-pub fn end_verdict(text: &[u8], lacking: bool) -> Verdict
-    ensures { λ r. ⌜ r ≡ endVerdict (tailOf (now (text .entry))) (length (now (text .entry))) lacking ⌝ }
-{
-    let tail = text::tail(text);
-    match tail {
-        Tail::Junk(place) => Verdict::Refused {
-            refusal: Refusal::Shape,
-            place,
-        },
-        Tail::Clear => {
-            if lacking {
-                Verdict::Refused {
-                    refusal: Refusal::Absence,
-                    place: text.len(),
-                }
-            } else {
-                Verdict::Accepted { rest: text.len() }
-            }
-        }
     }
 }
 
@@ -142,16 +119,7 @@ fn meet(
             count: standing,
         } => {
             let said = say_at(there, standing, g, times, body);
-            if let Said::Refused(refusal) = said {
-                return Met::Refused { refusal, start };
-            }
-            Met::Says(Saying {
-                said,
-                place: there,
-                count: standing,
-                start,
-                end,
-            })
+            meet_said(said, there, standing, start, end)
         }
     }
 }

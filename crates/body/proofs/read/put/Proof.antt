@@ -18,4 +18,4 @@ put-spec =
     (λ c. let a = c .before .before .args in unfold putSaid in put-by (a .count) (a .b) (c .enum-told .given .1))
     (λ c. let a = c .before .before .before .before .args in rw (c .add-layer .ensures) (unfold putSaid in put-by (a .count) (a .b) (c .before .before .said4 .given .1)))
     (λ c. let a = c .before .before .before .before .args in rw (c .alone .ensures) (unfold putSaid in put-by (a .count) (a .b) (c .before .before .said5 .given .1)))
-    (λ c. others (c .before .args .count) (c .before .args .said) (c .match .keys7) (c .before .args .b)))
+    (λ c. others (c .before .args .count) (c .before .args .b) (c .before .args .said) (c .match .keys7)))

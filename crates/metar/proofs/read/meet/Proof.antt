@@ -7,7 +7,7 @@ use Rattle.shapes.specs.Pattern.{hasAny}
 use Rattle.record.specs.declared.aerodrome.Observation.{Observation}
 use Rattle.metar_row.specs.Row.{row, words}
 use Rattle.metar.specs.Said.{reportSaid}
-use Rattle.body.proofs.Meets.{meets-halt, meets-fault, meets-bad, meets-good}
+use Rattle.body.proofs.Meets.{meets-halt, meets-fault, meets-said}
 use Rattle.metar.proofs.Steps.{row-few}
 use Rattle.metar.proofs.read.meet.Statement.{statement}
 use Rattle.metar.proofs.read.meet.Tie as tie
@@ -26,12 +26,7 @@ meet-spec =
     (tie.spec
     (λ c κs. search needs) (λ c. search needs) (λ c. search needs)
     (λ c. when-end _ _ _ (sym (c .enum-told .given .1) ∙ c .before .before .next-group .ensures))
-    (λ c κs. search needs) (λ c κs. search needs) (λ c. search needs) (λ c. search needs) (λ c. search needs) (λ c κs. search needs) (λ c. search needs)
-    (λ c.
-    meets-bad row (hasAny words) reportSaid _ _ (seen (c .before .before .before .before .before .before .before .before .before)) (follows (c .before .before .before .before .before .before .before .before .before)) (c .before .before .before .before .before .before .before .before .part .ensures) (c .before .before .before .before .before .before .before .decide .ensures) (c .before .before .before .before .before .turn2 .given .1)
-    _ (λ r same. c .before .before .before .say-at .ensures r (same .0) (same .1)) (c .before .said .given .1))
+    (λ c κs. search needs) (λ c κs. search needs) (λ c. search needs) (λ c. search needs) (λ c. search needs) (λ c κs. search needs) (λ c κs. search needs)
     (λ c. meets-halt row (hasAny words) reportSaid _ _ (seen (c .before .before .before .before)) (follows (c .before .before .before .before)) (c .before .before .before .part .ensures) (c .before .before .decide .ensures) (c .enum-told2 .given .1))
     (λ c. meets-fault row (hasAny words) reportSaid _ _ (seen (c .before .before .before .before .before)) (follows (c .before .before .before .before .before)) (c .before .before .before .before .part .ensures) (c .before .before .before .decide .ensures) (c .before .turn .given .1))
-    (λ c.
-    meets-good row (hasAny words) reportSaid _ _ (seen (c .before .before .before .before .before .before .before)) (follows (c .before .before .before .before .before .before .before)) (c .before .before .before .before .before .before .part .ensures) (c .before .before .before .before .before .decide .ensures) (c .before .before .before .turn2 .given .1)
-    _ (λ r same. c .before .say-at .ensures r (same .0) (same .1)) row-few (c .match3 .keys2)))
+    (λ c. meets-said row (hasAny words) reportSaid _ _ (seen (c .before .before .before .before .before .before .before)) (follows (c .before .before .before .before .before .before .before)) (c .before .before .before .before .before .before .part .ensures) (c .before .before .before .before .before .decide .ensures) (c .before .before .before .turn2 .given .1) row-few (c .before .say-at .result) (c .before .say-at .ensures) (c .meet-said .ensures)))

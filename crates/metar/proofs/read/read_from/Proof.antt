@@ -6,21 +6,35 @@ use mathlib.Core.List.{List}
 use Prim.Native.Nat.{ℕ, _+_, _-_, _≤_, _<_}
 use native.Mathlib.Omega.{arith}
 use lib.ListN.{length}
-use Rattle.text.specs.Text.{tailOf}
-use Rattle.text.specs.Groups.{partOf, groupsFrom}
+use Rattle.text.specs.Groups.{partOf}
+use Rattle.shapes.specs.Pattern.{hasAny}
+use Rattle.places.specs.Parts.{Part}
 use Rattle.places.proofs.Turns.{comes, within}
 use Rattle.record.specs.declared.aerodrome.Observation.{Observation}
+use Rattle.record.specs.declared.aerodrome.Metar.{Metar}
+use Rattle.record.specs.declared.aerodrome.TrendChange.{TrendChange}
+use Rattle.record.specs.Observation.{blankObservation, setSpecial}
 use Rattle.elements.specs.declared.kinds.Said.{Said}
 use Rattle.body.specs.declared.kinds.Saying.{Saying}
+use Rattle.body.proofs.Parts.{Reached, starts, reads-over, reads-word, reads-fault, group-ahead, reads-on}
+use Rattle.trend_row.specs.declared.kinds.Word.{Word}
+use Rattle.trend.specs.Read.{parts}
+use Rattle.trend.specs.Step.{afterPart}
+use Rattle.metar_row.specs.Row.{row, words}
 use Rattle.metar.specs.Said.{reportSaid}
-use Rattle.metar.specs.Read.{behindName, answer}
-use Rattle.metar.proofs.Steps.{goes-on, met-over, met-halt, met-fault, met-ahead, met-on, others}
+use Rattle.metar.specs.Read.{mainPart, behindName, answer}
+use Rattle.metar.specs.Step.{alone}
+use Rattle.metar.proofs.Steps.{others}
 use Rattle.metar.proofs.read.read_from.Statement.{statement}
 use Rattle.metar.proofs.read.read_from.Tie as tie
 
+-- the observation is one part, which one report takes in
+abbrev whole : Unit {0} → Part Metar TrendChange Word Observation
+whole u = mainPart
+
 abbrev Inv : tie.InvT-loop
 Inv text at special report₀ place₀ count₀ from₀ report place count from =
-    behindName special (tailOf text) (length text) (groupsFrom text at) ≡ goes-on text place count report from
+    Reached parts text whole row (hasAny words) 3 1 (setSpecial special blankObservation) at place count report from
 
 abbrev μ : tie.MeasureT-loop
 μ text at special report₀ place₀ count₀ from₀ report place count from = length text - from
@@ -37,33 +51,39 @@ module _ (c : tie.After-struct-known Inv μ) where
   report = c .before .before .before .before .before .before .loop .report
 
   ahead : (c .before .before .before .before .before .before .loop .from < next .end) × (next .end ≤ length text) × (next .count < 4)
-  ahead = met-ahead _ _ _ report _ _ (c .before .before .before .before .before .meet .ensures) (c .before .before .before .met3 .given .1)
+  ahead = group-ahead (c .before .before .before .before .before .before .loop .inv) reportSaid _ (c .before .before .before .before .before .meet .ensures) (refl, refl) (c .before .before .before .met3 .given .1)
 
   less : length text - next .end < length text - c .before .before .before .before .before .before .loop .from
   less = omega (arith, ahead)
 
   -- reading goes on with the record that has what the group says
   again : {y : Said} {a : Observation} → next .said ≡ y → a ≡ reportSaid (next .count) (partOf text (next .start) (next .end)) y report
-      → behindName (c .before .before .before .before .before .before .before .before .before .args .special) (tailOf text) (length text) (groupsFrom text (c .before .before .before .before .before .before .before .before .before .args .at))
-      ≡ goes-on text (c .before .go-past .result) (next .count + 1) a (next .end)
-  again tells put = c .before .before .before .before .before .before .loop .inv ∙ met-on _ _ _ _ _ _ (c .before .before .before .before .before .meet .ensures) (c .before .before .before .met3 .given .1) (c .before .go-past .ensures) tells put
+      → Reached parts text whole row (hasAny words) 3 1 (setSpecial (c .before .before .before .before .before .before .before .before .before .args .special) blankObservation) (c .before .before .before .before .before .before .before .before .before .args .at) (c .before .go-past .result) (next .count + 1) a (next .end)
+  again tells put = reads-on (c .before .before .before .before .before .before .loop .inv) reportSaid _ (c .before .before .before .before .before .meet .ensures) (refl, refl) (c .before .before .before .met3 .given .1) (c .before .go-past .ensures) tells put
 
 pub read-from-spec : {M : Type 1} → statement M
 read-from-spec =
     tie.close
     (tie.spec Inv μ
     (λ c κs. search needs)
-    (λ c. unfold behindName goes-on within comes in rw (c .blank-observation .ensures))
+    (λ c. let a = c .before .before .args in rw (c .blank-observation .ensures) (starts parts (a .text .now) whole 3 1 _ (a .at) (λ u. (refl, refl))))
     (λ c κs. search needs) (λ c. search needs) (λ c κs. search needs) (λ c κs. search needs)
     (λ c.
+    let a = c .before .before .before .before .before .before .before .before .args in
+    let o = c .before .before .before .before .before .loop .report in
+    unfold behindName within comes in
     c .conclude .ensures
-    ∙ ap answer (sym (c .before .before .before .before .before .loop .inv ∙ met-over _ _ _ _ _ _ (c .before .before .before .before .meet .ensures) (c .before .before .enum-told .given .1) ∙ c .before .after-groups .ensures _)))
+    ∙ ap answer (sym (reads-over (c .before .before .before .before .before .loop .inv) reportSaid _ (c .before .before .before .before .meet .ensures) (refl, refl) (c .before .before .enum-told .given .1) tt
+    ∙ ap (afterPart (a .text .now) 0 (alone o)) (sym (c .before .after-groups .ensures o)))))
     (λ c. search needs) (λ c κs. search needs) (λ c κs. search needs)
     (λ c.
+    unfold behindName within comes in
     c .conclude2 .ensures
-    ∙ ap answer (sym (c .before .before .before .before .before .before .loop .inv ∙ met-halt _ _ _ _ _ _ (c .before .before .before .before .before .meet .ensures) (c .before .before .before .met .given .1) ∙ c .before .after-word .ensures _)))
+    ∙ ap answer (sym (reads-word (c .before .before .before .before .before .before .loop .inv) reportSaid _ (c .before .before .before .before .before .meet .ensures) (refl, refl) (c .before .before .before .met .given .1) tt ∙ c .before .after-word .ensures _)))
     (λ c. search needs) (λ c κs. search needs)
-    (λ c. c .refuse .ensures ∙ ap answer (sym (c .before .before .before .before .before .loop .inv ∙ met-fault _ _ _ _ _ _ (c .before .before .before .before .meet .ensures) (c .before .before .met2 .given .1))))
+    (λ c.
+    unfold behindName within comes in
+    c .refuse .ensures ∙ ap answer (sym (reads-fault (c .before .before .before .before .before .loop .inv) reportSaid _ (c .before .before .before .before .meet .ensures) (refl, refl) (c .before .before .met2 .given .1) tt)))
     (λ c. search needs) (λ c κs. search needs)
     (λ c. omega (arith, ahead c))
     (λ c. search needs) (λ c. less (c .before .before .before)) (λ c. again (c .before .before .before) (c .before .said .given .1) (unfold reportSaid in refl))
@@ -77,4 +97,4 @@ read-from-spec =
     (λ c. search needs) (λ c. less (c .before .before .before)) (λ c. again (c .before .before .before) (c .before .said5 .given .1) (unfold reportSaid in refl))
     (λ c. search needs) (λ c. less (c .before .before .before)) (λ c. again (c .before .before .before) (c .before .said6 .given .1) (unfold reportSaid in refl))
     (λ c. search needs) (λ c κs. search needs) (λ c. less (c .before .before .before .before)) (λ c. again (c .before .before .before .before) (c .before .before .said7 .given .1) (unfold reportSaid in rw (c .add-weather .ensures)))
-    (λ c κs. search needs) (λ c. less (c .before .before)) (λ c. again (c .before .before) refl (rw (c .put .ensures) (others _ _ _ (c .before .match2 .keys12) _))))
+    (λ c κs. search needs) (λ c. less (c .before .before)) (λ c. again (c .before .before) refl (rw (c .put .ensures) (others _ _ _ _ (c .before .match2 .keys12)))))

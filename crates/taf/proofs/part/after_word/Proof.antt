@@ -8,20 +8,14 @@ use Rattle.taf.proofs.Turns.{meets-lacking, meets-full, meets-good, mee
 use Rattle.taf.proofs.part.after_word.Statement.{statement}
 use Rattle.taf.proofs.part.after_word.Tie as tie
 
-returns : tie.Need-returns
-returns c = let a = c .before .before .before .args in rw (c .refuse .ensures, c .before .if1 .taken) (meets-lacking (a .g .now) (a .start) (a .end) (a .n))
-
-returns-2 : tie.Need-returns-2
-returns-2 c = let a = c .before .before .before .before .before .args in rw (c .refuse2 .ensures, c .before .before .before .if1 .left) (meets-full (a .g .now) (a .start) (a .end) (a .n) (leb-true 16 (a .n) (sym (c .before .before .is-full .ensures) ∙ c .before .if2 .taken)))
-
-returns-3 : tie.Need-returns-3
-returns-3 c = let a = c .before .before .before .before .before .before .before .before .args in rw (c .before .before .before .before .before .before .if1 .left) (meets-good (a .g .now) (a .start) (a .end) (a .n) (omega (arith, leb-false 16 (a .n) (sym (c .before .before .before .before .before .is-full .ensures) ∙ c .before .before .before .before .if2 .left))) _ _ (c .before .before .before .open-change .ensures) (c .before .opened .given .1))
-
-returns-4 : tie.Need-returns-4
-returns-4 c = let a = c .before .before .before .before .before .before .before .before .before .args in rw (c .refuse3 .ensures, c .before .before .before .before .before .before .before .if1 .left) (meets-bad (a .g .now) (a .start) (a .end) (a .n) (omega (arith, leb-false 16 (a .n) (sym (c .before .before .before .before .before .before .is-full .ensures) ∙ c .before .before .before .before .before .if2 .left))) (c .before .before .before .before .open-change .ensures) (c .before .before .opened2 .given .1))
-
 pub after-word-spec : {M : Type 1} → statement M
 after-word-spec =
     tie.close
     (tie.spec
-    (λ c κs. search needs) returns (λ c κs. search needs) (λ c κs. search needs) returns-2 (λ c κs. search needs) (λ c. search needs) (λ c. search needs) (λ c κs. search needs) returns-3 returns-4)
+    (λ c κs. search needs)
+    (λ c. let a = c .before .before .before .args in rw (c .refuse .ensures, c .before .if1 .taken) (meets-lacking (a .g .now) (a .start) (a .end) (a .n)))
+    (λ c κs. search needs) (λ c κs. search needs)
+    (λ c. let a = c .before .before .before .before .before .args in rw (c .refuse2 .ensures, c .before .before .before .if1 .left) (meets-full (a .g .now) (a .start) (a .end) (a .n) (leb-true 16 (a .n) (sym (c .before .before .is-full .ensures) ∙ c .before .if2 .taken))))
+    (λ c κs. search needs) (λ c. search needs) (λ c. search needs) (λ c κs. search needs)
+    (λ c. let a = c .before .before .before .before .before .before .before .before .args in rw (c .before .before .before .before .before .before .if1 .left) (meets-good (a .g .now) (a .start) (a .end) (a .n) (omega (arith, leb-false 16 (a .n) (sym (c .before .before .before .before .before .is-full .ensures) ∙ c .before .before .before .before .if2 .left))) _ (c .before .before .before .open-change .ensures) _ _ (c .before .opened .given .1)))
+    (λ c. let a = c .before .before .before .before .before .before .before .before .before .args in rw (c .refuse3 .ensures, c .before .before .before .before .before .before .before .if1 .left) (meets-bad (a .g .now) (a .start) (a .end) (a .n) (omega (arith, leb-false 16 (a .n) (sym (c .before .before .before .before .before .before .is-full .ensures) ∙ c .before .before .before .before .before .if2 .left))) _ (c .before .before .before .before .open-change .ensures) (c .before .before .opened2 .given .1))))

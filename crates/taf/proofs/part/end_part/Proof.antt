@@ -9,4 +9,4 @@ end-part-spec =
     tie.close
     (tie.spec
     (λ c κs. search needs) (λ c κs. search needs) (λ c κs. search needs)
-    (λ c. rw (c .after-end .ensures, c .before .owes .ensures, c .before .before .with-body .ensures)))
+    (λ c. rw (c .end-verdict .ensures, c .before .owes .ensures, c .before .before .with-body .ensures)))

@@ -8,7 +8,7 @@ use Rattle.record.specs.declared.aerodrome.Leg.{Leg}
 use Rattle.taf_row.specs.Row.{row, changeWords}
 use Rattle.taf_row.proofs.Rows.{row-few}
 use Rattle.taf.specs.Said.{partSaid}
-use Rattle.body.proofs.Meets.{meets-halt, meets-fault, meets-bad, meets-good}
+use Rattle.body.proofs.Meets.{meets-halt, meets-fault, meets-said}
 use Rattle.taf.proofs.part.meet.Statement.{statement}
 use Rattle.taf.proofs.part.meet.Tie as tie
 
@@ -26,8 +26,7 @@ meet-spec =
     (tie.spec
     (λ c κs. search needs) (λ c. search needs) (λ c. search needs)
     (λ c. when-end _ _ _ (sym (c .enum-told .given .1) ∙ c .before .before .next-group .ensures))
-    (λ c κs. search needs) (λ c κs. search needs) (λ c. search needs) (λ c. search needs) (λ c. search needs) (λ c κs. search needs) (λ c. search needs)
-    (λ c. meets-bad (row _) (hasAny changeWords) partSaid _ _ (seen (c .before .before .before .before .before .before .before .before .before)) (follows (c .before .before .before .before .before .before .before .before .before)) (c .before .before .before .before .before .before .before .before .part .ensures) (c .before .before .before .before .before .before .before .decide .ensures) (c .before .before .before .before .before .turn2 .given .1) _ (c .before .before .before .say-at .ensures) (c .before .said .given .1))
+    (λ c κs. search needs) (λ c κs. search needs) (λ c. search needs) (λ c. search needs) (λ c. search needs) (λ c κs. search needs) (λ c κs. search needs)
     (λ c. meets-halt (row _) (hasAny changeWords) partSaid _ _ (seen (c .before .before .before .before)) (follows (c .before .before .before .before)) (c .before .before .before .part .ensures) (c .before .before .decide .ensures) (c .enum-told2 .given .1))
     (λ c. meets-fault (row _) (hasAny changeWords) partSaid _ _ (seen (c .before .before .before .before .before)) (follows (c .before .before .before .before .before)) (c .before .before .before .before .part .ensures) (c .before .before .before .decide .ensures) (c .before .turn .given .1))
-    (λ c. meets-good (row _) (hasAny changeWords) partSaid _ _ (seen (c .before .before .before .before .before .before .before)) (follows (c .before .before .before .before .before .before .before)) (c .before .before .before .before .before .before .part .ensures) (c .before .before .before .before .before .decide .ensures) (c .before .before .before .turn2 .given .1) _ (c .before .say-at .ensures) (row-few _) (c .match3 .keys2)))
+    (λ c. meets-said (row _) (hasAny changeWords) partSaid _ _ (seen (c .before .before .before .before .before .before .before)) (follows (c .before .before .before .before .before .before .before)) (c .before .before .before .before .before .before .part .ensures) (c .before .before .before .before .before .decide .ensures) (c .before .before .before .turn2 .given .1) (row-few _) (c .before .say-at .result) (c .before .say-at .ensures) (c .meet-said .ensures)))

@@ -2,8 +2,7 @@
 -- Assumes nothing.
 use borrow.Author.Needs.{needs}
 use mathlib.Core.Path.{_≡_, refl}
-use mathlib.Core.List.{List, [], _∷_}
-use Prim.Native.Nat.{ℕ, _+_, _-_, _<_}
+use Prim.Native.Nat.{_+_, _-_, _<_}
 use native.Mathlib.Omega.{arith}
 use lib.ListN.{length}
 use Rattle.record.specs.declared.aerodrome.Leg.{Leg}
@@ -12,8 +11,10 @@ use Rattle.elements.specs.declared.kinds.Said.{Said}
 use Rattle.body.specs.declared.kinds.Saying.{Saying}
 use Rattle.body.specs.Said.{putSaid}
 use Rattle.taf.specs.Said.{partSaid}
+use Rattle.taf.specs.Read.{partIn, changes}
 use Rattle.taf.proofs.Steps.{others}
-use Rattle.taf.proofs.Turns.{Reached, starts, part-over, part-word, part-fault, part-ahead, part-on}
+use Rattle.body.proofs.Parts.{starts, group-ahead, reads-on}
+use Rattle.taf.proofs.Turns.{Reached, part-over, part-word, part-fault}
 use Rattle.taf.proofs.part.read_part.Statement.{statement}
 use Rattle.taf.proofs.part.read_part.Tie as tie
 
@@ -28,22 +29,18 @@ abbrev group : tie.After-known-told3 Inv μ → Saying
 group c = c .before .met3 .given .0 .0
 
 less : (c : tie.After-part Inv μ) → length (c .before .before .before .before .before .before .before .before .before .before .before .args .text .now) - group (c .before .before .before) .end < length (c .before .before .before .before .before .before .before .before .before .before .before .args .text .now) - c .before .before .before .before .before .before .before .loop .from
-less c = omega (arith, part-ahead (c .before .before .before .before .before .before .before .loop .inv) (c .before .before .before .before .before .before .meet .ensures) (c .before .before .before .before .met3 .given .1))
+less c = omega (arith, group-ahead (c .before .before .before .before .before .before .before .loop .inv) partSaid _ (c .before .before .before .before .before .before .meet .ensures) refl (c .before .before .before .before .met3 .given .1))
 
 on : (c : tie.After-part Inv μ) {x : Said} {leg : Leg} → group (c .before .before .before) .said ≡ x → leg ≡ partSaid (group (c .before .before .before) .count) (c .part .result .now) x (setBody (c .before .before .before .before .before .before .before .loop .body) (c .before .before .before .before .before .before .before .loop .leg))
     → Reached (c .before .before .before .before .before .before .before .before .before .before .before .args .text .now) (c .before .before .before .before .before .before .before .before .before .before .before .args .part) (c .before .before .before .before .before .before .before .before .before .before .before .args .n) (c .before .before .before .before .before .before .before .before .before .before .before .args .k) (c .before .before .before .before .before .before .before .before .before .begin-leg .result) (c .before .before .before .before .before .before .before .before .before .before .before .args .at) (c .before .before .go-past .result) (group (c .before .before .before) .count + 1) leg (group (c .before .before .before) .end)
-on c is put = part-on (c .before .before .before .before .before .before .before .loop .inv) (c .before .before .before .before .before .before .meet .ensures) (c .before .before .before .before .met3 .given .1) (c .before .before .go-past .ensures _) (rw (← is, c .part .ensures) at put)
-
--- what has no arm of its own, by its tags
-abbrev no-arm : List ℕ
-no-arm = 0 ∷ 1 ∷ 6 ∷ 10 ∷ 12 ∷ 14 ∷ 16 ∷ 17 ∷ 18 ∷ 19 ∷ 20 ∷ 21 ∷ 22 ∷ []
+on c is put = reads-on (c .before .before .before .before .before .before .before .loop .inv) partSaid _ (c .before .before .before .before .before .before .meet .ensures) refl (c .before .before .before .before .met3 .given .1) (c .before .before .go-past .ensures _) is (rw (c .part .ensures) at put)
 
 pub read-part-spec : {M : Type 1} → statement M
 read-part-spec =
     tie.close
     (tie.spec
     Inv μ
-    (λ c κs. search needs) (λ c. let a = c .before .before .before .args in starts (a .text .now) (a .part) (a .n) (a .k) _ (a .at)) (λ c κs. search needs)
+    (λ c κs. search needs) (λ c. let a = c .before .before .before .args in starts changes (a .text .now) (partIn (a .part)) (16 - a .n) (a .k) _ (a .at) (λ x. (refl, refl))) (λ c κs. search needs)
     (λ c. search needs) (λ c κs. search needs)
     (λ c. part-over (rw (c .before .before .before .before .before .before .begin-leg .ensures) at (c .before .before .before .before .loop .inv)) (c .before .before .before .meet .ensures) (c .before .enum-told .given .1) (c .end-part .ensures))
     (λ c. search needs) (λ c κs. search needs)
@@ -51,7 +48,7 @@ read-part-spec =
     (λ c. search needs) (λ c κs. search needs)
     (λ c. part-fault (rw (c .before .before .before .before .before .before .before .begin-leg .ensures) at (c .before .before .before .before .before .loop .inv)) (c .before .before .before .before .meet .ensures) (c .before .before .met2 .given .1) (rw (c .refuse-part .ensures)))
     (λ c. search needs) (λ c κs. search needs)
-    (λ c. omega (arith, part-ahead (c .before .before .before .before .before .before .loop .inv) (c .before .before .before .before .before .meet .ensures) (c .before .before .before .met3 .given .1)))
+    (λ c. omega (arith, group-ahead (c .before .before .before .before .before .before .loop .inv) partSaid _ (c .before .before .before .before .before .meet .ensures) refl (c .before .before .before .met3 .given .1)))
     (λ c κs. search needs)
     (λ c. search needs) (λ c κs. search needs) (λ c. less (c .before .before .before .before)) (λ c. on (c .before .before .before .before) (c .before .before .said .given .1) (rw (c .with-correction .ensures) (unfold partSaid in refl)))
     (λ c. search needs) (λ c κs. search needs) (λ c. less (c .before .before .before)) (λ c. on (c .before .before .before) (c .before .enum-told2 .given .1) (rw (c .station-of .ensures) (unfold partSaid in refl)))
@@ -63,4 +60,4 @@ read-part-spec =
     (λ c. search needs) (λ c. less (c .before .before .before)) (λ c. on (c .before .before .before) (c .before .said5 .given .1) (unfold partSaid in unfold putSaid in refl))
     (λ c. search needs) (λ c κs. search needs) (λ c. less (c .before .before .before .before)) (λ c. on (c .before .before .before .before) (c .before .before .said6 .given .1) (rw (c .add-weather .ensures) (unfold partSaid in unfold putSaid in refl)))
     (λ c. search needs) (λ c κs. search needs) (λ c. less (c .before .before .before .before)) (λ c. on (c .before .before .before .before) (c .before .before .said7 .given .1) (rw (c .add-layer .ensures) (unfold partSaid in unfold putSaid in refl)))
-    (λ c κs. search needs) (λ c. less (c .before .before)) (λ c. on (c .before .before) refl (rw (c .put .ensures) (others no-arm tt tt tt tt tt tt _ _ _ (c .before .match2 .keys11) _))))
+    (λ c κs. search needs) (λ c. less (c .before .before)) (λ c. on (c .before .before) refl (rw (c .put .ensures) (others _ _ _ _ (c .before .match2 .keys11)))))

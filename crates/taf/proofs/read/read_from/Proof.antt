@@ -7,14 +7,10 @@ use Rattle.taf.proofs.Turns.{main-ends, main-goes}
 use Rattle.taf.proofs.read.read_from.Statement.{statement}
 use Rattle.taf.proofs.read.read_from.Tie as tie
 
-returns : tie.Need-returns
-returns c = c .answer-alone .ensures ∙ main-ends (rw (c .before .before .before .before .before .before .blank-leg .ensures) at (c .before .before .before .before .before .read-part .ensures)) (c .before .before .next .given .1)
-
-returns-2 : tie.Need-returns-2
-returns-2 c = c .answer-all .ensures ∙ main-goes (rw (c .before .before .before .before .before .before .before .blank-leg .ensures) at (c .before .before .before .before .before .before .read-part .ensures)) (c .before .before .before .next2 .given .1) (c .before .read-change .ensures)
-
 pub read-from-spec : {M : Type 1} → statement M
 read-from-spec =
     tie.close
     (tie.spec
-    (λ c κs. search needs) (λ c κs. search needs) (λ c. search needs) (λ c κs. search needs) (λ c. search needs) (λ c κs. omega arith) (λ c κs. search needs) returns returns-2)
+    (λ c κs. search needs) (λ c κs. search needs) (λ c. search needs) (λ c κs. search needs) (λ c. search needs) (λ c κs. omega arith) (λ c κs. search needs)
+    (λ c. c .answer-alone .ensures ∙ main-ends (rw (c .before .before .before .before .before .before .blank-leg .ensures) at (c .before .before .before .before .before .read-part .ensures)) (c .before .before .next .given .1))
+    (λ c. c .answer-all .ensures ∙ main-goes (rw (c .before .before .before .before .before .before .before .blank-leg .ensures) at (c .before .before .before .before .before .before .read-part .ensures)) (c .before .before .before .next2 .given .1) (c .before .read-change .ensures)))

@@ -8,7 +8,7 @@ use Rattle.record.specs.declared.aerodrome.TrendChange.{TrendChange}
 use Rattle.metar_row.specs.Row.{words}
 use Rattle.trend_row.specs.Row.{row}
 use Rattle.trend.specs.Said.{changeSaid}
-use Rattle.body.proofs.Meets.{meets-halt, meets-fault, meets-bad, meets-good}
+use Rattle.body.proofs.Meets.{meets-halt, meets-fault, meets-said}
 use Rattle.trend.proofs.Steps.{row-few}
 use Rattle.trend.proofs.part.meet.Statement.{statement}
 use Rattle.trend.proofs.part.meet.Tie as tie
@@ -27,12 +27,7 @@ meet-spec =
     (tie.spec
     (λ c κs. search needs) (λ c. search needs) (λ c. search needs)
     (λ c. when-end _ _ _ (sym (c .enum-told .given .1) ∙ c .before .before .next-group .ensures))
-    (λ c κs. search needs) (λ c κs. search needs) (λ c. search needs) (λ c. search needs) (λ c. search needs) (λ c κs. search needs) (λ c. search needs)
-    (λ c.
-    meets-bad (row _) (hasAny words) changeSaid _ _ (seen (c .before .before .before .before .before .before .before .before .before)) (follows (c .before .before .before .before .before .before .before .before .before)) (c .before .before .before .before .before .before .before .before .part .ensures) (c .before .before .before .before .before .before .before .decide .ensures) (c .before .before .before .before .before .turn2 .given .1)
-    _ (λ r same. c .before .before .before .say-at .ensures _ r (same .0) (same .1)) (c .before .said .given .1))
+    (λ c κs. search needs) (λ c κs. search needs) (λ c. search needs) (λ c. search needs) (λ c. search needs) (λ c κs. search needs) (λ c κs. search needs)
     (λ c. meets-halt (row _) (hasAny words) changeSaid _ _ (seen (c .before .before .before .before)) (follows (c .before .before .before .before)) (c .before .before .before .part .ensures) (c .before .before .decide .ensures) (c .enum-told2 .given .1))
     (λ c. meets-fault (row _) (hasAny words) changeSaid _ _ (seen (c .before .before .before .before .before)) (follows (c .before .before .before .before .before)) (c .before .before .before .before .part .ensures) (c .before .before .before .decide .ensures) (c .before .turn .given .1))
-    (λ c.
-    meets-good (row _) (hasAny words) changeSaid _ _ (seen (c .before .before .before .before .before .before .before)) (follows (c .before .before .before .before .before .before .before)) (c .before .before .before .before .before .before .part .ensures) (c .before .before .before .before .before .decide .ensures) (c .before .before .before .turn2 .given .1)
-    _ (λ r same. c .before .say-at .ensures _ r (same .0) (same .1)) (row-few _) (c .match3 .keys2)))
+    (λ c. meets-said (row _) (hasAny words) changeSaid _ _ (seen (c .before .before .before .before .before .before .before)) (follows (c .before .before .before .before .before .before .before)) (c .before .before .before .before .before .before .part .ensures) (c .before .before .before .before .before .decide .ensures) (c .before .before .before .turn2 .given .1) (row-few _) (c .before .say-at .result) (c .before .say-at .ensures _) (c .meet-said .ensures)))

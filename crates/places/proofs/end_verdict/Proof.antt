@@ -1,8 +1,8 @@
--- `trend::part::end_verdict` meets its contract: by what follows the "=".
+-- `places::end_verdict` meets its contract: by what follows the "=".
 -- Assumes nothing.
 use borrow.Author.Needs.{needs}
-use Rattle.trend.proofs.part.end_verdict.Statement.{statement}
-use Rattle.trend.proofs.part.end_verdict.Tie as tie
+use Rattle.places.proofs.end_verdict.Statement.{statement}
+use Rattle.places.proofs.end_verdict.Tie as tie
 
 pub end-verdict-spec : {M : Type 1} → statement M
 end-verdict-spec =
