@@ -93,6 +93,17 @@ fn figures(s: &Scale, width: usize, list: &[u32]) {
     }
 }
 
+/// What the observer may have seen where a number is read: from the foot to the next one.
+fn readings(s: &Scale, list: &[u32]) {
+    for &m in list {
+        let seen = match s.iter().position(|(foot, _)| *foot == m) {
+            None => "nothing".into(),
+            Some(i) => s.get(i + 1).map_or(format!("{m} or more"), |(next, _)| format!("{m} to {}", next - 1)),
+        };
+        line(m.to_string(), seen);
+    }
+}
+
 /// Half-degrees go up: the whole degree whose tenths are nearest, the greater of two. M follows the value.
 fn temperature(t: i64) {
     let answer = if !(-995..=994).contains(&t) {
@@ -248,5 +259,15 @@ fn main() {
     rain();
     heading("direction, degrees");
     direction();
+    heading("what may have been seen");
+    readings(&land(), &[0, 5_000, 6_000, 70_000, 70_001]);
+    readings(&sea(), &[0, 4_000, 50_000]);
+    readings(&base(), &[300, 2_000, 2_500]);
+    readings(&cloud(), &[2_970, 3_000, 3_300, 30_000]);
+    readings(&visibility(), &[750, 4_000, 4_050, 9_000, 10_000]);
+    readings(&runway(), &[0, 50, 375, 2_000, 2_001]);
+    for t in [10_130, 10_135, 99_990] {
+        line(tenths(t), if t % 10 == 0 { format!("{} to {}", tenths(t), tenths(t + 9)) } else { "nothing".into() });
+    }
     marked();
 }

@@ -1,5 +1,5 @@
 // Prints the marked rows of document 01 and boundary values of every scale, both ways: a value and the figure that it is written as, and a figure
-// and the reading that it has.
+// and the reading that it has; and of some readings what the observer may have seen.
 mod print;
 mod rows;
 
@@ -254,6 +254,18 @@ fn directions() {
     rows::figures(Scale::Direction, &[0, 1, 2, 9, 18, 34, 35, 36, 37]);
 }
 
+// What the observer may have seen where a number is read.
+fn seen() {
+    print::heading(b"what may have been seen");
+    rows::readings(Scale::Land, &[0, 5000, 6000, 70000, 70001]);
+    rows::readings(Scale::Sea, &[0, 4000, 50000]);
+    rows::readings(Scale::Base, &[300, 2000, 2500]);
+    rows::readings(Scale::Cloud, &[2970, 3000, 3300, 30000]);
+    rows::readings(Scale::Visibility, &[750, 4000, 4050, 9000, 10000]);
+    rows::readings(Scale::Runway, &[0, 50, 375, 2000, 2001]);
+    rows::readings(Scale::Pressure, &[10130, 10135, 99990]);
+}
+
 // The rows marked * in document 01, in its order.
 fn marked() {
     print::heading(b"marked rows");
@@ -280,5 +292,6 @@ fn main() {
     pressures();
     rains();
     directions();
+    seen();
     marked();
 }

@@ -8,6 +8,9 @@ use scales::kinds::Range;
 use scales::kinds::RangeFigure;
 use scales::kinds::Reading;
 use scales::kinds::Tenths;
+use seen_values::kinds::Seen;
+use seen_values::metres;
+use seen_values::pressure;
 
 pub enum Scale {
     Land,
@@ -143,6 +146,47 @@ pub fn figures(s: Scale, list: &[u32]) {
         print::figures(w, f);
         print::arrow();
         reading(s, f);
+        print::line_end();
+        i += 1;
+    }
+}
+
+fn seen(s: Scale, m: u32) -> Seen {
+    match s {
+        Scale::Land => metres::land_seen(m),
+        Scale::Sea => metres::sea_seen(m),
+        Scale::Base => metres::base_seen(m),
+        Scale::Cloud => metres::cloud_seen(m),
+        Scale::Visibility => metres::visibility_seen(m),
+        Scale::Runway => metres::runway_seen(m),
+        Scale::Pressure => pressure::pressure_seen(m),
+        _ => Seen::Nothing,
+    }
+}
+
+fn say_seen(s: Scale, seen: Seen) {
+    match seen {
+        Seen::Between { least, greatest } => {
+            value(s, least);
+            print::say(b" to ");
+            value(s, greatest);
+        }
+        Seen::From { least } => {
+            value(s, least);
+            print::say(b" or more");
+        }
+        Seen::Nothing => print::say(b"nothing"),
+    }
+}
+
+// Readings, and what the observer may have seen.
+pub fn readings(s: Scale, list: &[u32]) {
+    let mut i = 0;
+    while i < list.len() {
+        let m = list[i];
+        value(s, m);
+        print::arrow();
+        say_seen(s, seen(s, m));
         print::line_end();
         i += 1;
     }

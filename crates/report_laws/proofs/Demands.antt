@@ -6,7 +6,6 @@ use native.Mathlib.Omega.{arith}
 use mathlib.Core.Path.{_≡_, refl, sym, ap, subst, _∙_}
 use mathlib.Core.Bool.{Bool, true, false, cond}
 use mathlib.Core.List.{List, [], map, _∷_, _++_}
-use mathlib.Core.Logic.{⊎-elim}
 use lib.ListN.{length, take, drop}
 use lib.IntN.{ℤ}
 use lib.Dec.{leb}
@@ -16,10 +15,7 @@ use Rattle.figures.specs.Put.{splice}
 use Rattle.figures.proofs.Puts.{splice-eq}
 use Rattle.scales.specs.declared.kinds.Rain.the-variants as rain
 use Rattle.scales.specs.Rounded.{roundedRain, roundedPressure, rainRank, roundedDirection}
-use Rattle.scales.specs.Scale.{run, classIn}
-use Rattle.scales.specs.Metres as scale
 use Rattle.scales.specs.Degrees.{roundedDegrees}
-use Rattle.scales.proofs.Laws.{reached}
 use Rattle.scales.proofs.DegreesLaws.{DegreesNear, degrees-near}
 use Rattle.scales.proofs.PressureLaws.{PressureNear, pressure-near}
 use Rattle.scales.proofs.DirectionLaws.{direction-near}
@@ -47,7 +43,7 @@ use Rattle.report.specs.Read.{answered, readOf, restPlace, restOf}
 use Rattle.report.specs.Write.{judgeOf, canonicalOf, classedOf, writtenOf, bufferOf}
 use Rattle.report_laws.proofs.ByName.{surfaceWord, observedWord, forecastWord, Named, SurfaceText, ObservedText, ForecastText, read-surface, read-observed, read-forecast, Which, by-surface, by-observed, by-forecast, by-none, which, AcceptedAs, accepted-as, as-surface, as-observed, as-forecast, RefusedAs, refused-as, as-refused}
 use Rattle.report_laws.proofs.Causes.{Caused, fine, bad-value, disagreeing, causes}
-use Rattle.report_laws.proofs.Numbers.{Table, visibility, footOn, classOn, numbersOf, temperaturesOf, pressuresOf, rainsOf, DownOn, down-on, NumberOrder, TenthsOrder, RainOrder, InOrder, in-order, order-on, class-order, temperature-order, qnh-order}
+use Rattle.report_laws.proofs.Numbers.{Table, footOn, classOn, numbersOf, temperaturesOf, pressuresOf, rainsOf, DownOn, down-on, NumberOrder, TenthsOrder, RainOrder, InOrder, in-order, class-order, temperature-order, qnh-order}
 use Rattle.report_laws.proofs.RoundTrip.{Arrays, fair, comes-back, fine-again, text-again, Kept, kept, numbers-back, temperatures-back, pressures-back, rains-back}
 
 -- ==== DEMAND 1. Every text and every record gets an answer.
@@ -269,22 +265,3 @@ module _ (r q : Report) (arrays : Arrays r) (arrays′ : Arrays q) (fine : judge
   pub rains-order : InOrder RainOrder rain.Trace (rainsOf r) (rainsOf q) (rainsOf (back r)) (rainsOf (back q))
   rains-order =
       rw (rains-read r arrays fine, rains-read q arrays′ fine′) (in-order RainOrder rain.Trace roundedRain trace-exact rain-order (rainsOf r) (rainsOf q))
-
--- What may the observer have seen where a table says visibility 4000 m? 4,000 m or more and less than 4,100 m, and nothing else.
-pub seen-4000 : (v : ℕ) → Exactly (footOn visibility v ≡ 4000) ((4000 ≤ v) × (v < 4100))
-unfolding scale.visibility run classIn
-seen-4000 v = record { only = seen; all = λ (l, h). read l h }
-  where
-    seen : footOn visibility v ≡ 4000 → (4000 ≤ v) × (v < 4100)
-    seen e =
-        let low : footOn visibility v ≤ v = down-on visibility v .not-above in
-        ⊎-elim
-        (λ (h : 4100 ≤ v). let o : footOn visibility 4100 ≤ footOn visibility v = order-on visibility 4100 v h in absurd (omega arith))
-        (λ (h : v < 4100). (omega arith, h))
-        (reached 4100 v)
-
-    read : 4000 ≤ v → v < 4100 → footOn visibility v ≡ 4000
-    read l h =
-        let low : footOn visibility 4000 ≤ footOn visibility v = order-on visibility 4000 v l in
-        let high : footOn visibility v ≤ footOn visibility 4099 = order-on visibility v 4099 (omega arith) in
-        omega arith

@@ -1,9 +1,11 @@
--- The three demands on the library for every kind of report, the poor libraries that they shut out, worked examples, and that TAF and trend have one body.
+-- The three demands on the library for every kind of report, what may have been seen where a number is read, the poor libraries that the demands shut out,
+-- worked examples, and that TAF and trend have one body.
 pub mod ByName
 pub mod Causes
 pub mod Numbers
 pub mod RoundTrip
 pub mod Demands
+pub mod Seen
 pub mod PoorLibraries
 pub mod Examples
 pub mod OneBody

@@ -84,7 +84,7 @@ scaleOf visibility = scale.visibility
 scaleOf runway = scale.runway
 scaleOf cloud = scale.cloud
 
-abbrev sameOf : (t : Table) → Figures t → Figures t → Bool
+abbrev pub sameOf : (t : Table) → Figures t → Figures t → Bool
 sameOf land = eqb
 sameOf sea = eqb
 sameOf base = eqb
@@ -92,7 +92,7 @@ sameOf visibility = eqb
 sameOf runway = scale.sameRange
 sameOf cloud = eqb
 
-lawsOf : (t : Table) → Lawful (sameOf t) (scaleOf t)
+pub lawsOf : (t : Table) → Lawful (sameOf t) (scaleOf t)
 lawsOf land = land-laws
 lawsOf sea = sea-laws
 lawsOf base = base-laws
@@ -350,10 +350,11 @@ qnh-order _ _ (numbers {m} {n} h) = numbers (pressure-order m n h)
 abbrev pub InOrder : {A : Type 0} → (A → A → Type 0) → A → List A → List A → List A → List A → Type 0
 InOrder below none vs ws back-vs back-ws = (i j : ℕ) → below (getD vs i none) (getD ws j none) → below (getD back-vs i none) (getD back-ws j none)
 
+-- what stands at a place of a list of which each number was read back
+pub read-at : {A : Type 0} (none : A) (f : A → A) → f none ≡ none → (xs : List A) (i : ℕ) → getD (map f xs) i none ≡ f (getD xs i none)
+read-at none f e xs i = ap (getD (map f xs) i) (sym e) ∙ List·getD-map f xs i none
+
 pub in-order : {A : Type 0} (below : A → A → Type 0) (none : A) (f : A → A) → f none ≡ none → ((a b : A) → below a b → below (f a) (f b)) → (vs ws : List A)
     → InOrder below none vs ws (map f vs) (map f ws)
 in-order below none f e o vs ws i j h =
-    rw (at vs i, at ws j) (o (getD vs i none) (getD ws j none) h)
-  where
-    at : (xs : List _) (k : ℕ) → getD (map f xs) k none ≡ f (getD xs k none)
-    at xs k = ap (getD (map f xs) k) (sym e) ∙ List·getD-map f xs k none
+    rw (read-at none f e vs i, read-at none f e ws j) (o (getD vs i none) (getD ws j none) h)

@@ -86,18 +86,22 @@ module _ (s t : ℕ) where
   no-sign n m = rw (lt-ltb 1 s (omega arith))
 
 -- ---- what a value is read as, in tenths
-rounded-warm : (n : ℕ) → roundedDegrees (pos n) ≡ pos ((n + 5) / 10 * 10)
+pub rounded-warm : (n : ℕ) → roundedDegrees (pos n) ≡ pos ((n + 5) / 10 * 10)
 unfolding roundedDegrees isMinusZero wholeDegrees
 rounded-warm n = refl
 
-rounded-cool : (n : ℕ) → n < 5 → roundedDegrees (negsuc n) ≡ minusZero
-unfolding roundedDegrees isMinusZero
-rounded-cool n h = let k : (suc n + 4) / 10 ≡ 0 = omega arith in rw (whole-below n, k)
+pub cool-minus : (n : ℕ) → n < 5 → isMinusZero (negsuc n) ≡ true
+unfolding isMinusZero
+cool-minus n h = let k : (suc n + 4) / 10 ≡ 0 = omega arith in rw (whole-below n, k)
 
-ten-times : (j : ℕ) → suc j * 10 ≡ suc (j * 10 + 9)
+pub rounded-cool : (n : ℕ) → n < 5 → roundedDegrees (negsuc n) ≡ minusZero
+unfolding roundedDegrees
+rounded-cool n h = rw (cool-minus n h)
+
+pub ten-times : (j : ℕ) → suc j * 10 ≡ suc (j * 10 + 9)
 ten-times j = omega arith
 
-rounded-cold : (n : ℕ) → 5 ≤ n → roundedDegrees (negsuc n) ≡ negsuc ((n - 5) / 10 * 10 + 9)
+pub rounded-cold : (n : ℕ) → 5 ≤ n → roundedDegrees (negsuc n) ≡ negsuc ((n - 5) / 10 * 10 + 9)
 unfolding roundedDegrees isMinusZero
 rounded-cold n h =
     let k : (suc n + 4) / 10 ≡ suc ((n - 5) / 10) = omega arith in

@@ -18,6 +18,8 @@ pub record Decides {F : Type 0} (same : F → F → Bool) : Type 0 where
   pub itself : (a : F) → same a a ≡ true
 
 pub record Lawful {F : Type 0} (same : F → F → Bool) (s : Scale F) : Type 0 where
+  -- the feet rise
+  pub feet-rise : rising (s .lowest) (s .above) ≡ true
   -- the reading is not above the value
   pub not-above : (v : ℕ) → footOf s v ≤ v
   -- the value less its reading is smaller than the class's length
@@ -69,7 +71,7 @@ module _ {F : Type 0} where
       (reached (d .foot) v)
 
   -- ---- where the feet rise
-  above-in : (c : Class F) (ds : List (Class F)) (v : ℕ) → rising c ds ≡ true → c .foot ≤ classIn c ds v .foot
+  pub above-in : (c : Class F) (ds : List (Class F)) (v : ℕ) → rising c ds ≡ true → c .foot ≤ classIn c ds v .foot
   above-in c [] v r = unfold classIn in omega arith
   above-in c (d ∷ ds) v r =
       ⊎-elim
@@ -216,6 +218,7 @@ pub lawful : {F : Type 0} (same : F → F → Bool) (s : Scale F) → Decides sa
     → distinct same (s .lowest ∷ s .above) ≡ true → Lawful same s
 lawful {F} same s dec z r u =
     record {
+      feet-rise = r;
       not-above = λ v. below-in (s .lowest) (s .above) v (omega arith);
       within = λ v l e. within-in (s .lowest) (s .above) v l (omega arith) e;
       open-last = open-in (s .lowest) (s .above);

@@ -1,12 +1,16 @@
+pub mod Alike
 pub mod Answers
 pub mod DegreesLaws
+pub mod DegreesNearest
 pub mod DirectionLaws
+pub mod Down
 pub mod Laws
 pub mod Listed
 pub mod MetresLaws
 pub mod MetresRounds
+pub mod Nearest
 pub mod PressureLaws
+pub mod PressureScale
 pub mod RainLaws
 pub mod Rounds
 pub mod Runs
-pub mod Down

@@ -19,7 +19,7 @@ use Rattle.scales.proofs.Laws.{Decides, Lawful, reached, read-head, non
 use Rattle.scales.proofs.MetresLaws.{numbers, ranges, land-laws, sea-laws, base-laws, visibility-laws, runway-laws, cloud-laws}
 use Rattle.scales.proofs.Rounds.{Rounds, rounds}
 
-foot-of : (r : Read) (v : ℕ) → answered r ≡ reading.Is v → r ≡ Foot v
+pub foot-of : (r : Read) (v : ℕ) → answered r ≡ reading.Is v → r ≡ Foot v
 foot-of (Foot m) v e = let j : m ≡ v = cc in ap Foot j
 foot-of None v e = impossible (cc)
 
@@ -65,7 +65,7 @@ module _ {F : Type 0} where
 abbrev pub MetresRounds : Scale ℕ → Type 0
 MetresRounds s = Rounds (λ v f. metresFigure s v ≡ figure.Is f) (λ f v. metresReading s f ≡ reading.Is v) (λ f. metresReading s f ≡ reading.Unused) (footOf s)
 
-metres : (s : Scale ℕ) → Lawful eqb s → low (s .lowest ∷ s .above) ≡ true → MetresRounds s
+pub metres : (s : Scale ℕ) → Lawful eqb s → low (s .lowest ∷ s .above) ≡ true → MetresRounds s
 unfolding metresFigure metresReading
 metres s law l =
     answers figure.Is figure.OutOfRange (λ a b e. (cc)) (λ a e. impossible (cc)) eqb numbers s law l

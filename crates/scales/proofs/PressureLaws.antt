@@ -1,6 +1,6 @@
 -- Q in and out of range, and its laws: how far off, the order, and what is written reads back.
 -- Assumes nothing.
-use mathlib.Core.Path.{_≡_, sym, ap, _∙_}
+use mathlib.Core.Path.{_≡_, refl, sym, _∙_}
 use mathlib.Core.Bool.{true}
 use mathlib.Core.Logic.{⊎-elim}
 use Prim.Native.Nat.{ℕ, _+_, _*_, _/_, _≤_, _<_}
@@ -8,11 +8,14 @@ use native.Mathlib.Omega.{arith}
 use lib.Dec.{leb}
 use borrow.Author.Tests.{le-leb, lt-leb, leb-true}
 use Rattle.figures.proofs.Impossible.{impossible}
+use Rattle.scales.specs.Metres.{metresFigure, metresReading}
 use Rattle.scales.specs.Rounded.{pressureFigure, pressureReading, roundedPressure}
 use Rattle.scales.specs.declared.kinds.Figure.the-variants as figure
 use Rattle.scales.specs.declared.kinds.Reading.the-variants as reading
 use Rattle.scales.proofs.Laws.{reached}
 use Rattle.scales.proofs.Rounds.{Rounds, rounds}
+use Rattle.scales.proofs.Answers.{class-is, too-far, read-is}
+use Rattle.scales.proofs.PressureScale.{pressures, pressures-rounds, pressure-class, pressure-read, pressure-unread}
 
 module _ (v : ℕ) where
   pub written : v ≤ 99999 → figure.Is (v / 10) ≡ pressureFigure v
@@ -40,16 +43,23 @@ back v f w =
     (λ h. let i : figure.OutOfRange ≡ pressureFigure v = none-written v h in impossible (cc))
     (reached v 99999)
 
-own : (f v : ℕ) → pressureReading f ≡ reading.Is v → pressureFigure v ≡ figure.Is f
-own f v e =
+-- ---- Q's answers are those of its scale
+pub figure-is : (v : ℕ) → pressureFigure v ≡ metresFigure pressures v
+figure-is v =
     ⊎-elim
-    (λ h.
-    let i : reading.Is (f * 10) ≡ pressureReading f = read f h in
-    let j : f * 10 ≡ v = cc in
-    let k : v / 10 ≡ f = omega arith in
-    sym (written v (omega arith)) ∙ ap figure.Is k)
-    (λ h. let i : reading.Unused ≡ pressureReading f = none-read f h in impossible (cc))
+    (λ h. sym (written v h) ∙ class-is pressures v h (pressure-class v h) refl)
+    (λ h. sym (none-written v h) ∙ too-far pressures v h)
+    (reached v 99999)
+
+pub reading-is : (f : ℕ) → pressureReading f ≡ metresReading pressures f
+reading-is f =
+    ⊎-elim
+    (λ h. sym (read f h) ∙ read-is pressures f (pressure-read f h))
+    (λ h. sym (none-read f h) ∙ read-is pressures f (pressure-unread f h))
     (reached f 9999)
+
+own : (f v : ℕ) → pressureReading f ≡ reading.Is v → pressureFigure v ≡ figure.Is f
+own f v e = figure-is v ∙ pressures-rounds .own f v (sym (reading-is f) ∙ e)
 
 pub pressure-rounds : Rounds (λ v f. pressureFigure v ≡ figure.Is f) (λ f v. pressureReading f ≡ reading.Is v) (λ f. pressureReading f ≡ reading.Unused) roundedPressure
 pressure-rounds = rounds back own (λ f v u e. impossible (cc))
