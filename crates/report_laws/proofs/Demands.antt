@@ -1,14 +1,15 @@
 -- THE THREE DEMANDS on the library, for every kind of report. What the calls do is `readOf`, `restOf`, `writtenOf` and `bufferOf`: the contracts of
--- `report::read`, `rest` and `write` are equations with them. A record's arrays have their lengths, as every record of the code has (`Arrays`).
+-- `report::read` and `write` are equations with them, and the part that `rest` hands back has the bytes `restOf`. A record's arrays have their lengths, as
+-- every record of the code has (`Arrays`).
 -- Assumes nothing.
 use Prim.Native.Nat.{ℕ, _≤_, _<_, _+_, _-_, _%_}
 use native.Mathlib.Omega.{arith}
 use mathlib.Core.Path.{_≡_, refl, sym, ap, subst, _∙_}
-use mathlib.Core.Bool.{Bool, true, false, cond}
+use mathlib.Core.Bool.{Bool, true, false, cond, _||_}
 use mathlib.Core.List.{List, [], map, _∷_, _++_}
 use lib.ListN.{length, take, drop}
 use lib.IntN.{ℤ}
-use lib.Dec.{leb}
+use lib.Dec.{leb, eqb}
 use borrow.Author.Tests.{leb-true, leb-false, le-leb, lt-leb}
 use Rattle.figures.proofs.Impossible.{impossible}
 use Rattle.figures.specs.Put.{splice}
@@ -27,8 +28,13 @@ use Rattle.text.specs.declared.kinds.Judged.the-variants as judged
 use Rattle.text.specs.declared.kinds.Verdict.the-variants as verdict
 use Rattle.text.specs.declared.kinds.Written.{Written}
 use Rattle.text.specs.declared.kinds.Written.the-variants as answer
+use Rattle.text.specs.Refusals.{numberOf}
+use Rattle.text.specs.Numbers.{Numbers, verdictNumbers, writtenNumbers}
+use Rattle.text.specs.Groups.{groupsFrom}
+use Rattle.text.specs.Text.{tailOf}
 use Rattle.text.specs.Write.{answerBy, bufferBy}
 use Rattle.text.proofs.Groups.{part-nothing}
+use Rattle.text.proofs.Numbers.{verdict-told}
 use Rattle.places.specs.Engine.{Outcome, Done, Fault}
 use Rattle.record.specs.declared.values.Number.the-variants as number
 use Rattle.record.specs.declared.values.Tenths.the-variants as tenths
@@ -36,6 +42,7 @@ use Rattle.record.specs.declared.surface.Synop.{Synop}
 use Rattle.record.specs.declared.aerodrome.Metar.{Metar}
 use Rattle.record.specs.declared.aerodrome.Taf.{Taf}
 use Rattle.aerodrome_groups.specs.Temperatures.{classTenths, classPressure}
+use Rattle.report_record.specs.declared.kinds.Name.the-variants as name
 use Rattle.report_record.specs.declared.kinds.Report.{Report}
 use Rattle.report_record.specs.declared.kinds.Reading.{Reading}
 use Rattle.report_record.specs.Record.{blankReport, surfaceReport, observedReport, forecastReport, accepted, refused}
@@ -43,6 +50,8 @@ use Rattle.report.specs.Read.{answered, readOf, restPlace, restOf}
 use Rattle.report.specs.Write.{judgeOf, canonicalOf, classedOf, writtenOf, bufferOf}
 use Rattle.report_laws.proofs.ByName.{surfaceWord, observedWord, forecastWord, Named, SurfaceText, ObservedText, ForecastText, read-surface, read-observed, read-forecast, Which, by-surface, by-observed, by-forecast, by-none, which, AcceptedAs, accepted-as, as-surface, as-observed, as-forecast, RefusedAs, refused-as, as-refused}
 use Rattle.report_laws.proofs.Causes.{Caused, fine, bad-value, disagreeing, causes}
+use Rattle.report_laws.proofs.Placed.{one-or-more, Placed, At, at-place, Within, groups-within, tail-within}
+use Rattle.report_laws.proofs.Faults.{surface-placed, observed-placed, forecast-placed, NamePlaced, name-placed}
 use Rattle.report_laws.proofs.Numbers.{Table, footOn, classOn, numbersOf, temperaturesOf, pressuresOf, rainsOf, DownOn, down-on, NumberOrder, TenthsOrder, RainOrder, InOrder, in-order, class-order, temperature-order, qnh-order}
 use Rattle.report_laws.proofs.RoundTrip.{Arrays, fair, comes-back, fine-again, text-again, Kept, kept, numbers-back, temperatures-back, pressures-back, rains-back}
 
@@ -130,6 +139,49 @@ forecast-first t rest r e = forecast-exactly t rest r .only e .named
 pub refused-exactly : (t : List ℕ) (f : Refusal) (at : ℕ) → Exactly (readOf t ≡ refused f at) (RefusedAs t f at)
 refused-exactly t f at = record { only = refused-as; all = as-refused }
 
+-- In the paper's numbers: a text is accepted (0) or refused by one of 1 to 9, and the unread rest begins, or the fault stands, within the text or at its end.
+pub record InText (n : ℕ) (x : Numbers) : Type 0 where
+  pub number : x .refusal ≤ 9
+  pub place : x .value ≤ n
+
+pub text-numbers : (t : List ℕ) → InText (length t) (verdictNumbers (readOf t .verdict))
+text-numbers t = go (readOf t) (which t)
+  where
+    all : Within (length t) (groupsFrom t 0)
+    all = groups-within t 0
+
+    one : {R : Type 0} (within : R → Report) (o : Outcome R) → At (length t) o → InText (length t) (verdictNumbers (answered within o .verdict))
+    one within (Done rest r) u = record { number = omega arith; place = u }
+    one within (Fault f at) (a, u) = record { number = leb-true (numberOf f) 9 a; place = u }
+
+    none : (f : Refusal) (at : ℕ) → NamePlaced (length t) (name.Refused f at) → InText (length t) (verdictNumbers (verdict.Refused f at))
+    none f at (a, u) = record { number = leb-true (numberOf f) 9 a; place = u }
+
+    go : (a : Reading) → Which t a → InText (length t) (verdictNumbers (a .verdict))
+    go _ (by-surface o x) =
+        let placed = surface-placed (length t) (tailOf t) (length t) (tail-within t) (omega arith) (x .ship) (x .named .others) (subst (Within (length t)) (x .named .groups) all .1) in
+        one surfaceReport o (at-place o (subst (Placed (length t)) (x .comes) placed))
+    go _ (by-observed o x) =
+        one observedReport o (at-place o (subst (Placed (length t)) (x .comes) (observed-placed (length t) (tailOf t) (length t) (tail-within t) (omega arith) (groupsFrom t 0) all)))
+    go _ (by-forecast o x) =
+        one forecastReport o (at-place o (subst (Placed (length t)) (x .comes) (forecast-placed (length t) (tailOf t) (length t) (tail-within t) (omega arith) (groupsFrom t 0) all)))
+    go _ (by-none f at is) = none f at (subst (NamePlaced (length t)) is (name-placed t))
+
+-- So the number of a refused text is one of 1 to 9, and its place at most the text's length.
+pub refused-within : (t : List ℕ) (f : Refusal) (at : ℕ) → readOf t .verdict ≡ verdict.Refused f at → (1 ≤ numberOf f) × (numberOf f ≤ 9) × (at ≤ length t)
+refused-within t f at e = (one-or-more f, rw e at (text-numbers t .number), rw e at (text-numbers t .place))
+
+-- The numbers say all that the verdict says: a text has the number and the place of a refusal exactly when it is refused so.
+pub refused-numbers : (t : List ℕ) (f : Refusal) (at : ℕ) → Exactly (verdictNumbers (readOf t .verdict) ≡ record { refusal = numberOf f; value = at }) (RefusedAs t f at)
+refused-numbers t f at = record { only = λ e. refused-as (go (readOf t) (every-text t) (verdict-told (readOf t .verdict) (verdict.Refused f at) e)); all = λ x. rw (as-refused x) }
+  where
+    go : (a : Reading) → Answered a → a .verdict ≡ verdict.Refused f at → a ≡ refused f at
+    go _ (yes rest r) e = impossible (cc)
+    go _ (no g p) e =
+        let is : g ≡ f = cc in
+        let there : p ≡ at = cc in
+        rw (is, there)
+
 -- The writer refuses 11 and 7 as judged, and 10 where "the buffer is shorter than the canonical text, and not otherwise".
 pub data Cause (r : Report) (b : List ℕ) : Refusal → Type 0 where
   value : judgeOf r ≡ judged.Refused refusal.Value → Cause r b refusal.Value
@@ -158,6 +210,23 @@ unfolding writtenOf judgeOf canonicalOf
 each-cause r b _ (value j) = rw j
 each-cause r b _ (disagreement j) = rw j
 each-cause r b _ (room j h) = rw (j, lt-leb (length (canonicalOf r)) (length b) h)
+
+-- In the paper's numbers: a record is written (0), with no more bytes than the buffer has, or refused by 7, 10 or 11.
+pub record InBuffer (n : ℕ) (x : Numbers) : Type 0 where
+  pub number : (eqb (x .refusal) 0 || eqb (x .refusal) 7 || eqb (x .refusal) 10 || eqb (x .refusal) 11) ≡ true
+  pub count : x .value ≤ n
+
+pub record-numbers : (r : Report) (b : List ℕ) → InBuffer (length b) (writtenNumbers (writtenOf r (length b)))
+record-numbers r b = go (writtenOf r (length b)) refl (bufferOf r b) (every-record r b)
+  where
+    cause : {f : Refusal} → Cause r b f → InBuffer (length b) (writtenNumbers (answer.Refused f))
+    cause (value j) = record { number = refl; count = omega arith }
+    cause (disagreement j) = record { number = refl; count = omega arith }
+    cause (room j h) = record { number = refl; count = omega arith }
+
+    go : (w : Written) → writtenOf r (length b) ≡ w → (l : List ℕ) → Settled r b w l → InBuffer (length b) (writtenNumbers w)
+    go _ e _ (done j h) = record { number = refl; count = h }
+    go _ e _ (unchanged f) = cause (only-causes r b f e)
 
 -- the one canonical text is written wherever it has room
 pub one-text : (r : Report) (b : List ℕ) → judgeOf r ≡ judged.Fine → length (canonicalOf r) ≤ length b

@@ -4,10 +4,8 @@
 use Prim.Native.Nat.{ℕ}
 use mathlib.Core.Path.{_≡_, refl}
 use mathlib.Core.List.{List, [], _∷_, map}
-use Rattle.text.specs.declared.kinds.Judged.the-variants as judged
-use Rattle.text.specs.declared.kinds.Verdict.the-variants as verdict
-use Rattle.text.specs.Refusals.{numberOf}
-use Rattle.text.specs.Example.{Example, reads, refuses}
+use Rattle.text.specs.Numbers.{verdictNumbers, writtenNumbers}
+use Rattle.text.specs.Example.{Example, reads, refuses, said}
 use Rattle.report_record.specs.declared.kinds.Reading.{Reading}
 use Rattle.figures.specs.Figures as figures
 use Rattle.figures.specs.Signed as signed
@@ -53,14 +51,9 @@ use Rattle.taf.specs.Write as taf-write
 use Rattle.report.specs.Read as report-read
 use Rattle.report.specs.Write as report-write
 
--- what the program says of a reading
-abbrev said : Reading → List ℕ
-said r =
-    elim (r .verdict) [
-      | verdict.Accepted rest ↦
-          elim (report-write.judgeOf (r .report)) [ judged.Fine ↦ report-write.canonicalOf (r .report) | judged.Refused f ↦ numberOf f ∷ [] ]
-      | verdict.Refused f at ↦ numberOf f ∷ at ∷ []
-    ]
+-- what is answered to a text, where there is room for the longest
+abbrev answered : Reading → List ℕ
+answered r = said (verdictNumbers (r .verdict)) (writtenNumbers (report-write.writtenOf (r .report) 2048)) (report-write.canonicalOf (r .report))
 
 abbrev pub examples : List Example
 examples =
@@ -108,7 +101,7 @@ examples =
     ∷ refuses "TAF LEMD 011100Z 0112/0212 27010KT 9999 BECMG 0112/0114 NSW NSW" 7 60
     ∷ []
 
-pub worked : map (λ (e : Example). said (report-read.readOf (e .text))) examples ≡ map (λ (e : Example). e .answer) examples
+pub worked : map (λ (e : Example). answered (report-read.readOf (e .text))) examples ≡ map (λ (e : Example). e .answer) examples
 unfolding figures.figures figures.scan figures.fieldAt figures.numberText figures.slashes figures.fieldText
     signed.signedOf
     bytes.lead
@@ -151,5 +144,5 @@ unfolding figures.figures figures.scan figures.fieldAt figures.numberText figure
     taf-read.openedBy taf-read.groupsRead
     taf-write.judgePart taf-write.judgeChange taf-write.judgeChanges taf-write.foreignBlank taf-write.judgeOf taf-write.showChange taf-write.groupsOf taf-write.canonicalOf
     report-read.nameOf report-read.readOf
-    report-write.judgeOf report-write.canonicalOf
+    report-write.judgeOf report-write.canonicalOf report-write.writtenOf
 worked = refl

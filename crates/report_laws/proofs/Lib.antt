@@ -2,6 +2,8 @@
 -- worked examples, and that TAF and trend have one body.
 pub mod ByName
 pub mod Causes
+pub mod Placed
+pub mod Faults
 pub mod Numbers
 pub mod RoundTrip
 pub mod Demands

@@ -7,3 +7,4 @@ pub mod Texts
 pub mod Joins
 pub mod Writes
 pub mod Judging
+pub mod Numbers

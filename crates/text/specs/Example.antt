@@ -2,8 +2,11 @@
 -- Assumes nothing: these are definitions.
 use Prim.Native.Nat.{ℕ}
 use Prim.Native.String.{String}
+use mathlib.Core.Bool.{cond}
 use mathlib.Core.List.{List, [], _∷_}
+use lib.Dec.{eqb}
 use Rattle.figures.specs.Quote.{bytes}
+use Rattle.text.specs.Numbers.{Numbers}
 
 pub record Example : Type 0 where
   pub text : List ℕ
@@ -14,3 +17,8 @@ reads text answer = record { text = bytes text; answer = bytes answer }
 
 abbrev pub refuses : String → ℕ → ℕ → Example
 refuses text number place = record { text = bytes text; answer = number ∷ place ∷ [] }
+
+-- what is answered to a text, by the numbers of its reading, those of writing its record, and the record's canonical text
+abbrev pub said : Numbers → Numbers → List ℕ → List ℕ
+said read written canonical =
+    cond (eqb (read .refusal) 0) (cond (eqb (written .refusal) 0) canonical (written .refusal ∷ [])) (read .refusal ∷ read .value ∷ [])

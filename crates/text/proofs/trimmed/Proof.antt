@@ -1,6 +1,6 @@
 -- `text::trimmed` meets its contract: each return is the part from `trimmedStart` up to `trimmedEnd`, by its cases.
 -- Assumes nothing.
-use mathlib.Core.Path.{sym, _∙_}
+use mathlib.Core.Path.{_∙_}
 use native.Mathlib.Nat.{zero-add}
 use borrow.Author.Needs.{needs}
 use Rattle.text.specs.Text.{equalsAt}
