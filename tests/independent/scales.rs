@@ -220,6 +220,27 @@ fn marked() {
     figures(&land(), 2, &[55]);
 }
 
+fn temperatures() {
+    for t in [-996, -995, -994, -15, -14, -6, -5, -4, -1, 0, 4, 5, 25, 994, 995] {
+        temperature(t);
+    }
+    for (minus, whole) in [(true, 99), (true, 1), (true, 0), (false, 0), (false, 3), (false, 99)] {
+        degrees(minus, whole);
+    }
+}
+
+fn seen() {
+    readings(&land(), &[0, 5_000, 6_000, 70_000, 70_001]);
+    readings(&sea(), &[0, 4_000, 50_000]);
+    readings(&base(), &[300, 2_000, 2_500]);
+    readings(&cloud(), &[2_970, 3_000, 3_300, 30_000]);
+    readings(&visibility(), &[750, 4_000, 4_050, 9_000, 10_000]);
+    readings(&runway(), &[0, 50, 375, 2_000, 2_001]);
+    for t in [10_130, 10_135, 99_990] {
+        line(tenths(t), if t % 10 == 0 { format!("{} to {}", tenths(t), tenths(t + 9)) } else { "nothing".into() });
+    }
+}
+
 fn main() {
     heading("4377 land, m");
     values(&land(), &[0, 99, 100, 4999, 5000, 5999, 6000, 30000, 34999, 35000, 70000, 70001, 99999, 100000]);
@@ -243,12 +264,7 @@ fn main() {
         line(text.into(), reading(&runway(), text));
     }
     heading("aerodrome temperature, degrees");
-    for t in [-996, -995, -994, -15, -14, -6, -5, -4, -1, 0, 4, 5, 25, 994, 995] {
-        temperature(t);
-    }
-    for (minus, whole) in [(true, 99), (true, 1), (true, 0), (false, 0), (false, 3), (false, 99)] {
-        degrees(minus, whole);
-    }
+    temperatures();
     heading("sTTT, degrees");
     for (sign, n) in [(0, 0), (0, 53), (1, 0), (1, 1), (1, 999), (2, 53)] {
         signed(sign, n);
@@ -260,14 +276,6 @@ fn main() {
     heading("direction, degrees");
     direction();
     heading("what may have been seen");
-    readings(&land(), &[0, 5_000, 6_000, 70_000, 70_001]);
-    readings(&sea(), &[0, 4_000, 50_000]);
-    readings(&base(), &[300, 2_000, 2_500]);
-    readings(&cloud(), &[2_970, 3_000, 3_300, 30_000]);
-    readings(&visibility(), &[750, 4_000, 4_050, 9_000, 10_000]);
-    readings(&runway(), &[0, 50, 375, 2_000, 2_001]);
-    for t in [10_130, 10_135, 99_990] {
-        line(tenths(t), if t % 10 == 0 { format!("{} to {}", tenths(t), tenths(t + 9)) } else { "nothing".into() });
-    }
+    seen();
     marked();
 }

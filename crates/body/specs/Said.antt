@@ -13,7 +13,7 @@ use Rattle.elements.specs.declared.kinds.Said.{Said}
 use Rattle.elements.specs.declared.kinds.Said.the-variants as said
 use Rattle.elements.specs.Weather.{withWeather}
 use Rattle.elements.specs.Sky.{addLayer}
-use Rattle.elements.specs.Body.{Terms, bodyRow}
+use Rattle.elements.specs.Body.{bodyRow}
 
 -- a record with what a group says, or the group's refusal
 abbrev pub unlessRefused : {R : Type 0} → Said → R → Read R

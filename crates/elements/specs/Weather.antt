@@ -22,7 +22,7 @@ use Rattle.record.specs.SilentAerodrome.{isBlankWeather}
 use Rattle.text.specs.declared.kinds.Judged.{Judged}
 use Rattle.text.specs.declared.kinds.Judged.the-variants as judged
 use Rattle.text.specs.Judge.{judge, andThen}
-use Rattle.elements.specs.Parts.{wrong, disagrees, provided, agreeing}
+use Rattle.elements.specs.Parts.{wrong, provided, agreeing}
 
 -- ---- the codes of table 4678, two letters each
 

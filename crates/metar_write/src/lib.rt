@@ -1,4 +1,4 @@
 // The writer of METAR and SPECI: a record judged, and written as its canonical text.
 pub mod judge;
-pub mod trends;
+mod trends;
 pub mod write;

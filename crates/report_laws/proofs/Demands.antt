@@ -29,7 +29,7 @@ use Rattle.text.specs.declared.kinds.Verdict.the-variants as verdict
 use Rattle.text.specs.declared.kinds.Written.{Written}
 use Rattle.text.specs.declared.kinds.Written.the-variants as answer
 use Rattle.text.specs.Refusals.{numberOf}
-use Rattle.text.specs.Numbers.{Numbers, verdictNumbers, writtenNumbers}
+use Rattle.text.specs.Numbers.{AnswerNumbers, verdictNumbers, writtenNumbers}
 use Rattle.text.specs.Groups.{groupsFrom}
 use Rattle.text.specs.Text.{tailOf}
 use Rattle.text.specs.Write.{answerBy, bufferBy}
@@ -140,7 +140,7 @@ pub refused-exactly : (t : List ℕ) (f : Refusal) (at : ℕ) → Exactly (readO
 refused-exactly t f at = record { only = refused-as; all = as-refused }
 
 -- In the paper's numbers: a text is accepted (0) or refused by one of 1 to 9, and the unread rest begins, or the fault stands, within the text or at its end.
-pub record InText (n : ℕ) (x : Numbers) : Type 0 where
+pub record InText (n : ℕ) (x : AnswerNumbers) : Type 0 where
   pub number : x .refusal ≤ 9
   pub place : x .value ≤ n
 
@@ -212,7 +212,7 @@ each-cause r b _ (disagreement j) = rw j
 each-cause r b _ (room j h) = rw (j, lt-leb (length (canonicalOf r)) (length b) h)
 
 -- In the paper's numbers: a record is written (0), with no more bytes than the buffer has, or refused by 7, 10 or 11.
-pub record InBuffer (n : ℕ) (x : Numbers) : Type 0 where
+pub record InBuffer (n : ℕ) (x : AnswerNumbers) : Type 0 where
   pub number : (eqb (x .refusal) 0 || eqb (x .refusal) 7 || eqb (x .refusal) 10 || eqb (x .refusal) 11) ≡ true
   pub count : x .value ≤ n
 

@@ -5,7 +5,7 @@ use Prim.Native.Nat.{ℕ}
 use mathlib.Core.Path.{_≡_, refl}
 use mathlib.Core.List.{List, [], _∷_, map}
 use Rattle.text.specs.Numbers.{verdictNumbers, writtenNumbers}
-use Rattle.text.specs.Example.{Example, reads, refuses, said}
+use Rattle.text.specs.Example.{Example, reads, refuses, answerTo}
 use Rattle.report_record.specs.declared.kinds.Reading.{Reading}
 use Rattle.figures.specs.Figures as figures
 use Rattle.figures.specs.Signed as signed
@@ -53,7 +53,7 @@ use Rattle.report.specs.Write as report-write
 
 -- what is answered to a text, where there is room for the longest
 abbrev answered : Reading → List ℕ
-answered r = said (verdictNumbers (r .verdict)) (writtenNumbers (report-write.writtenOf (r .report) 2048)) (report-write.canonicalOf (r .report))
+answered r = answerTo (verdictNumbers (r .verdict)) (writtenNumbers (report-write.writtenOf (r .report) 2048)) (report-write.canonicalOf (r .report))
 
 abbrev pub examples : List Example
 examples =

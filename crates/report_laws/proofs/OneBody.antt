@@ -3,9 +3,7 @@
 -- Assumes nothing.
 use mathlib.Core.Path.{_≡_, refl}
 use mathlib.Core.Bool.{true, not}
-use mathlib.Core.List.{List}
 use lib.ListN.{drop}
-use Rattle.places.specs.Engine.{Place}
 use Rattle.places.specs.Lift.{liftAll}
 use Rattle.record.specs.declared.aerodrome.Opening.the-variants as opening
 use Rattle.record.specs.declared.aerodrome.Body.{Body}

@@ -28,7 +28,8 @@ use Rattle.scales.proofs.Runs.{under, onto, rises}
 use Rattle.scales.proofs.Answers.{figure-told, range-told, metres-read}
 use Rattle.scales.proofs.MetresLaws.{runway-laws}
 use Rattle.scales.proofs.MetresRounds.{MetresRounds, runway-rounds}
-use Rattle.seen_values.specs.Seen.{fromFoot, seenOn, ifFoot, classBy, isLow}
+use Rattle.seen_values.specs.Seen.{fromFoot, seenOn}
+use Rattle.seen_values.specs.Steps.{ifFoot, classBy, isUpTo99999}
 use Rattle.seen_values.specs.declared.kinds.Seen.{Seen}
 use Rattle.seen_values.specs.declared.kinds.Seen.the-variants as seen
 
@@ -53,10 +54,10 @@ module _ (limits spans : List ℕ) (m i : ℕ) where
       both : i < length limits → i < length spans → (ltb i (length limits) && ltb i (length spans)) ≡ true
       both k h = rw (lt-ltb i (length limits) k, lt-ltb i (length spans) h)
 
-pub low-at : (xs : List ℕ) (i : ℕ) → every isLow xs ≡ true → getD xs i 0 ≤ 99999
+pub low-at : (xs : List ℕ) (i : ℕ) → every isUpTo99999 xs ≡ true → getD xs i 0 ≤ 99999
 low-at [] i e = omega arith
-low-at (x ∷ xs) zero e = leb-true x 99999 (and-eq-true-iff (isLow x) (every isLow xs) .0 e .0)
-low-at (x ∷ xs) (suc i) e = low-at xs i (and-eq-true-iff (isLow x) (every isLow xs) .0 e .1)
+low-at (x ∷ xs) zero e = leb-true x 99999 (and-eq-true-iff (isUpTo99999 x) (every isUpTo99999 xs) .0 e .0)
+low-at (x ∷ xs) (suc i) e = low-at xs i (and-eq-true-iff (isUpTo99999 x) (every isUpTo99999 xs) .0 e .1)
 
 -- ---- the class of each foot, by a test over the whole scale
 abbrev pub isBetween : Seen → ℕ → ℕ → Bool

@@ -1,4 +1,4 @@
-// Aerodrome temperature: tenths that are written as one whole degree, five below it to four above; those of M00 and 00 part the ten round zero.
+// Aerodrome temperature: tenths that are written as one whole degree, five below it to four above; M00 and 00 share the ten tenths around zero.
 use crate::kinds::DegreesSeen;
 use figures::signed;
 use scales::degrees::signed_reading;

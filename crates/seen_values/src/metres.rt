@@ -8,13 +8,14 @@ ghost use mathlib.Core.Path.{_≡_};
 ghost use mathlib.Core.Bool.{true};
 ghost use Rattle.figures.specs.Figures.{every};
 ghost use Rattle.scales.specs.Metres.{land, sea, base, visibility, runway, cloud};
-ghost use Rattle.seen_values.specs.Seen.{seenOn, ifFoot, classBy, isLow};
+ghost use Rattle.seen_values.specs.Seen.{seenOn};
+ghost use Rattle.seen_values.specs.Steps.{ifFoot, classBy, isUpTo99999};
 
 // The class that begins at a foot: with a foot below one of the limits, and not below those before it, a class goes up to the span above its foot;
 // the class that begins at the last limit is open above.
 fn class_by(foot: u32, limits: &[u32], spans: &[u32]) -> Seen
-    requires { ⌜ every isLow (now limits) ≡ true ⌝ }
-    requires { ⌜ every isLow (now spans) ≡ true ⌝ }
+    requires { ⌜ every isUpTo99999 (now limits) ≡ true ⌝ }
+    requires { ⌜ every isUpTo99999 (now spans) ≡ true ⌝ }
     ensures { λ r. ⌜ r ≡ classBy (now (limits .entry)) (now (spans .entry)) foot ⌝ }
 {
     let mut i = 0;

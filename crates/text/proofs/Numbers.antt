@@ -11,7 +11,7 @@ use Rattle.text.specs.declared.kinds.Verdict.the-variants as verdict
 use Rattle.text.specs.declared.kinds.Written.{Written}
 use Rattle.text.specs.declared.kinds.Written.the-variants as answer
 use Rattle.text.specs.Refusals.{numberOf}
-use Rattle.text.specs.Numbers.{Numbers, verdictNumbers, writtenNumbers}
+use Rattle.text.specs.Numbers.{AnswerNumbers, verdictNumbers, writtenNumbers}
 
 -- the refusals in the order of their numbers, 0 being none
 pub data Numbered : Type 0 where
@@ -65,7 +65,7 @@ written-back (answer.Count n) = refl
 written-back (answer.Refused f) = rw (by-number f)
 
 pub verdict-told : (v w : Verdict) → verdictNumbers v ≡ verdictNumbers w → v ≡ w
-verdict-told v w e = sym (verdict-back v) ∙ ap (λ (n : Numbers). verdictOf (numbered (n .refusal)) (n .value)) e ∙ verdict-back w
+verdict-told v w e = sym (verdict-back v) ∙ ap (λ (n : AnswerNumbers). verdictOf (numbered (n .refusal)) (n .value)) e ∙ verdict-back w
 
 pub written-told : (v w : Written) → writtenNumbers v ≡ writtenNumbers w → v ≡ w
-written-told v w e = sym (written-back v) ∙ ap (λ (n : Numbers). writtenBy (numbered (n .refusal)) (n .value)) e ∙ written-back w
+written-told v w e = sym (written-back v) ∙ ap (λ (n : AnswerNumbers). writtenBy (numbered (n .refusal)) (n .value)) e ∙ written-back w

@@ -8,16 +8,16 @@ use Rattle.text.specs.declared.kinds.Written.the-variants as answer
 use Rattle.text.specs.Refusals.{numberOf}
 
 -- the refusal's number, 0 where nothing is refused; and what goes with it
-pub record Numbers : Type 0 where
+pub record AnswerNumbers : Type 0 where
   pub refusal : ℕ
   pub value : ℕ
 
 -- of a text: where the unread rest begins, or the place of the fault
-abbrev pub verdictNumbers : Verdict → Numbers
+abbrev pub verdictNumbers : Verdict → AnswerNumbers
 verdictNumbers (verdict.Accepted rest) = record { refusal = 0; value = rest }
 verdictNumbers (verdict.Refused f at) = record { refusal = numberOf f; value = at }
 
 -- of a record: the count of bytes written, which is 0 where it is refused
-abbrev pub writtenNumbers : Written → Numbers
+abbrev pub writtenNumbers : Written → AnswerNumbers
 writtenNumbers (answer.Count n) = record { refusal = 0; value = n }
 writtenNumbers (answer.Refused f) = record { refusal = numberOf f; value = 0 }

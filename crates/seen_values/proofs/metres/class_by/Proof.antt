@@ -7,7 +7,7 @@ use mathlib.Core.Bool.{and-eq-true-iff}
 use lib.ListN.{length, drop}
 use borrow.Author.Needs.{needs}
 use borrow.Author.Tests.{ltb-true, lt-ltb, le-ltb}
-use Rattle.seen_values.specs.Seen.{classBy}
+use Rattle.seen_values.specs.Steps.{classBy}
 use Rattle.seen_values.proofs.Classes.{here, over, low-at}
 use Rattle.seen_values.proofs.metres.class_by.Statement.{statement}
 use Rattle.seen_values.proofs.metres.class_by.Tie as tie
