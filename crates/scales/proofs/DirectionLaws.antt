@@ -2,12 +2,16 @@
 -- Assumes nothing.
 use mathlib.Core.Path.{_≡_, refl, sym, ap, _∙_}
 use mathlib.Core.Bool.{Bool, true, false, cond, _&&_}
+use mathlib.Core.List.{[], _∷_, _++_}
 use mathlib.Core.Logic.{_⊎_, inl, inr, ⊎-elim}
 use Prim.Native.Nat.{ℕ, _+_, _-_, _*_, _/_, _%_, _≤_, _<_}
 use native.Mathlib.Omega.{arith}
 use lib.Dec.{leb, eqb}
 use borrow.Author.Tests.{lt-ltb, le-ltb, le-leb, lt-leb, eq-eqb, ne-eqb, eqb-true}
+use Rattle.figures.specs.Figures.{figures, numberText, fieldText}
+use Rattle.figures.specs.declared.kinds.Field.the-variants as field
 use Rattle.figures.proofs.Impossible.{impossible}
+use Rattle.scales.specs.Fields.{fieldBy}
 use Rattle.scales.specs.Rounded.{directionFigure, directionReading, roundedDirection, dddFigure, dddReading}
 use Rattle.scales.specs.declared.kinds.Figure.the-variants as figure
 use Rattle.scales.specs.declared.kinds.Reading.the-variants as reading
@@ -146,3 +150,32 @@ module _ (d : ℕ) (h : d ≤ 359) where
 
   pub ddd-again : dddFigure (roundedDirection d) ≡ dddFigure d
   ddd-again = let w = direction-written d h in rw (w .1, direction-rounds .again d (w .0) (w .1))
+
+-- ---- as text
+
+-- a figure that is written is at most 36
+pub figure-most : (d f : ℕ) → directionFigure d ≡ figure.Is f → f ≤ 36
+figure-most d f e =
+    ⊎-elim
+    (λ h. let i : figure.OutOfRange ≡ directionFigure d = none-written d h in impossible (cc))
+    (λ h.
+    let w = direction-written d (omega arith) in
+    let i : directionFigure d ≡ figure.Is (w .0) = w .1 in
+    let j : w .0 ≡ f = cc in
+    omega (arith, w .3))
+    (reached 360 d)
+
+-- the two figures of a number below a hundred
+pub two-figures : (f : ℕ) → f < 100 → ((48 + f / 10) ∷ (48 + f % 10) ∷ []) ≡ fieldText 2 (field.Number f)
+unfolding fieldText numberText figures
+two-figures f h = let e : f / 10 % 10 ≡ f / 10 = omega arith in rw e refl
+
+-- ddd is dd with a zero after it
+pub three-figures : (d : ℕ) → d ≤ 359 → figures 3 (dddFigure d) ≡ fieldText 2 (fieldBy (directionFigure d)) ++ (48 ∷ [])
+unfolding fieldText numberText figures
+three-figures d h =
+    let w = direction-written d h in
+    let f = w .0 in
+    let tens : f * 10 / 10 ≡ f = omega arith in
+    let zero : f * 10 % 10 ≡ 0 = omega arith in
+    rw (w .1, tens, zero) refl

@@ -7,6 +7,12 @@ pub enum Figure {
     OutOfRange,
 }
 
+// The figure of a value as two bytes of text, tens first.
+pub enum TwoFigures {
+    Are { tens: u8, units: u8 },
+    OutOfRange,
+}
+
 // The reading of a figure in metres, degrees or tenths of hPa: the foot of its class.
 pub enum Reading {
     Is(u32),
