@@ -2,6 +2,7 @@
 //! texts. Standard input has valid reports, a line of hexadecimal bytes each; the argument is the
 //! number of rounds. Before a text is timed, both sides must give the same answer to it.
 //! Three sides are timed: the library's reader of any kind, the kind's own reader, the decoder.
+//! Cloud heights are timed apart, by the library's rule and by its table.
 
 use std::hint::black_box;
 use std::io::Read;
@@ -254,6 +255,11 @@ fn time(side: Side, texts: &Texts, writes: bool) -> f64 {
     took as f64 / count as f64
 }
 
+fn median(mut times: Vec<f64>) -> f64 {
+    times.sort_by(f64::total_cmp);
+    times[times.len() / 2]
+}
+
 /// The longest name of a row.
 const NAME_WIDTH: usize = "METAR with a trend, first group bad".len();
 
@@ -286,10 +292,7 @@ impl Row {
     }
 
     fn medians(&self) -> [f64; 3] {
-        self.times.clone().map(|mut times| {
-            times.sort_by(f64::total_cmp);
-            times[times.len() / 2]
-        })
+        self.times.clone().map(median)
     }
 
     fn print(&self) {
@@ -418,6 +421,95 @@ fn print_stacks(valid: &[Texts]) {
     print_stack("TAF, 16 changes", &with_changes(16));
 }
 
+// ---------------------------------------------------------------------------------------------
+// Cloud heights
+// ---------------------------------------------------------------------------------------------
+
+/// A call of the crate `bench_calls`: codes of table 1690 and the room for their heights.
+type Heights = unsafe extern "C" fn(*const u32, usize, *mut u32, usize) -> usize;
+
+extern "C" {
+    fn delgushar_heights_by_rule(c: *const u32, n: usize, h: *mut u32, m: usize) -> usize;
+    fn delgushar_heights_by_table(c: *const u32, n: usize, h: *mut u32, m: usize) -> usize;
+}
+
+const BY_RULE_AND_TABLE: [Heights; 2] = [delgushar_heights_by_rule, delgushar_heights_by_table];
+
+/// How many codes are asked at a time, which is also how many there are.
+const CODES: usize = 1000;
+
+fn fill(call: Heights, codes: &[u32; CODES], heights: &mut [u32; CODES]) {
+    // The library keeps to the two slices: that is proved of it.
+    let count = unsafe { call(codes.as_ptr(), CODES, heights.as_mut_ptr(), CODES) };
+    assert_eq!(count, CODES);
+}
+
+/// A thousand codes, and for the rule and the table the times of the rounds.
+struct CodesRow {
+    name: &'static str,
+    codes: [u32; CODES],
+    times: [Vec<f64>; 2],
+}
+
+impl CodesRow {
+    fn new(name: &'static str, codes: [u32; CODES]) -> CodesRow {
+        let [mut by_rule, mut by_table] = [[0; CODES]; 2];
+        fill(delgushar_heights_by_rule, &codes, &mut by_rule);
+        fill(delgushar_heights_by_table, &codes, &mut by_table);
+        assert_eq!(by_rule, by_table, "{name}");
+        let times = Default::default();
+        CodesRow { name, codes, times }
+    }
+
+    fn run(&mut self, round: usize) {
+        for turn in 0..BY_RULE_AND_TABLE.len() {
+            let side = (round + turn) % BY_RULE_AND_TABLE.len();
+            let mut heights = [0; CODES];
+            let (begun, mut took, mut count) = (nanoseconds(), 0, 0);
+            while took < SHORTEST {
+                fill(BY_RULE_AND_TABLE[side], black_box(&self.codes), &mut heights);
+                black_box(&heights);
+                count += 1;
+                took = nanoseconds() - begun;
+            }
+            self.times[side].push(took as f64 / count as f64);
+        }
+    }
+
+    fn print(&self) {
+        let [rule, table] = self.times.clone().map(median);
+        print!("| {:<NAME_WIDTH$} | {rule:>7.0} | {table:>8.0} ", self.name);
+        println!("| {:>12.2} |", rule / table);
+    }
+}
+
+/// The codes 000 to 999 in a fixed shuffled order.
+fn mixed_codes() -> [u32; CODES] {
+    let mut codes: [u32; CODES] = std::array::from_fn(|code| code as u32);
+    let mut state = 1u32;
+    for at in (1..CODES).rev() {
+        state = state.wrapping_mul(1_664_525).wrapping_add(1_013_904_223);
+        codes.swap(at, (state >> 16) as usize % (at + 1));
+    }
+    codes
+}
+
+fn codes_rows() -> [CodesRow; 3] {
+    let mixed = mixed_codes();
+    [
+        CodesRow::new("codes 000 to 999 in order", std::array::from_fn(|code| code as u32)),
+        CodesRow::new("codes 000 to 999, mixed", mixed),
+        CodesRow::new("codes 000 to 099, mixed", mixed.map(|code| code % 100)),
+    ]
+}
+
+fn print_heights(rows: &[CodesRow]) {
+    print!("\n| {:<NAME_WIDTH$} ", "nanoseconds for 1,000 cloud heights");
+    println!("| by rule | by table | rule / table |");
+    println!("|{}|--:|--:|--:|", "-".repeat(NAME_WIDTH + 2));
+    rows.iter().for_each(CodesRow::print);
+}
+
 /// Runs a call so many frames deeper. A time may depend on where the stack stands, so that the
 /// rounds take different places.
 #[inline(never)]
@@ -441,8 +533,12 @@ fn main() {
     let mut rows = valid_rows(&valid);
     rows.extend(refused_rows(&valid));
     rows.extend(growth_rows());
+    let mut heights = codes_rows();
     for round in 0..rounds {
         for row in &mut rows {
+            deeper(round, &mut || row.run(round));
+        }
+        for row in &mut heights {
             deeper(round, &mut || row.run(round));
         }
     }
@@ -451,5 +547,6 @@ fn main() {
     print!("{count} reports of each kind, {trends} of the METARs with a trend, ");
     println!("the median of {rounds} rounds.");
     print_times(&rows);
+    print_heights(&heights);
     print_stacks(&valid);
 }

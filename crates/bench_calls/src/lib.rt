@@ -1,6 +1,8 @@
-// The calls that `tests/bench` times from Rust: the reader of every kind, and each kind's own. Every call reads the text, and then either says the
-// verdict or writes the record that was read. Which of the two is known only at run time, so that no call is compiled without making its record.
+// The calls that `tests/bench` times from Rust: the reader of every kind, and each kind's own, and cloud heights by the rule and by the table. Every
+// call of a reader reads the text, and then either says the verdict or writes the record that was read. Which of the two is known only at run time, so
+// that no call is compiled without making its record.
 use report_record::kinds::Name;
+use scales::kinds::Reading;
 use text::kinds::Refusal;
 use text::kinds::Verdict;
 use text::kinds::Written;
@@ -115,4 +117,29 @@ pub extern "C" fn delgushar_taf(
     }
     let verdict = reading.verdict;
     say_verdict(verdict, number)
+}
+
+// ---- cloud heights
+
+// One code by the rule, answered as the table answers it.
+fn height_by_rule(code: u32) -> u32 {
+    match scales::metres::cloud_reading(code) {
+        Reading::Is(height) => height,
+        Reading::Unused => cloud_table::UNUSED,
+    }
+}
+
+#[no_mangle]
+pub extern "C" fn delgushar_heights_by_rule(codes: &[u32], heights: &mut [u32]) -> usize {
+    let mut i = 0;
+    while (i < codes.len()) & (i < heights.len()) {
+        heights[i] = height_by_rule(codes[i]);
+        i += 1;
+    }
+    i
+}
+
+#[no_mangle]
+pub extern "C" fn delgushar_heights_by_table(codes: &[u32], heights: &mut [u32]) -> usize {
+    cloud_table::cloud_heights(codes, heights)
 }
