@@ -196,10 +196,25 @@ pub struct Elements {
 /// A wind; flow is None in the form of slashes and a unit.
 #[derive(Debug, Clone, Copy, PartialEq)]
 pub struct Wind {
-    pub flow: Option<(Direction, u32)>,
-    pub gust: Option<u32>,
+    pub flow: Option<(Direction, Speed)>,
+    pub gust: Option<Speed>,
+    pub unit: Unit,
+}
+
+/// "either a number or "above" a number" (request 8); that of a SYNOP or SHIP is always a number.
+#[derive(Debug, Clone, Copy, PartialEq)]
+pub enum Speed {
+    Number(u32),
+    Above(u32),
+}
+
+/// A unit of speed.
+#[derive(Debug, Clone, Copy, PartialEq)]
+pub struct Unit {
     /// KT, MPS or KMH.
-    pub unit: &'static str,
+    pub letters: &'static str,
+    /// The highest number that is written; a speed above it is P and this figure (request 8).
+    pub highest: u32,
 }
 
 #[derive(Debug, Clone, Copy, PartialEq)]
@@ -448,24 +463,34 @@ fn take_letter<'a>(bytes: &'a [u8], letters: &[u8]) -> (Option<u8>, &'a [u8]) {
     }
 }
 
-const UNITS: [&str; 3] = ["KT", "MPS", "KMH"];
+const fn unit(letters: &'static str, highest: u32) -> Unit {
+    Unit { letters, highest }
+}
+
+/// "P99KT, P49MPS and P199KMH".
+const KNOTS: Unit = unit("KT", 99);
+const METRES_A_SECOND: Unit = unit("MPS", 49);
+const KILOMETRES_AN_HOUR: Unit = unit("KMH", 199);
+const UNITS: [Unit; 3] = [KNOTS, METRES_A_SECOND, KILOMETRES_AN_HOUR];
 
 struct WindParts<'a> {
     direction: &'a [u8],
     speed: &'a [u8],
     gust: Option<&'a [u8]>,
-    unit: &'static str,
+    unit: Unit,
 }
 
-/// Two or three figures of speed are the shape, of the gust too (ruling 32).
+/// Two or three figures of speed are the shape, of the gust too (ruling 32), and so they are
+/// after P (ruling 8.2).
 fn is_speed(bytes: &[u8]) -> bool {
-    (bytes.len() == 2 || bytes.len() == 3) && all_figures(bytes)
+    let (_, figures) = take_letter(bytes, b"P");
+    (figures.len() == 2 || figures.len() == 3) && all_figures(figures)
 }
 
 fn split_wind(group: &[u8]) -> Option<WindParts<'_>> {
     let mut units = UNITS.iter().copied();
-    let unit = units.find(|unit| group.ends_with(unit.as_bytes()))?;
-    let front = &group[..group.len() - unit.len()];
+    let unit = units.find(|unit| group.ends_with(unit.letters.as_bytes()))?;
+    let front = &group[..group.len() - unit.letters.len()];
     let (mean, gust) = match front.iter().position(|&byte| byte == b'G') {
         Some(at) => (&front[..at], Some(&front[at + 1..])),
         None => (front, None),
@@ -1192,13 +1217,13 @@ fn read_cover_and_wind(group: &[u8]) -> Result<CoverAndWind, u8> {
         99 => Direction::Variable,
         _ => return Err(5),
     };
-    agree_on_calm(direction, speed)?;
+    agree_on_calm(direction, speed == 0)?;
     Ok((cover, Some((direction, speed))))
 }
 
 /// "A zero speed with dd not 00, or the reverse, is 7"; of the aerodrome's wind likewise.
-fn agree_on_calm(direction: Direction, speed: u32) -> Result<(), u8> {
-    if (direction == Direction::Calm) == (speed == 0) {
+fn agree_on_calm(direction: Direction, zero_speed: bool) -> Result<(), u8> {
+    if (direction == Direction::Calm) == zero_speed {
         Ok(())
     } else {
         Err(7)
@@ -1384,7 +1409,7 @@ fn take_element(
 }
 
 /// Wind: "ddd 010-360 by tens or VRB, two speed figures below 100 and three for 100-199, G and
-/// gust, KT, MPS or KMH; 00000 calm".
+/// gust, KT, MPS or KMH; 00000 calm". Whatever is 5 goes before what is 7 (ruling 8.7).
 fn read_wind(setting: &Setting, group: &[u8]) -> Result<Wind, u8> {
     let parts = split_wind(group).ok_or(4)?;
     let unit = parts.unit;
@@ -1402,18 +1427,35 @@ fn read_wind(setting: &Setting, group: &[u8]) -> Result<Wind, u8> {
         b"000" => Direction::Calm,
         figures => Direction::Degrees(read_direction(figures)?),
     };
-    let speed = read_speed(parts.speed)?;
-    let gust = parts.gust.map(read_speed).transpose()?;
-    agree_on_calm(direction, speed)?;
-    // "A gust not above the mean or with calm" is 7.
-    if gust.is_some_and(|gust| gust <= speed || direction == Direction::Calm) {
-        return Err(7);
+    let speed = read_speed(unit, parts.speed)?;
+    let gust = parts.gust.map(|gust| read_speed(unit, gust)).transpose()?;
+    agree_on_calm(direction, speed == Speed::Number(0))?;
+    if let Some(gust) = gust {
+        agree_on_gust(speed, gust)?;
     }
     Ok(Wind {
         flow: Some((direction, speed)),
         gust,
         unit,
     })
+}
+
+/// "A gust not above the mean or with calm" is 7. "A gust P may stand over any mean but calm",
+/// also over a number above P's figure (ruling 8.6); "a gust number beside a mean P is 7",
+/// however high it is (ruling 8.5).
+fn agree_on_gust(mean: Speed, gust: Speed) -> Result<(), u8> {
+    let right = match (mean, gust) {
+        // Calm, as the mean agrees with its direction.
+        (Speed::Number(0), _) => false,
+        (_, Speed::Above(_)) => true,
+        (Speed::Above(_), Speed::Number(_)) => false,
+        (Speed::Number(mean), Speed::Number(gust)) => gust > mean,
+    };
+    if right {
+        Ok(())
+    } else {
+        Err(7)
+    }
 }
 
 /// "010-360 by tens"; 360 is read as 0.
@@ -1425,8 +1467,20 @@ fn read_direction(bytes: &[u8]) -> Result<u32, u8> {
     Ok(degrees % 360)
 }
 
-/// "two speed figures below 100 and three for 100-199"; the wrong width is 5 (ruling 32).
-fn read_speed(bytes: &[u8]) -> Result<u32, u8> {
+/// A number, or P and the unit's own figure: "P with another figure is 5".
+fn read_speed(unit: Unit, bytes: &[u8]) -> Result<Speed, u8> {
+    let (above, figures) = take_letter(bytes, b"P");
+    let number = read_speed_figures(figures)?;
+    match above {
+        None => Ok(Speed::Number(number)),
+        Some(_) if number == unit.highest => Ok(Speed::Above(number)),
+        Some(_) => Err(5),
+    }
+}
+
+/// "two speed figures below 100 and three for 100-199", "still" so in each unit (ruling 8.3);
+/// the wrong width is 5 (ruling 32), after P too (ruling 8.2).
+fn read_speed_figures(bytes: &[u8]) -> Result<u32, u8> {
     match bytes.len() {
         2 => within(bytes, 0, 99),
         _ => within(bytes, 100, 199),
@@ -2070,17 +2124,29 @@ fn write_trend(groups: &mut Vec<String>, trend: &Trend) {
 }
 
 fn write_wind(wind: &Wind) -> String {
-    let gust = wind
-        .gust
-        .map_or(String::new(), |gust| format!("G{gust:02}"));
     let unit = wind.unit;
-    match wind.flow {
-        None => format!("/////{unit}"),
-        Some((Direction::Calm, speed)) => format!("000{speed:02}{gust}{unit}"),
-        Some((Direction::Variable, speed)) => format!("VRB{speed:02}{gust}{unit}"),
-        Some((Direction::Degrees(degrees), speed)) => {
-            format!("{:02}0{speed:02}{gust}{unit}", tens_of(degrees))
-        }
+    let Some((direction, speed)) = wind.flow else {
+        return format!("/////{}", unit.letters);
+    };
+    let direction = match direction {
+        Direction::Calm => "000".to_string(),
+        Direction::Variable => "VRB".to_string(),
+        Direction::Degrees(degrees) => format!("{:02}0", tens_of(degrees)),
+    };
+    let speed = write_speed(unit, speed);
+    let gust = wind.gust.map_or(String::new(), |gust| {
+        format!("G{}", write_speed(unit, gust))
+    });
+    format!("{direction}{speed}{gust}{}", unit.letters)
+}
+
+/// "The writer uses P for 100 knots, 50 m/s, 200 km/h and more", also for what the reader took
+/// as two figures (ruling 8.1).
+fn write_speed(unit: Unit, speed: Speed) -> String {
+    match speed {
+        Speed::Number(number) if number <= unit.highest => format!("{number:02}"),
+        Speed::Number(_) => format!("P{}", unit.highest),
+        Speed::Above(figure) => format!("P{figure}"),
     }
 }
 
@@ -2310,6 +2376,18 @@ mod tests {
         let rain = [9, 10, 9885, 9884, 99_999].map(|tenths| rain_code(Rain::Tenths(tenths)));
         assert_eq!(rain, [999, 1, 989, 988, 989]);
         assert_eq!(rain_code(Rain::Trace), 990);
+    }
+
+    /// In km/h "a record may now be 0 to 999", of which the reader gives 0 to 199.
+    #[test]
+    fn speeds_above_the_highest_number() {
+        let written = |unit, numbers: [u32; 3]| {
+            numbers.map(|number| write_speed(unit, Speed::Number(number)))
+        };
+        assert_eq!(written(KNOTS, [99, 100, 199]), ["99", "P99", "P99"]);
+        assert_eq!(written(METRES_A_SECOND, [9, 49, 50]), ["09", "49", "P49"]);
+        let kilometres = written(KILOMETRES_AN_HOUR, [199, 200, 999]);
+        assert_eq!(kilometres, ["199", "P199", "P199"]);
     }
 
     #[test]

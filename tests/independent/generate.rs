@@ -92,12 +92,18 @@ fn valid_groups(random: &mut Random, kind: usize) -> Vec<String> {
         2 => Extent::Longest,
         _ => Extent::Usual,
     };
-    match NAMES[kind] {
+    let mut groups = match NAMES[kind] {
         "AAXX" => land_groups(random, extent),
         "BBXX" => ship_groups(random, extent),
         "TAF" => forecast_groups(random, extent),
         name => observation_groups(random, extent, name),
+    };
+    // Not in each of the longest reports: they have so many winds that P would be no rarity.
+    let aerodrome = kind >= 2;
+    if aerodrome && extent == Extent::Longest && random.one_in(16) {
+        raise_winds(&mut groups);
     }
+    groups
 }
 
 // ---------------------------------------------------------------------------------------------
@@ -283,10 +289,17 @@ fn direction_figures(random: &mut Random) -> String {
     format!("{:03}", random.within(1, 36) * 10)
 }
 
+const UNITS: [&str; 3] = ["KT", "MPS", "KMH"];
+
+/// Whether a group of METAR, SPECI or TAF is a wind; CCCC may end in KT too, but is shorter.
+fn is_wind(group: &str) -> bool {
+    group.len() >= 7 && UNITS.iter().any(|unit| group.ends_with(unit))
+}
+
 fn wind_group(random: &mut Random, extent: Extent, forecast: bool) -> String {
     let unit = match extent {
         Extent::Longest => random.pick(&["MPS", "KMH"]),
-        _ => random.pick(&["KT", "MPS", "KMH"]),
+        _ => random.pick(&UNITS),
     };
     let choice = random.below(8);
     if extent != Extent::Longest && choice == 0 {
@@ -299,15 +312,47 @@ fn wind_group(random: &mut Random, extent: Extent, forecast: bool) -> String {
         2 => "VRB".to_string(),
         _ => direction_figures(random),
     };
+    // P is rare, as such winds are.
+    let speeds = match extent == Extent::Usual && random.one_in(20) {
+        true => speeds_with_p(random, unit),
+        false => speeds_in_figures(random, extent),
+    };
+    format!("{}{}{}", direction, speeds, unit)
+}
+
+/// A mean, and perhaps a gust above it.
+fn speeds_in_figures(random: &mut Random, extent: Extent) -> String {
     let speed = match extent {
         Extent::Longest => random.within(100, 198),
-        _ => random.pick(&[1, 2, 9, 10, 50, 98, 99, 100, 101, 150, 198]),
+        _ => random.pick(&[1, 2, 9, 10, 49, 50, 98, 99, 100, 101, 150, 198]),
     };
     let gust = match extent.holds(random) {
         true => format!("G{:02}", random.within(speed + 1, 199)),
         false => String::new(),
     };
-    format!("{}{:02}{}{}", direction, speed, gust, unit)
+    format!("{:02}{}", speed, gust)
+}
+
+/// P for the mean, for mean and gust, or for a gust over any mean but calm.
+fn speeds_with_p(random: &mut Random, unit: &str) -> String {
+    let above = match unit {
+        "KT" => "P99",
+        "MPS" => "P49",
+        _ => "P199",
+    };
+    match random.below(4) {
+        0 => above.to_string(),
+        1 => format!("{}G{}", above, above),
+        _ => format!("{}G{}", random.figures(1, 199, 2), above),
+    }
+}
+
+/// Makes each wind of a longest report the longest that there is.
+fn raise_winds(groups: &mut [String]) {
+    for group in groups.iter_mut().filter(|group| is_wind(group)) {
+        let direction = &group[..3];
+        *group = format!("{}P199GP199KMH", direction);
+    }
 }
 
 fn visibility_group(random: &mut Random, forecast: bool) -> String {
@@ -761,7 +806,11 @@ fn damaged(random: &mut Random, kind: usize) -> Vec<u8> {
 /// One group changed, dropped, doubled, swapped, moved or put in.
 fn damage_groups(random: &mut Random, kind: usize, groups: &mut Vec<String>) {
     let first = usize::from(!random.one_in(12)).min(groups.len() - 1);
-    let at = first + random.below(groups.len() - first);
+    let at = match wind_place(random, groups) {
+        // A wind has more ways to be wrong than other groups.
+        Some(place) if random.one_in(8) => place,
+        _ => first + random.below(groups.len() - first),
+    };
     let other = first + random.below(groups.len() - first);
     match random.below(24) {
         0 | 1 => groups[at] = shaped_group(random, kind),
@@ -792,6 +841,14 @@ fn damage_groups(random: &mut Random, kind: usize, groups: &mut Vec<String>) {
             }
         }
     }
+}
+
+/// The place of one of the winds, where there are any.
+fn wind_place(random: &mut Random, groups: &[String]) -> Option<usize> {
+    let places: Vec<usize> = (0..groups.len())
+        .filter(|&at| is_wind(&groups[at]))
+        .collect();
+    (!places.is_empty()).then(|| random.pick(&places))
 }
 
 /// One thing wrong about the trend, which a report without one gets first.
@@ -937,9 +994,8 @@ fn section_misses(figure: u8) -> &'static [&'static str] {
 /// Near misses of a group of METAR, SPECI or TAF by its look.
 fn aerodrome_misses(group: &str) -> &'static [&'static str] {
     let starts = |words: &[&str]| words.iter().any(|word| group.starts_with(word));
-    let ends = |words: &[&str]| words.iter().any(|word| group.ends_with(word));
     let middle = group.as_bytes().get(group.len() / 2);
-    if ends(&["KT", "MPS", "KMH"]) {
+    if is_wind(group) {
         &WIND_MISSES
     } else if group.len() == 7 && group.ends_with('Z') {
         &[
@@ -976,13 +1032,15 @@ fn aerodrome_misses(group: &str) -> &'static [&'static str] {
     }
 }
 
-const WIND_MISSES: [&str; 21] = [
+const WIND_MISSES: [&str; 47] = [
     "36510KT",
     "37010KT",
     "00510KT",
     "270050KT",
     "270099KT",
     "270200KT",
+    "270200KMH",
+    "27010G999KMH",
     "27010G009KT",
     "27010G200KT",
     "VRB200KT",
@@ -998,6 +1056,30 @@ const WIND_MISSES: [&str; 21] = [
     "00000G05MPS",
     "VRB00KMH",
     "00010KT",
+    "270P98KT",
+    "270P50MPS",
+    "270P198KMH",
+    "270P99MPS",
+    "270P99KMH",
+    "270P199KT",
+    "VRBP100KT",
+    "270P099KT",
+    "270P049MPS",
+    "270P9KT",
+    "270P1999KMH",
+    "270P//KT",
+    "270P9/KT",
+    "270PKT",
+    "270PP99KT",
+    "27P99KT",
+    "P99KT",
+    "///P99KT",
+    "/////GP99KT",
+    "370P99KT",
+    "000P98KT",
+    "27010GP98KT",
+    "270P99GP49KT",
+    "270P99G//KT",
 ];
 const PERIOD_MISSES: [&str; 9] = [
     "0012/0112",
@@ -1055,18 +1137,30 @@ const WEATHER_MISSES: [&str; 50] = [
     "TSSHRA", "UP", "-UP", "RAUP", "//", "NSW",
 ];
 
+/// Winds of which each part is right, and which do not agree.
+const WIND_DISAGREEMENTS: [&str; 17] = [
+    "00005KT",
+    "27000KT",
+    "VRB00MPS",
+    "27010G10KT",
+    "00000G05KT",
+    "100150G120KMH",
+    "000150KT",
+    "27060G50MPS",
+    "270P99G50KT",
+    "VRBP99G150KT",
+    "270P49G60MPS",
+    "270P199G199KMH",
+    "00000GP99KT",
+    "27000GP49MPS",
+    "VRB00GP99KT",
+    "000P99KT",
+    "000P199GP199KMH",
+];
+
 /// A right group put where it does not agree with the others, as far as its look tells.
 fn disagree(random: &mut Random, at: usize, groups: &mut Vec<String>) {
     let group = groups[at].clone();
-    let winds = [
-        "00005KT",
-        "27000KT",
-        "VRB00MPS",
-        "27010G10KT",
-        "00000G05KT",
-        "100150G120KMH",
-        "000150KT",
-    ];
     let skies = ["SKC", "NSC", "NCD", "VV000", "FEW000", "OVC999"];
     let weathers = ["NSW", "UP", "RAUP", "RA", "FG", "-DZ", "TS"];
     if groups[0] == "AAXX" || groups[0] == "BBXX" {
@@ -1079,8 +1173,8 @@ fn disagree(random: &mut Random, at: usize, groups: &mut Vec<String>) {
             (5, 1) => groups[at] = random.pick(&late).to_string(),
             _ => groups.insert(at, random.pick(&late).to_string()),
         }
-    } else if group.ends_with("KT") || group.ends_with("MPS") || group.ends_with("KMH") {
-        groups[at] = random.pick(&winds).to_string();
+    } else if is_wind(&group) {
+        groups[at] = random.pick(&WIND_DISAGREEMENTS).to_string();
     } else if group.len() == 7 && group.as_bytes()[3] == b'V' {
         groups[at] = random.pick(&["360V360", "010V010", "000V000"]).to_string();
     } else if group.len() == 4 && group.as_bytes()[0].is_ascii_digit() {
@@ -1186,7 +1280,7 @@ const SYNOPTIC_SHAPES: [&str; 22] = [
 ];
 
 /// The shapes of METAR, SPECI and TAF: # is a figure or slash, @ a letter.
-const AERODROME_SHAPES: [&str; 34] = [
+const AERODROME_SHAPES: [&str; 39] = [
     "######Z",
     "####/####",
     "###V###",
@@ -1208,6 +1302,11 @@ const AERODROME_SHAPES: [&str; 34] = [
     "VRB##KMH",
     "VRB##G##KT",
     "###P##KT",
+    "###P###KMH",
+    "VRBP##MPS",
+    "VRBP99G##KT",
+    "VRB##GP99KT",
+    "##0P199GP###KMH",
     "R##/####",
     "R##@/####",
     "R##L/P####U",

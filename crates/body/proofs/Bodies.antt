@@ -31,6 +31,7 @@ use Rattle.elements.specs.Weather.{weatherCover, hasWeather}
 use Rattle.elements.specs.Sky.{judgeSky, classSky}
 use Rattle.elements.specs.Body.{Terms, leftOut, windPlace, visibilityPlace, isNsw, hasWeatherOrNsw, withNsw, bodyRow, unlessAbsent, windJudged, visibilityJudged, weatherJudged, skyJudged, judgeBody, hasElement, classBody}
 use Rattle.elements.proofs.Classed.{cavok-classed, view-classed, cover-classed}
+use Rattle.wind.proofs.SpeedLaws.{missing-classed}
 use Rattle.wind.proofs.RoundTripWind.{wind-covered, wind-again, wind-classed}
 use Rattle.wind.proofs.RoundTripVisibility.{visibility-again, visibility-classed}
 use Rattle.weather.proofs.Covers.{weather-covered}
@@ -66,7 +67,7 @@ body-covered t = (wind-covered, ((λ g h. h), (weather-or-nsw-covered, (sky-cove
 
 -- the bytes that a group may have at each place
 abbrev pub bodySizes : List ℕ
-bodySizes = 13 ∷ 5 ∷ 9 ∷ 9 ∷ []
+bodySizes = 15 ∷ 5 ∷ 9 ∷ 9 ∷ []
 
 -- THE ROW KEEPS WHAT IS WRITTEN OF A BODY.
 pub kept-body : (t : Terms) → Live t → (b : Body) → BodyArrays b → FairBody t b → KeptRow bodySizes (bodyRow t) b blankBody
@@ -85,7 +86,7 @@ direction-classed direction.Variable = refl
 direction-classed (direction.Degrees d) = refl
 
 blank-classed : (x : Wind) → isBlankWind (classWind x) ≡ isBlankWind x
-blank-classed x = rw (direction-classed (x .direction))
+blank-classed x = rw (direction-classed (x .direction), missing-classed (x .unit) (x .speed), missing-classed (x .unit) (x .gust))
 
 pub fine-anyway : (c : Bool) (j : Judged) → j ≡ judged.Fine → cond c judged.Fine j ≡ judged.Fine
 fine-anyway true j e = refl

@@ -85,7 +85,7 @@ absent-free t j e wrong = go (t .required) refl
 
 -- ---- the room of a group
 
-wind-measured : measured 13 (spellings (partsOf windShape)) ≡ true
+wind-measured : measured 15 (spellings (partsOf windShape)) ≡ true
 unfolding low high leading split partsOf spellings
 wind-measured = refl
 
@@ -119,10 +119,10 @@ set-sky : (x : Sky) (acc : Body) → acc .sky ≡ x → setSky x acc ≡ acc
 set-sky x acc e = rw (← e)
 
 module _ (t : Terms) (l : Live t) (b acc : Body) where
-  pub kept-wind : acc .wind ≡ blankWind → windJudged t b ≡ judged.Fine → Kept (windPlace t) 13 b acc
+  pub kept-wind : acc .wind ≡ blankWind → windJudged t b ≡ judged.Fine → Kept (windPlace t) 15 b acc
   kept-wind bare e = go (leftOut t (isBlankWind (b .wind))) refl
     where
-      go : (o : Bool) → leftOut t (isBlankWind (b .wind)) ≡ o → Kept (windPlace t) 13 b acc
+      go : (o : Bool) → leftOut t (isBlankWind (b .wind)) ≡ o → Kept (windPlace t) 15 b acc
       go true o =
           let (f, z) = left-out t l (isBlankWind (b .wind)) o in
           let is = wind-blank (b .wind) z in
@@ -131,7 +131,7 @@ module _ (t : Terms) (l : Live t) (b acc : Body) where
       go false o =
           let j = stands-judged t l (isBlankWind (b .wind)) (judgeWind (t .forecast) (b .wind)) o e in
           let s = wind-shaped (t .forecast) (b .wind) j in
-          keep-one (showWind (b .wind)) (rw o) (s .0) (s .1) (sized-any 13 (spellings (partsOf windShape)) (showWind (b .wind)) wind-measured (s .1)) (omega arith)
+          keep-one (showWind (b .wind)) (rw o) (s .0) (s .1) (sized-any 15 (spellings (partsOf windShape)) (showWind (b .wind)) wind-measured (s .1)) (omega arith)
           (rw (wind-back (t .forecast) (b .wind) j))
 
   pub kept-visibility : acc .visibility ≡ blankVisibility → visibilityJudged t b ≡ judged.Fine → Kept (visibilityPlace t) 5 b acc

@@ -1,9 +1,9 @@
 -- Wind: "ddd 010-360 by tens or VRB, two speed figures below 100 and three for 100-199, G and gust, KT, MPS or KMH; 00000 calm. A gust not above the
 -- mean or with calm, 000 or a zero speed without the other, or equal directions in dddVddd: 7." The missing form is ///// and unit; "in a TAF these
--- are 5".
+-- are 5". Document 02, No. 8: "P99KT, P49MPS and P199KMH for mean or gust above those figures".
 -- Assumes nothing: these are definitions.
-use Prim.Native.Nat.{ℕ}
-use mathlib.Core.Bool.{Bool, true, false, cond, not, _&&_}
+use Prim.Native.Nat.{ℕ, _+_}
+use mathlib.Core.Bool.{Bool, true, false, cond, not, _&&_, _||_}
 use mathlib.Core.List.{List, [], _∷_, _++_}
 use lib.Dec.{leb, ltb, eqb}
 use Rattle.figures.specs.Quote.{bytes}
@@ -24,7 +24,7 @@ use Rattle.record.specs.declared.aerodrome.Wind.{Wind}
 use Rattle.record.specs.declared.aerodrome.Extremes.{Extremes}
 use Rattle.record.specs.declared.aerodrome.Extremes.the-variants as extremes
 use Rattle.record.specs.declared.aerodrome.Variation.{Variation}
-use Rattle.record.specs.Missing.{noSpeed}
+use Rattle.record.specs.Missing.{noSpeed, isStill}
 use Rattle.record.specs.SilentAerodrome.{noUnit}
 use Rattle.record.specs.Classes.{classDirection}
 use Rattle.text.specs.declared.kinds.Judged.{Judged}
@@ -33,18 +33,32 @@ use Rattle.elements.specs.Parts.{figured, used, provided, agreeing, then
 
 -- direction, speed, gust, unit
 abbrev pub windShape : List ℕ
-windShape = bytes "###|VRB ###|## G###|G##| KT|MPS|KMH"
+windShape = bytes "###|VRB ###|##|P###|P## G###|G##|GP###|GP##| KT|MPS|KMH"
 
 abbrev pub unitOf : ℕ → Unit
 unitOf k = cond (eqb k 0) unit.Knots (cond (eqb k 1) unit.MetresPerSecond unit.KilometresPerHour)
 
--- "two speed figures below 100 and three for 100-199": the alternative of three figures is number 0
-abbrev pub speedOf : Value → Read ℕ
-speedOf v = figured (v .field) (λ n. provided (cond (eqb (v .which) 0) (leb 100 n && leb n 199) true) (Good n))
+-- the figure that stands after P, which is the last speed that is written as a number; with no unit nothing is written
+abbrev pub lastExact : Unit → ℕ
+lastExact unit.Missing = 0
+lastExact unit.Knots = 99
+lastExact unit.MetresPerSecond = 49
+lastExact unit.KilometresPerHour = 199
 
--- the gust's alternatives are three figures, two, and nothing
-abbrev pub gustOf : Value → Read Speed
-gustOf v = cond (eqb (v .which) 2) (Good speed.Missing) (then (speedOf v) (λ n. Good (speed.Is n)))
+-- "two speed figures below 100 and three for 100-199": the alternatives of three figures are number 0 and, after P, number 2
+abbrev pub inWidth : ℕ → ℕ → Bool
+inWidth which n = cond (eqb which 0 || eqb which 2) (leb 100 n && leb n 199) true
+
+-- a number, or after P what is above it: "P with another figure is 5"
+abbrev pub speedBy : Unit → ℕ → ℕ → Read Speed
+speedBy u which n = cond (leb which 1) (Good (speed.Is n)) (provided (eqb n (lastExact u)) (Good (speed.Above n)))
+
+abbrev pub speedOf : Unit → Value → Read Speed
+speedOf u v = figured (v .field) (λ n. provided (inWidth (v .which) n) (speedBy u (v .which) n))
+
+-- the gust has one alternative more, number 4, which is nothing
+abbrev pub gustOf : Unit → Value → Read Speed
+gustOf u v = cond (eqb (v .which) 4) (Good speed.Missing) (speedOf u v)
 
 -- 000 is calm, and alternative 1 is VRB
 abbrev pub directionOf : Value → Read Direction
@@ -63,32 +77,39 @@ abbrev pub bothOrNeither : Bool → Bool → Bool
 bothOrNeither true b = b
 bothOrNeither false b = not b
 
-abbrev pub gustAgrees : Direction → ℕ → Speed → Bool
+-- "a gust number beside a mean P is 7"
+abbrev pub isBelow : Speed → ℕ → Bool
+isBelow speed.Missing g = false
+isBelow (speed.Is s) g = ltb s g
+isBelow (speed.Above s) g = false
+
+-- "A gust P may stand over any mean but calm."
+abbrev pub gustAgrees : Direction → Speed → Speed → Bool
 gustAgrees d s speed.Missing = true
-gustAgrees d s (speed.Is g) = not (isCalm d) && ltb s g
+gustAgrees d s (speed.Is g) = not (isCalm d) && isBelow s g
+gustAgrees d s (speed.Above g) = not (isCalm d)
 
-abbrev pub windAgrees : Direction → ℕ → Speed → Bool
-windAgrees d s g = bothOrNeither (isCalm d) (eqb s 0) && gustAgrees d s g
+abbrev pub windAgrees : Direction → Speed → Speed → Bool
+windAgrees d s g = bothOrNeither (isCalm d) (isStill s) && gustAgrees d s g
 
-abbrev pub windWith : Unit → Direction → ℕ → Speed → Wind
-windWith u d s g = record { direction = d; speed = speed.Is s; gust = g; unit = u }
+abbrev pub windWith : Unit → Direction → Speed → Speed → Wind
+windWith u d s g = record { direction = d; speed = s; gust = g; unit = u }
 
 abbrev pub noWind : Unit → Wind
 noWind u = record { direction = direction.Missing; speed = speed.Missing; gust = speed.Missing; unit = u }
 
 -- "///// and unit": three slashes, two slashes, no gust
 abbrev pub isNoWind : Value → Value → Value → Bool
-isNoWind d s g = eqb (d .which) 0 && isMissing (d .field) && eqb (s .which) 1 && isMissing (s .field) && eqb (g .which) 2
+isNoWind d s g = eqb (d .which) 0 && isMissing (d .field) && eqb (s .which) 1 && isMissing (s .field) && eqb (g .which) 4
 
-unfoldable pub windBy : Bool → Value → Value → Value → Value → Read Wind
-windBy forecast d s g u =
-    cond (isNoWind d s g) (provided (not forecast) (Good (noWind (unitOf (u .which)))))
-    (then (directionOf d)
-    (λ x. then (speedOf s) (λ y. then (gustOf g) (λ z. agreeing (windAgrees x y z) (Good (windWith (unitOf (u .which)) x y z))))))
+unfoldable pub windBy : Bool → Unit → Value → Value → Value → Read Wind
+windBy forecast u d s g =
+    cond (isNoWind d s g) (provided (not forecast) (Good (noWind u)))
+    (then (directionOf d) (λ x. then (speedOf u s) (λ y. then (gustOf u g) (λ z. agreeing (windAgrees x y z) (Good (windWith u x y z))))))
 
 unfoldable pub readWind : Bool → Group → Read Wind
 readWind forecast g =
-    windBy forecast (valueAt windShape g 0) (valueAt windShape g 1) (valueAt windShape g 2) (valueAt windShape g 3)
+    windBy forecast (unitOf (valueAt windShape g 3 .which)) (valueAt windShape g 0) (valueAt windShape g 1) (valueAt windShape g 2)
 
 -- dddVddd
 abbrev pub variationShape : List ℕ
@@ -115,13 +136,25 @@ directionValue direction.Calm = numbered 0 (field.Number 0)
 directionValue direction.Variable = chosen 1
 directionValue (direction.Degrees d) = numbered 0 (field.Number (dddFigure d))
 
+-- "The writer uses P for 100 knots, 50 m/s, 200 km/h and more": a speed that is over the last one written as a number
+abbrev pub isOver : Unit → Speed → Bool
+isOver u speed.Missing = false
+isOver u (speed.Is s) = ltb (lastExact u) s
+isOver u (speed.Above s) = leb (lastExact u) s
+
+-- the class of a speed: "P is an open class, read back as "above" its figure"; every other speed is a class of its own
+abbrev pub classSpeed : Unit → Speed → Speed
+classSpeed u s = cond (isOver u s) (speed.Above (lastExact u)) s
+
 abbrev pub speedValue : Speed → Value
 speedValue speed.Missing = numbered 1 field.Missing
 speedValue (speed.Is s) = numbered (cond (leb 100 s) 0 1) (field.Number s)
+speedValue (speed.Above s) = numbered (cond (leb 100 s) 2 3) (field.Number s)
 
 abbrev pub gustValue : Speed → Value
-gustValue speed.Missing = chosen 2
-gustValue (speed.Is s) = numbered (cond (leb 100 s) 0 1) (field.Number s)
+gustValue speed.Missing = chosen 4
+gustValue (speed.Is s) = speedValue (speed.Is s)
+gustValue (speed.Above s) = speedValue (speed.Above s)
 
 abbrev pub unitValue : Unit → Value
 unitValue unit.Missing = chosen 3
@@ -129,8 +162,11 @@ unitValue unit.Knots = chosen 0
 unitValue unit.MetresPerSecond = chosen 1
 unitValue unit.KilometresPerHour = chosen 2
 
+abbrev pub windValues : Unit → Direction → Speed → Speed → List Value
+windValues u d s g = directionValue d ∷ speedValue s ∷ gustValue g ∷ unitValue u ∷ []
+
 unfoldable pub showWind : Wind → Group
-showWind w = printOf windShape (directionValue (w .direction) ∷ speedValue (w .speed) ∷ gustValue (w .gust) ∷ unitValue (w .unit) ∷ [])
+showWind w = printOf windShape (windValues (w .unit) (w .direction) (classSpeed (w .unit) (w .speed)) (classSpeed (w .unit) (w .gust)))
 
 abbrev pub extremesGroup : Extremes → List Group
 extremesGroup extremes.Missing = []
@@ -144,27 +180,33 @@ showVariation v = extremesGroup (v .is)
 abbrev pub hasUnit : Unit → Bool
 hasUnit u = not (noUnit u)
 
-abbrev pub gustFits : Speed → Bool
-gustFits speed.Missing = true
-gustFits (speed.Is g) = leb g 199
+-- "a km/h number in a record may now be 0 to 999", knots and m/s "three for 100-199"
+abbrev pub mostSpeed : Unit → ℕ
+mostSpeed unit.Missing = 0
+mostSpeed unit.Knots = 199
+mostSpeed unit.MetresPerSecond = 199
+mostSpeed unit.KilometresPerHour = 999
 
-abbrev pub speedFits : Speed → Bool
-speedFits speed.Missing = false
-speedFits (speed.Is s) = leb s 199
+-- ""above" another figure" is 11
+abbrev pub speedFits : Unit → Speed → Bool
+speedFits u speed.Missing = false
+speedFits u (speed.Is s) = leb s (mostSpeed u)
+speedFits u (speed.Above s) = eqb s (lastExact u)
 
-abbrev pub windFits : Bool → Direction → Speed → Speed → Bool
-windFits forecast direction.Missing s g = not forecast && noSpeed s && noSpeed g
-windFits forecast direction.Calm s g = speedFits s && gustFits g
-windFits forecast direction.Variable s g = speedFits s && gustFits g
-windFits forecast (direction.Degrees d) s g = leb d 359 && speedFits s && gustFits g
+abbrev pub gustFits : Unit → Speed → Bool
+gustFits u g = noSpeed g || speedFits u g
 
-abbrev pub speedsAgree : Direction → Speed → Speed → Bool
-speedsAgree d speed.Missing g = true
-speedsAgree d (speed.Is s) g = windAgrees d s g
+abbrev pub windFits : Bool → Unit → Direction → Speed → Speed → Bool
+windFits forecast u direction.Missing s g = not forecast && noSpeed s && noSpeed g
+windFits forecast u direction.Calm s g = speedFits u s && gustFits u g
+windFits forecast u direction.Variable s g = speedFits u s && gustFits u g
+windFits forecast u (direction.Degrees d) s g = leb d 359 && speedFits u s && gustFits u g
 
+-- "agreement being judged on the figures it would write"
 unfoldable pub judgeWind : Bool → Wind → Judged
 judgeWind forecast w =
-    judge (hasUnit (w .unit) && windFits forecast (w .direction) (w .speed) (w .gust)) (speedsAgree (w .direction) (w .speed) (w .gust))
+    judge (hasUnit (w .unit) && windFits forecast (w .unit) (w .direction) (w .speed) (w .gust))
+    (windAgrees (w .direction) (classSpeed (w .unit) (w .speed)) (classSpeed (w .unit) (w .gust)))
 
 abbrev pub extremesFit : Extremes → Bool
 extremesFit extremes.Missing = true
@@ -181,7 +223,19 @@ judgeVariation v = judge (extremesFit (v .is)) (extremesAgree (v .is))
 -- ---- what is read back
 
 abbrev pub classWind : Wind → Wind
-classWind w = record { direction = classDirection (w .direction); speed = w .speed; gust = w .gust; unit = w .unit }
+classWind w =
+    record {
+      direction = classDirection (w .direction);
+      speed = classSpeed (w .unit) (w .speed);
+      gust = classSpeed (w .unit) (w .gust);
+      unit = w .unit;
+    }
+
+-- speeds of one unit in order: "above" a number is "greater than each number up to it"
+abbrev pub speedRank : Speed → ℕ
+speedRank speed.Missing = 0
+speedRank (speed.Is s) = s
+speedRank (speed.Above s) = s + 1
 
 abbrev pub classExtremes : Extremes → Extremes
 classExtremes extremes.Missing = extremes.Missing

@@ -52,14 +52,14 @@ trend-listed r arrays e = go (r .observation .nil) refl
 -- ---- how long it is
 
 -- The groups of a record can be joined and cut, and hold only bytes that a text may hold.
-pub groups-sizes : (r : Metar) → MetarArrays r → judgeOf r ≡ judged.Fine → Sizes 628 (groupsOf r)
+pub groups-sizes : (r : Metar) → MetarArrays r → judgeOf r ≡ judged.Fine → Sizes 636 (groupsOf r)
 unfolding groupsOf
 groups-sizes r arrays e =
-    let room : rowRoom sizes row ≤ 256 = unfold row in omega arith in
+    let room : rowRoom sizes row ≤ 258 = unfold row in omega arith in
     sizes-append (written row (r .observation)) (showTrend (r .trend)) (sizes-more room (kept-sizes (kept-row r arrays e))) (trend-sizes (r .trend) (trend-listed r arrays e))
 
 -- HOW LONG THE CANONICAL TEXT IS, at most: with NOSIG, or with three changes.
-pub length-canonical : (r : Metar) → MetarArrays r → judgeOf r ≡ judged.Fine → length (canonicalOf r) ≤ 628
+pub length-canonical : (r : Metar) → MetarArrays r → judgeOf r ≡ judged.Fine → length (canonicalOf r) ≤ 636
 unfolding canonicalOf
 length-canonical r arrays e = joined-short (groupsOf r) (unfold groupsOf row in omega arith) (groups-sizes r arrays e)
 

@@ -110,7 +110,7 @@ fair-silent r arrays e nil = trend-blank (r .trend) (arrays .trend) (arrays .eac
 
 -- the bytes that a group may have at each place
 abbrev pub sizes : List ℕ
-sizes = 5 ∷ 3 ∷ 4 ∷ 7 ∷ 3 ∷ 4 ∷ 13 ∷ 7 ∷ 5 ∷ 11 ∷ 9 ∷ 9 ∷ 7 ∷ 5 ∷ 10 ∷ 0 ∷ []
+sizes = 5 ∷ 3 ∷ 4 ∷ 7 ∷ 3 ∷ 4 ∷ 15 ∷ 7 ∷ 5 ∷ 11 ∷ 9 ∷ 9 ∷ 7 ∷ 5 ∷ 10 ∷ 0 ∷ []
 
 -- the record as the head leaves it
 abbrev pub headed : Observation → Observation

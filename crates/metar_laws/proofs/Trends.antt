@@ -90,10 +90,10 @@ word-sizes tendency.None = sizes-more (omega arith) sizes-none
 word-sizes tendency.Becoming = one-sizes 5 (bytes "BECMG") (bytes "BECMG") refl refl
 word-sizes tendency.Temporary = one-sizes 5 (bytes "TEMPO") (bytes "TEMPO") refl refl
 
-change-sizes : (nosig : Bool) (c : TrendChange) → Sound nosig c → Sizes 122 (showChange c)
+change-sizes : (nosig : Bool) (c : TrendChange) → Sound nosig c → Sizes 124 (showChange c)
 unfolding showChange
 change-sizes nosig c s =
-    let room : rowRoom changeSizes (row true) ≤ 116 = unfold row in omega arith in
+    let room : rowRoom changeSizes (row true) ≤ 118 = unfold row in omega arith in
     sizes-append (showWord (c .tendency)) (written (row true) c) (word-sizes (c .tendency)) (sizes-more room (kept-sizes (kept-change nosig c s)))
 
 nosig-sizes : (b : Bool) → Sizes 6 (showNosig b)
@@ -102,9 +102,9 @@ nosig-sizes true = one-sizes 5 (bytes "NOSIG") (bytes "NOSIG") refl refl
 nosig-sizes false = sizes-more (omega arith) sizes-none
 
 -- NOSIG, or three changes
-pub trend-sizes : (t : Trend) → Listed t → Sizes 372 (showTrend t)
+pub trend-sizes : (t : Trend) → Listed t → Sizes 378 (showTrend t)
 unfolding showTrend
-trend-sizes t l = sizes-append (showNosig (t .nosig)) _ (nosig-sizes (t .nosig)) (list-sizes showChange showEach refl (λ c cs. refl) l 122 (change-sizes (t .nosig)))
+trend-sizes t l = sizes-append (showNosig (t .nosig)) _ (nosig-sizes (t .nosig)) (list-sizes showChange showEach refl (λ c cs. refl) l 124 (change-sizes (t .nosig)))
 
 -- ---- a change that is read back: written as it was, and judged fine as it was
 

@@ -35,6 +35,7 @@ direction-blank (direction.Degrees d) e = absurd (false≢true e)
 pub speed-blank : (s : Speed) → noSpeed s ≡ true → s ≡ speed.Missing
 speed-blank speed.Missing e = refl
 speed-blank (speed.Is s) e = absurd (false≢true e)
+speed-blank (speed.Above s) e = absurd (false≢true e)
 
 pub letters-blank : (l : List ℕ) → noLetters l ≡ true → l ≡ replicate (length l) 0
 letters-blank l e = every-is (λ b. eqb b 0) 0 (λ b h. eqb-true b 0 h) l e

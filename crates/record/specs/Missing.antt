@@ -31,6 +31,13 @@ noDirection (direction.Degrees d) = false
 abbrev pub noSpeed : Speed → Bool
 noSpeed speed.Missing = true
 noSpeed (speed.Is s) = false
+noSpeed (speed.Above s) = false
+
+-- a speed of zero, which goes with calm
+abbrev pub isStill : Speed → Bool
+isStill speed.Missing = false
+isStill (speed.Is s) = eqb s 0
+isStill (speed.Above s) = false
 
 -- a slot that holds no letter is 0
 abbrev pub noLetters : List ℕ → Bool

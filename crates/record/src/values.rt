@@ -1,7 +1,7 @@
 // Values that may be missing.
 ghost use mathlib.Core.Path.{_≡_};
 ghost use lib.Dec.{leb};
-ghost use Rattle.record.specs.Missing.{isMissing, between, present, optional, noTenths, noDirection, noSpeed};
+ghost use Rattle.record.specs.Missing.{isMissing, between, present, optional, noTenths, noDirection, noSpeed, isStill};
 
 // A whole number.
 pub enum Number {
@@ -23,10 +23,11 @@ pub enum Direction {
     Degrees(u32),
 }
 
-// A wind speed, in the report's unit.
+// A wind speed, in the report's unit: a number, or "above" a number.
 pub enum Speed {
     Missing,
     Is(u32),
+    Above(u32),
 }
 
 impl Number {
@@ -101,6 +102,18 @@ impl Speed {
         match self {
             Speed::Missing => true,
             Speed::Is(_) => false,
+            Speed::Above(_) => false,
+        }
+    }
+
+    // A speed of zero, which goes with calm.
+    pub fn is_still(self) -> bool
+        ensures { λ r. ⌜ r ≡ isStill self ⌝ }
+    {
+        match self {
+            Speed::Missing => false,
+            Speed::Is(n) => n == 0,
+            Speed::Above(_) => false,
         }
     }
 }

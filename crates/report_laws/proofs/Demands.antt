@@ -38,9 +38,13 @@ use Rattle.text.proofs.Numbers.{verdict-told}
 use Rattle.places.specs.Engine.{Outcome, Done, Fault}
 use Rattle.record.specs.declared.values.Number.the-variants as number
 use Rattle.record.specs.declared.values.Tenths.the-variants as tenths
+use Rattle.record.specs.declared.values.Speed.the-variants as speed
 use Rattle.record.specs.declared.surface.Synop.{Synop}
+use Rattle.record.specs.declared.aerodrome.Unit.{Unit}
 use Rattle.record.specs.declared.aerodrome.Metar.{Metar}
 use Rattle.record.specs.declared.aerodrome.Taf.{Taf}
+use Rattle.elements.specs.Wind.{lastExact, classSpeed}
+use Rattle.wind.proofs.SpeedLaws as speeds
 use Rattle.aerodrome_groups.specs.Temperatures.{classTenths, classPressure}
 use Rattle.report_record.specs.declared.kinds.Name.the-variants as name
 use Rattle.report_record.specs.declared.kinds.Report.{Report}
@@ -52,8 +56,8 @@ use Rattle.report_laws.proofs.ByName.{surfaceWord, observedWord, foreca
 use Rattle.report_laws.proofs.Causes.{Caused, fine, bad-value, disagreeing, causes}
 use Rattle.report_laws.proofs.Placed.{one-or-more, Placed, At, at-place, Within, groups-within, tail-within}
 use Rattle.report_laws.proofs.Faults.{surface-placed, observed-placed, forecast-placed, NamePlaced, name-placed}
-use Rattle.report_laws.proofs.Numbers.{Table, footOn, classOn, numbersOf, temperaturesOf, pressuresOf, rainsOf, DownOn, down-on, NumberOrder, TenthsOrder, RainOrder, InOrder, in-order, class-order, temperature-order, qnh-order}
-use Rattle.report_laws.proofs.RoundTrip.{Arrays, fair, comes-back, fine-again, text-again, Kept, kept, numbers-back, temperatures-back, pressures-back, rains-back}
+use Rattle.report_laws.proofs.Numbers.{Table, footOn, classOn, numbersOf, temperaturesOf, pressuresOf, classUnitSpeed, noUnitSpeed, speedsOf, rainsOf, DownOn, down-on, NumberOrder, TenthsOrder, SpeedOrder, RainOrder, InOrder, in-order, class-order, temperature-order, qnh-order, class-speed-order}
+use Rattle.report_laws.proofs.RoundTrip.{Arrays, fair, comes-back, fine-again, text-again, Kept, kept, numbers-back, temperatures-back, pressures-back, speeds-back, rains-back}
 
 -- ==== DEMAND 1. Every text and every record gets an answer.
 
@@ -262,7 +266,8 @@ module _ (r : Report) (arrays : Arrays r) (fine : judgeOf r ≡ judged.Fine) whe
   unfolding restOf restPlace
   accepted-whole = (rw whole, rw (whole, part-nothing (canonicalOf r) (length (canonicalOf r))))
 
-  -- field by field: all that the code carries exactly is equal, what is rounded is near (`RecordRead` of each kind)
+  -- field by field: all that the code carries exactly is equal, what is rounded is near, and an aerodrome's wind speed over its unit's
+  -- figure is "above" it (`RecordRead` of each kind)
   pub fields-kept : Kept r (back r)
   fields-kept = subst (Kept r) (sym back-is) (kept (fair r arrays fine))
 
@@ -275,6 +280,9 @@ module _ (r : Report) (arrays : Arrays r) (fine : judgeOf r ≡ judged.Fine) whe
 
   pub pressures-read : pressuresOf (back r) ≡ map classPressure (pressuresOf r)
   pressures-read = ap pressuresOf back-is ∙ pressures-back (fair r arrays fine)
+
+  pub speeds-read : speedsOf (back r) ≡ map classUnitSpeed (speedsOf r)
+  speeds-read = ap speedsOf back-is ∙ speeds-back (fair r arrays fine)
 
   pub rains-read : rainsOf (back r) ≡ map roundedRain (rainsOf r)
   rains-read = ap rainsOf back-is ∙ rains-back (fair r arrays fine)
@@ -317,6 +325,17 @@ rain-above = rain-most
 pub direction-far : (d : ℕ) → d ≤ 359 → (d + 365 - roundedDirection d) % 360 ≤ 9
 direction-far = direction-near
 
+-- A wind speed of METAR, SPECI or TAF comes back (`speeds-read`) as itself up to 99 knots, 49 m/s or 199 km/h, and over it as "above" that number, of
+-- which no distance can be stated; an "above" comes back as itself.
+pub speed-exact : (u : Unit) (n : ℕ) → n ≤ lastExact u → classSpeed u (speed.Is n) ≡ speed.Is n
+speed-exact = speeds.speed-exact
+
+pub speed-over : (u : Unit) (n : ℕ) → lastExact u < n → classSpeed u (speed.Is n) ≡ speed.Above (lastExact u)
+speed-over = speeds.speed-over
+
+pub speed-above : (u : Unit) → classSpeed u (speed.Above (lastExact u)) ≡ speed.Above (lastExact u)
+speed-above = speeds.speed-above
+
 -- Of any two values in one scale, from one accepted record or from two, the greater never comes back smaller.
 module _ (r q : Report) (arrays : Arrays r) (arrays′ : Arrays q) (fine : judgeOf r ≡ judged.Fine) (fine′ : judgeOf q ≡ judged.Fine) where
   pub order : (t : Table) → InOrder NumberOrder number.Missing (numbersOf t r) (numbersOf t q) (numbersOf t (back r)) (numbersOf t (back q))
@@ -330,6 +349,10 @@ module _ (r q : Report) (arrays : Arrays r) (arrays′ : Arrays q) (fine : judge
   pub pressures-order : InOrder NumberOrder number.Missing (pressuresOf r) (pressuresOf q) (pressuresOf (back r)) (pressuresOf (back q))
   pressures-order =
       rw (pressures-read r arrays fine, pressures-read q arrays′ fine′) (in-order NumberOrder number.Missing classPressure refl qnh-order (pressuresOf r) (pressuresOf q))
+
+  pub speeds-order : InOrder SpeedOrder noUnitSpeed (speedsOf r) (speedsOf q) (speedsOf (back r)) (speedsOf (back q))
+  speeds-order =
+      rw (speeds-read r arrays fine, speeds-read q arrays′ fine′) (in-order SpeedOrder noUnitSpeed classUnitSpeed refl class-speed-order (speedsOf r) (speedsOf q))
 
   pub rains-order : InOrder RainOrder rain.Trace (rainsOf r) (rainsOf q) (rainsOf (back r)) (rainsOf (back q))
   rains-order =

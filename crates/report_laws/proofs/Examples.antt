@@ -1,11 +1,23 @@
 -- Worked examples: what some texts are read as, and what the records are written as. Each text gives its canonical text, or the refusal's number and
--- place.
+-- place. And what is judged of some winds that stand in a record alone.
 -- Assumes nothing.
 use Prim.Native.Nat.{ℕ}
 use mathlib.Core.Path.{_≡_, refl}
+use mathlib.Core.Bool.{false}
 use mathlib.Core.List.{List, [], _∷_, map}
 use Rattle.text.specs.Numbers.{verdictNumbers, writtenNumbers}
 use Rattle.text.specs.Example.{Example, reads, refuses, answerTo}
+use Rattle.text.specs.declared.kinds.Refusal.the-variants as refusal
+use Rattle.text.specs.declared.kinds.Judged.{Judged}
+use Rattle.text.specs.declared.kinds.Judged.the-variants as judged
+use Rattle.record.specs.declared.values.Number.the-variants as number
+use Rattle.record.specs.declared.values.Direction.{Direction}
+use Rattle.record.specs.declared.values.Direction.the-variants as direction
+use Rattle.record.specs.declared.values.Speed.{Speed}
+use Rattle.record.specs.declared.values.Speed.the-variants as speed
+use Rattle.record.specs.declared.aerodrome.Unit.{Unit}
+use Rattle.record.specs.declared.aerodrome.Unit.the-variants as unit
+use Rattle.record.specs.declared.aerodrome.Wind.{Wind}
 use Rattle.report_record.specs.declared.kinds.Reading.{Reading}
 use Rattle.figures.specs.Figures as figures
 use Rattle.figures.specs.Signed as signed
@@ -74,6 +86,9 @@ examples =
     ∷ reads "METAR AUTO 011200Z 27010KT 9999 15/10 Q1013" "METAR AUTO 011200Z 27010KT 9999 15/10 Q1013="
     ∷ refuses "METAR LEMD 011200Z 27010KT 9999 15/10 Q1013 RERA RERA RERA RERA" 9 59
     ∷ refuses "METAR LEMD 011200Z 270050KT" 5 19
+    ∷ reads "METAR LEMD 011200Z 27099G100KT 9999 15/10 Q1013 TEMPO 270150GP99KT" "METAR LEMD 011200Z 27099GP99KT 9999 15/10 Q1013 TEMPO 270P99GP99KT="
+    ∷ refuses "METAR LEMD 011200Z 270P099KT" 5 19
+    ∷ refuses "METAR LEMD 011200Z 270P99G150KT" 7 19
     ∷ refuses "METAR LEMD 011200Z 27010KT 9999 RASNPLGSGR" 5 32
     ∷ refuses "METAR LEMD 011200Z 27010KT 9999 -TS 15/10 Q1013" 5 32
     ∷ reads "METAR LEMD 011200Z 27010KT 9999 15/10 Q1013 RETS TEMPO TS" "METAR LEMD 011200Z 27010KT 9999 15/10 Q1013 RETS TEMPO TS="
@@ -146,3 +161,37 @@ unfolding figures.figures figures.scan figures.fieldAt figures.numberText figure
     report-read.nameOf report-read.readOf
     report-write.judgeOf report-write.canonicalOf report-write.writtenOf
 worked = refl
+
+-- ---- winds of a record: no text shows what is refused there
+
+pub record WindExample : Type 0 where
+  pub wind : Wind
+  pub answer : Judged
+
+abbrev blows : Direction → Speed → Speed → Unit → Judged → WindExample
+blows d s g u a = record { wind = record { direction = d; speed = s; gust = g; unit = u }; answer = a }
+
+-- as rulings 8.3 to 8.8 have them: "agreement being judged on the figures it would write", "a km/h number in a record may now be 0 to 999, else 11, as is
+-- "above" another figure"
+abbrev pub winds : List WindExample
+winds =
+    blows (direction.Degrees 270) (speed.Is 150) (speed.Is 120) unit.Knots judged.Fine
+    ∷ blows (direction.Degrees 270) (speed.Is 150) (speed.Is 99) unit.Knots (judged.Refused refusal.Disagreement)
+    ∷ blows (direction.Degrees 270) (speed.Above 99) (speed.Is 150) unit.Knots judged.Fine
+    ∷ blows (direction.Degrees 270) (speed.Above 99) (speed.Is 99) unit.Knots (judged.Refused refusal.Disagreement)
+    ∷ blows (direction.Degrees 270) (speed.Above 99) speed.Missing unit.MetresPerSecond (judged.Refused refusal.Value)
+    ∷ blows direction.Calm (speed.Above 99) speed.Missing unit.Knots (judged.Refused refusal.Disagreement)
+    ∷ blows direction.Calm (speed.Above 49) speed.Missing unit.Knots (judged.Refused refusal.Value)
+    ∷ blows direction.Missing (speed.Above 99) speed.Missing unit.Knots (judged.Refused refusal.Value)
+    ∷ blows (direction.Degrees 270) (speed.Is 999) speed.Missing unit.KilometresPerHour judged.Fine
+    ∷ blows (direction.Degrees 270) (speed.Is 200) speed.Missing unit.Knots (judged.Refused refusal.Value)
+    ∷ []
+
+pub worked-winds : map (λ (e : WindExample). wind.judgeWind false (e .wind)) winds ≡ map (λ (e : WindExample). e .answer) winds
+unfolding wind.judgeWind
+worked-winds = refl
+
+-- "any "above" in a SYNOP or SHIP"
+pub no-above : surface-judge.judgeWind (record { cover = number.Missing; direction = direction.Calm; speed = speed.Above 99 }) ≡ judged.Refused refusal.Value
+unfolding surface-judge.judgeWind
+no-above = refl

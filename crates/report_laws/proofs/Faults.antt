@@ -28,6 +28,7 @@ use Rattle.shapes.specs.declared.kinds.Value.{Value}
 use Rattle.places.specs.Engine.{Group, Read, Bad, then, Outcome}
 use Rattle.places.specs.Parts.{Word, Bars}
 use Rattle.record.specs.declared.values.Number.{Number}
+use Rattle.record.specs.declared.aerodrome.Unit as speed-unit
 use Rattle.record.specs.declared.aerodrome.Weather.{Weather}
 use Rattle.record.specs.declared.aerodrome.Sky.{Sky}
 use Rattle.record.specs.declared.aerodrome.Body.{Body}
@@ -110,14 +111,14 @@ ruleset told = (good, five, seven, either, number, number-or, figure, after)
 
 -- ---- wind, visibility, weather, sky
 
-module _ (v : Value) where
-  direction-fair : Fairly (wind.directionOf v)
-  direction-fair = search told
+direction-fair : (v : Value) → Fairly (wind.directionOf v)
+direction-fair v = search told
 
-  speed-fair : Fairly (wind.speedOf v)
-  speed-fair = search told
+module _ (u : speed-unit.Unit) (v : Value) where
+  speed-fair : Fairly (wind.speedOf u v)
+  speed-fair = search told depth 8
 
-  gust-fair : Fairly (wind.gustOf v)
+  gust-fair : Fairly (wind.gustOf u v)
   gust-fair = search (told, speed-fair)
 
 wind-fair : (forecast : Bool) (g : Group) → Fairly (wind.readWind forecast g)

@@ -3,7 +3,7 @@
 -- Assumes nothing.
 use Prim.Native.Nat.{ℕ, _≤_}
 use mathlib.Core.Path.{_≡_, refl, sym, ap, _∙_}
-use mathlib.Core.Bool.{Bool, true}
+use mathlib.Core.Bool.{Bool, true, false}
 use mathlib.Core.List.{List, [], _∷_, _++_, map}
 use lib.ListN.{getD, List·getD-map}
 use lib.Dec.{eqb}
@@ -23,11 +23,15 @@ use Rattle.record.specs.declared.values.Number.{Number}
 use Rattle.record.specs.declared.values.Number.the-variants as number
 use Rattle.record.specs.declared.values.Tenths.{Tenths}
 use Rattle.record.specs.declared.values.Tenths.the-variants as tenths
+use Rattle.record.specs.declared.values.Speed.{Speed}
+use Rattle.record.specs.declared.values.Speed.the-variants as speed
 use Rattle.record.specs.declared.surface.Sight.{Sight}
 use Rattle.record.specs.declared.surface.Sight.the-variants as sight
 use Rattle.record.specs.declared.surface.Fall.{Fall}
 use Rattle.record.specs.declared.surface.Fall.the-variants as fall
 use Rattle.record.specs.declared.surface.Surface.{Surface}
+use Rattle.record.specs.declared.aerodrome.Unit.{Unit}
+use Rattle.record.specs.declared.aerodrome.Unit.the-variants as unit
 use Rattle.record.specs.declared.aerodrome.View.{View}
 use Rattle.record.specs.declared.aerodrome.View.the-variants as view
 use Rattle.record.specs.declared.aerodrome.Runway.{Runway}
@@ -42,10 +46,13 @@ use Rattle.record.specs.declared.aerodrome.TrendChange.{TrendChange}
 use Rattle.record.specs.declared.aerodrome.Metar.{Metar}
 use Rattle.record.specs.declared.aerodrome.Taf.{Taf}
 use Rattle.record.specs.Classes as classes
+use Rattle.record.specs.Missing.{noSpeed}
 use Rattle.synop_groups.specs.Classes.{classBase, classSight, classFall}
+use Rattle.elements.specs.Wind.{classSpeed, speedRank}
 use Rattle.elements.specs.Visibility.{classView}
 use Rattle.elements.specs.Sky.{classLayer, classCover, classSky}
 use Rattle.elements.specs.Body.{classBody}
+use Rattle.wind.proofs.SpeedLaws.{missing-classed, speed-order}
 use Rattle.trend_row.specs.Row as trend-row
 use Rattle.trend.specs.Write as trend
 use Rattle.aerodrome_groups.specs.Runway.{classRunway}
@@ -207,6 +214,28 @@ pressuresBy kind.Forecast r = []
 abbrev pub pressuresOf : Report → List Number
 pressuresOf r = pressuresBy (r .kind) r
 
+-- a speed with its unit, and its class; the mean and the gust of each body. In a SYNOP or SHIP speeds are carried exactly
+pub record UnitSpeed : Type 0 where
+  pub unit : Unit
+  pub speed : Speed
+
+abbrev pub classUnitSpeed : UnitSpeed → UnitSpeed
+classUnitSpeed s = record { unit = s .unit; speed = classSpeed (s .unit) (s .speed) }
+
+abbrev pub bodiesSpeeds : List Body → List UnitSpeed
+bodiesSpeeds [] = []
+bodiesSpeeds (b ∷ bs) =
+    record { unit = b .wind .unit; speed = b .wind .speed } ∷ record { unit = b .wind .unit; speed = b .wind .gust } ∷ bodiesSpeeds bs
+
+abbrev pub speedsBy : Kind → Report → List UnitSpeed
+speedsBy kind.Missing r = []
+speedsBy kind.Surface r = []
+speedsBy kind.Observed r = bodiesSpeeds (observedBodies (r .observed))
+speedsBy kind.Forecast r = bodiesSpeeds (forecastBodies (r .forecast))
+
+abbrev pub speedsOf : Report → List UnitSpeed
+speedsOf r = speedsBy (r .kind) r
+
 abbrev pub amountOf : Fall → List Rain
 amountOf fall.Missing = []
 amountOf (fall.Is a t) = a ∷ []
@@ -291,23 +320,35 @@ with-changes : {A : Type 0} (of : A → Body) (f : A → A) → ((x : A) → of 
 with-changes of f e b c xs ys first rest =
     ap (λ (d : Body). d ∷ map of ys) first ∙ ap (λ (l : List Body). classBody b ∷ l) (ap (map of) rest ∙ map-square of f classBody e xs)
 
-pub observed-numbers : (t : Table) (r q : Metar) → q .observation .runways .items ≡ map classRunway (r .observation .runways .items)
-    → q .observation .body ≡ classBody (r .observation .body) → q .trend .items ≡ map trend.classChange (r .trend .items)
-    → observedNumbers t q ≡ map (classOn t) (observedNumbers t r)
+pub observed-bodies : (r q : Metar) → q .observation .body ≡ classBody (r .observation .body) → q .trend .items ≡ map trend.classChange (r .trend .items)
+    → observedBodies q ≡ map classBody (observedBodies r)
 unfolding trend.classChange trend-row.row
-observed-numbers t r q e f g =
+observed-bodies r q f g =
+    with-changes (λ (c : TrendChange). c .body) trend.classChange (λ c. refl) (r .observation .body) (q .observation .body) (r .trend .items) (q .trend .items) f g
+
+pub forecast-bodies : (r q : Taf) → q .leg .body ≡ classBody (r .leg .body) → q .changes .items ≡ map classChange (r .changes .items)
+    → forecastBodies q ≡ map classBody (forecastBodies r)
+unfolding classChange row
+forecast-bodies r q f g =
+    with-changes (λ (c : Change). c .body) classChange (λ c. refl) (r .leg .body) (q .leg .body) (r .changes .items) (q .changes .items) f g
+
+pub observed-numbers : (t : Table) (r q : Metar) → q .observation .runways .items ≡ map classRunway (r .observation .runways .items)
+    → observedBodies q ≡ map classBody (observedBodies r) → observedNumbers t q ≡ map (classOn t) (observedNumbers t r)
+observed-numbers t r q e bodies =
     let runways = runwayNumbers t (r .observation) in
-    let bodies = with-changes (λ (c : TrendChange). c .body) trend.classChange (λ c. refl) (r .observation .body) (q .observation .body) (r .trend .items) (q .trend .items) f g in
     ap (λ (l : List Number). l ++ bodiesNumbers t (observedBodies q)) (runway-is t (r .observation) (q .observation) e)
     ∙ ap (λ (l : List Number). map (classOn t) runways ++ l) (ap (bodiesNumbers t) bodies ∙ bodies-is t (observedBodies r))
     ∙ sym (map-append (classOn t) runways (bodiesNumbers t (observedBodies r)))
 
-pub forecast-numbers : (t : Table) (r q : Taf) → q .leg .body ≡ classBody (r .leg .body) → q .changes .items ≡ map classChange (r .changes .items)
-    → forecastNumbers t q ≡ map (classOn t) (forecastNumbers t r)
-unfolding classChange row
-forecast-numbers t r q f g =
-    ap (bodiesNumbers t) (with-changes (λ (c : Change). c .body) classChange (λ c. refl) (r .leg .body) (q .leg .body) (r .changes .items) (q .changes .items) f g)
-    ∙ bodies-is t (forecastBodies r)
+pub forecast-numbers : (t : Table) (r q : Taf) → forecastBodies q ≡ map classBody (forecastBodies r) → forecastNumbers t q ≡ map (classOn t) (forecastNumbers t r)
+forecast-numbers t r q bodies = ap (bodiesNumbers t) bodies ∙ bodies-is t (forecastBodies r)
+
+each-speed : (bs : List Body) → bodiesSpeeds (map classBody bs) ≡ map classUnitSpeed (bodiesSpeeds bs)
+each-speed [] = refl
+each-speed (b ∷ bs) = rw (each-speed bs)
+
+pub bodies-speeds : (bs cs : List Body) → cs ≡ map classBody bs → bodiesSpeeds cs ≡ map classUnitSpeed (bodiesSpeeds bs)
+bodies-speeds bs cs e = ap bodiesSpeeds e ∙ each-speed bs
 
 pub amount-is : (f : Fall) → amountOf (classFall f) ≡ map roundedRain (amountOf f)
 amount-is fall.Missing = refl
@@ -333,6 +374,11 @@ pub data NumberOrder : Number → Number → Type 0 where
 pub data TenthsOrder : Tenths → Tenths → Type 0 where
   in-tenths : {t u : ℤ} → leZ t u ≡ true → TenthsOrder (tenths.Is t) (tenths.Is u)
 
+-- "the comparison is made within a unit": "above" a number is "greater than each number up to it"
+pub data SpeedOrder : UnitSpeed → UnitSpeed → Type 0 where
+  speeds : {u : Unit} {s t : Speed} → noSpeed s ≡ false → noSpeed t ≡ false → speedRank s ≤ speedRank t
+      → SpeedOrder (record { unit = u; speed = s }) (record { unit = u; speed = t })
+
 -- "Trace is least."
 abbrev pub RainOrder : Rain → Rain → Type 0
 RainOrder a b = rainRank a ≤ rainRank b
@@ -345,6 +391,13 @@ temperature-order _ _ (in-tenths {t} {u} h) = in-tenths (degrees-order t u h)
 
 pub qnh-order : (a b : Number) → NumberOrder a b → NumberOrder (classPressure a) (classPressure b)
 qnh-order _ _ (numbers {m} {n} h) = numbers (pressure-order m n h)
+
+pub class-speed-order : (a b : UnitSpeed) → SpeedOrder a b → SpeedOrder (classUnitSpeed a) (classUnitSpeed b)
+class-speed-order _ _ (speeds {u} {s} {t} e f h) = speeds (missing-classed u s ∙ e) (missing-classed u t ∙ f) (speed-order u s t h)
+
+-- where a list has no speed
+abbrev pub noUnitSpeed : UnitSpeed
+noUnitSpeed = record { unit = unit.Missing; speed = speed.Missing }
 
 -- any two of two lists, wherever they stand, are in the same order in the lists that are read back
 abbrev pub InOrder : {A : Type 0} → (A → A → Type 0) → A → List A → List A → List A → List A → Type 0

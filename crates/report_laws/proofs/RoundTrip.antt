@@ -47,7 +47,7 @@ use Rattle.record.proofs.AerodromeBlanks.{metar-blank, taf-blank}
 use Rattle.report.specs.Read.{readOf}
 use Rattle.report.specs.Write.{judgeBy, judgeOf, canonicalOf, classedOf}
 use Rattle.report_laws.proofs.ByName.{surfaceWord, observedWord, forecastWord, Named, SurfaceText, ObservedText, ForecastText, read-surface, read-observed, read-forecast}
-use Rattle.report_laws.proofs.Numbers.{Table, classOn, numbersOf, temperaturesOf, pressuresOf, rainsOf, surface-numbers, observed-numbers, forecast-numbers, amount-is}
+use Rattle.report_laws.proofs.Numbers.{Table, classOn, numbersOf, temperaturesOf, pressuresOf, observedBodies, forecastBodies, classUnitSpeed, speedsOf, rainsOf, surface-numbers, observed-bodies, forecast-bodies, observed-numbers, forecast-numbers, bodies-speeds, amount-is}
 
 -- The record's arrays have the lengths of the code's arrays.
 pub record Arrays (r : Report) : Type 0 where
@@ -192,8 +192,16 @@ kept (forecast t arrays e) = forecast-kept (taf-promise.promise t arrays e .1)
 pub numbers-back : (t : Table) {r : Report} → Fair r → numbersOf t (classedOf r) ≡ map (classOn t) (numbersOf t r)
 unfolding classedOf synop.classedOf metar.classedOf metar.classObservation taf.classedOf observed-row.row forecast-row.row
 numbers-back t (surface s nine e) = surface-numbers t (s .surface) (synop.classedOf s .surface) refl refl
-numbers-back t (observed m arrays e) = observed-numbers t m (metar.classedOf m) refl refl (metar-promise.items-classed m arrays e)
-numbers-back t (forecast f arrays e) = forecast-numbers t f (taf.classedOf f) refl (taf-promise.items-classed f arrays e)
+numbers-back t (observed m arrays e) = observed-numbers t m (metar.classedOf m) refl (observed-bodies m (metar.classedOf m) refl (metar-promise.items-classed m arrays e))
+numbers-back t (forecast f arrays e) = forecast-numbers t f (taf.classedOf f) (forecast-bodies f (taf.classedOf f) refl (taf-promise.items-classed f arrays e))
+
+pub speeds-back : {r : Report} → Fair r → speedsOf (classedOf r) ≡ map classUnitSpeed (speedsOf r)
+unfolding classedOf metar.classedOf metar.classObservation taf.classedOf observed-row.row forecast-row.row
+speeds-back (surface s nine e) = refl
+speeds-back (observed m arrays e) =
+    bodies-speeds (observedBodies m) (observedBodies (metar.classedOf m)) (observed-bodies m (metar.classedOf m) refl (metar-promise.items-classed m arrays e))
+speeds-back (forecast f arrays e) =
+    bodies-speeds (forecastBodies f) (forecastBodies (taf.classedOf f)) (forecast-bodies f (taf.classedOf f) refl (taf-promise.items-classed f arrays e))
 
 pub temperatures-back : {r : Report} → Fair r → temperaturesOf (classedOf r) ≡ map classTenths (temperaturesOf r)
 unfolding classedOf metar.classedOf metar.classObservation observed-row.row

@@ -90,6 +90,7 @@ module _ {X : Type 0} {shape : Pattern} {must : Bool} {says : Group → Said} {m
 abbrev pub meantSpeed : Speed → Said
 meantSpeed speed.Missing = wrong
 meantSpeed (speed.Is s) = said.Speed s
+meantSpeed (speed.Above s) = wrong
 
 speed-small : (d : Direction) (s : ℕ) → windFits d (speed.Is s) ≡ true → s ≤ 999
 speed-small direction.Missing s f = absurd (false≢true f)
@@ -105,6 +106,7 @@ speed-back w e = go (w .direction) (w .speed) (wind-fine w e .1)
   where
     go : (d : Direction) (s : Speed) → windFits d s ≡ true → Back (bytes "00###") (isInThree s) (saidSpeed (isInThree s)) meantSpeed (speedInTwo s) s (speedGroup s)
     go d speed.Missing f = none refl refl
+    go d (speed.Above s) f = none refl refl
     go d (speed.Is s) f =
         ⊎-elim
         (λ h.

@@ -44,7 +44,7 @@ use Rattle.text.proofs.Judging.{fine}
 use Rattle.synop_groups.specs.Position.{isQuadrant, isSouth, isWest, quadrantOf}
 use Rattle.synop_groups.specs.Reads.{Group, isUnit, timeOf, saidTime, saidStation, latitudeIs, saidLatitude, positionOf, saidLongitude, sightOf, indicatorsOf, saidIndicators, figured, mayMiss, missing, windBy, noWind, saidWind}
 use Rattle.synop_groups.specs.Shows.{fieldOf, magnitudeOf, showTime, showStation, showSign, showLatitude, showLongitude, baseField, sightField, showIndicators, directionField, showWind}
-use Rattle.synop_groups.specs.Judge.{presentTenths, metres, isStation, judgeTime, judgeStation, judgeSign, judgePosition, sightFits, judgeIndicators, windFits, windAgrees, judgeWind}
+use Rattle.synop_groups.specs.Judge.{presentTenths, metres, isStation, judgeTime, judgeStation, judgeSign, judgePosition, sightFits, judgeIndicators, speedFits, windFits, windAgrees, judgeWind}
 use Rattle.record.specs.Classes.{classDirection}
 use Rattle.record.specs.Missing.{between, present, optional}
 use Rattle.synop_groups.specs.Classes.{classBase, classSight, classIndicators, classWind, unsignedPosition, inTwo, windInTwo}
@@ -266,7 +266,14 @@ no-speed : (d : Direction) → windFits d speed.Missing ≡ true → d ≡ direc
 no-speed direction.Missing e = refl
 no-speed direction.Calm e = absurd (false≢true e)
 no-speed direction.Variable e = absurd (false≢true e)
-no-speed (direction.Degrees d) e = absurd (false≢true e)
+no-speed (direction.Degrees d) e = absurd (false≢true (both (leb d 359) false e .1))
+
+-- an "above" stands beside no direction
+no-above : {A : Type 0} (d : Direction) (s : ℕ) → windFits d (speed.Above s) ≡ true → A
+no-above direction.Missing s e = absurd (false≢true e)
+no-above direction.Calm s e = absurd (false≢true e)
+no-above direction.Variable s e = absurd (false≢true e)
+no-above (direction.Degrees d) s e = absurd (false≢true (both (leb d 359) false e .1))
 
 -- the figures of a wind
 abbrev windIn : Number → Field → Field → List Part
@@ -293,6 +300,7 @@ wind-back w e = let t = wind-fine w e in go (w .direction) (w .speed) (t .1) (t 
         → Stands (bytes "#####") saidWind (said.Wind (windInTwo (record { cover = w .cover; direction = d; speed = s })))
         (showWind (record { cover = w .cover; direction = d; speed = s }))
     go d speed.Missing f a = rw (no-speed d f) still
+    go d (speed.Above s) f a = no-above d s f
     go d (speed.Is s) f a =
         let b = blows (w .cover) d s f a in
         let l =
@@ -310,6 +318,7 @@ wind-again w e = let t = wind-fine w e in rw (go (w .direction) (w .speed) (t .1
   where
     go : (d : Direction) (s : Speed) → windFits d s ≡ true → windAgrees d s ≡ true → directionField (classDirection d) ≡ directionField d
     go d speed.Missing f a = rw (no-speed d f)
+    go d (speed.Above s) f a = no-above d s f
     go d (speed.Is s) f a = let b = blows number.Missing d s f a in b .again ∙ sym (b .written)
 
 pub wind-classed : (w : Wind) → judgeWind w ≡ judged.Fine → judgeWind (classWind w) ≡ judged.Fine
@@ -323,7 +332,6 @@ wind-classed w e =
     go direction.Missing s f = (f, refl)
     go direction.Calm s f = (f, refl)
     go direction.Variable s f = (f, refl)
-    go (direction.Degrees d) speed.Missing f = absurd (false≢true f)
-    go (direction.Degrees d) (speed.Is s) f =
-        let t = both (leb d 359) (leb s 999) f in
+    go (direction.Degrees d) s f =
+        let t = both (leb d 359) (speedFits s) f in
         (rw (le-leb (roundedDirection d) 359 (omega (arith, rounded-below d)), t .1), refl)

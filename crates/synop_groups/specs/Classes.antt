@@ -60,6 +60,7 @@ inTwo s = cond (leb 99 s) 99 s
 abbrev pub speedInTwo : Speed → Speed
 speedInTwo speed.Missing = speed.Missing
 speedInTwo (speed.Is s) = speed.Is (inTwo s)
+speedInTwo (speed.Above s) = speed.Above s
 
 abbrev pub windInTwo : Wind → Wind
 windInTwo w = record { cover = w .cover; direction = classDirection (w .direction); speed = speedInTwo (w .speed) }

@@ -47,7 +47,7 @@ use Rattle.record.specs.declared.surface.Observed.{Observed}
 use Rattle.record.specs.declared.surface.Observed.the-variants as observed
 use Rattle.record.specs.declared.surface.Clock.{Clock}
 use Rattle.synop_groups.specs.Reads.{isUnit, isLevel, agree}
-use Rattle.record.specs.Missing.{between, present, optional, noLetters}
+use Rattle.record.specs.Missing.{between, present, optional, noSpeed, isStill, noLetters}
 use Rattle.record.specs.SilentSurface.{noFall, noWeather}
 
 -- ---- ranges
@@ -107,25 +107,18 @@ unfoldable pub judgeIndicators : Indicators → Judged
 judgeIndicators i =
     judge (present (between 0 4) (i .rain) && present (between 1 7) (i .weather) && optional metres (i .base) && sightFits (i .sight)) true
 
--- the speed beside a direction that is not missing
+-- the speed beside a direction that is not missing; document 02, No. 8: "any "above" in a SYNOP or SHIP" is 11
 abbrev pub speedFits : Speed → Bool
 speedFits speed.Missing = false
 speedFits (speed.Is s) = leb s 999
+speedFits (speed.Above s) = false
 
 -- direction and speed in range, missing together; "A zero speed with dd not 00, or the reverse, is 7."
 abbrev pub windFits : Direction → Speed → Bool
-windFits direction.Missing speed.Missing = true
-windFits direction.Missing (speed.Is s) = false
-windFits direction.Calm speed.Missing = false
-windFits direction.Calm (speed.Is s) = leb s 999
-windFits direction.Variable speed.Missing = false
-windFits direction.Variable (speed.Is s) = leb s 999
-windFits (direction.Degrees d) speed.Missing = false
-windFits (direction.Degrees d) (speed.Is s) = leb d 359 && leb s 999
-
-abbrev pub isStill : Speed → Bool
-isStill speed.Missing = false
-isStill (speed.Is s) = eqb s 0
+windFits direction.Missing s = noSpeed s
+windFits direction.Calm s = speedFits s
+windFits direction.Variable s = speedFits s
+windFits (direction.Degrees d) s = leb d 359 && speedFits s
 
 abbrev pub windAgrees : Direction → Speed → Bool
 windAgrees direction.Missing s = true

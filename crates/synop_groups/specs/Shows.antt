@@ -109,10 +109,11 @@ directionField direction.Calm = field.Number 0
 directionField direction.Variable = field.Number 99
 directionField (direction.Degrees d) = fieldBy (directionFigure d)
 
--- "A speed of 99 units or more is ff 99 and at once 00fff"
+-- "A speed of 99 units or more is ff 99 and at once 00fff"; an "above" is refused, and so never written
 abbrev pub speedField : Speed → Field
 speedField speed.Missing = field.Missing
 speedField (speed.Is s) = field.Number (cond (leb 99 s) 99 s)
+speedField (speed.Above s) = field.Missing
 
 unfoldable pub showWind : Wind → Group
 showWind w = fieldText 1 (fieldOf (w .cover)) ++ fieldText 2 (directionField (w .direction)) ++ fieldText 2 (speedField (w .speed))
@@ -121,10 +122,12 @@ showWind w = fieldText 1 (fieldOf (w .cover)) ++ fieldText 2 (directionField (w 
 abbrev pub isInThree : Speed → Bool
 isInThree speed.Missing = false
 isInThree (speed.Is s) = leb 99 s
+isInThree (speed.Above s) = false
 
 abbrev pub speedGroup : Speed → List Group
 speedGroup speed.Missing = []
 speedGroup (speed.Is s) = cond (leb 99 s) ((bytes "00" ++ figures 3 s) ∷ []) []
+speedGroup (speed.Above s) = []
 
 -- ---- section 1
 

@@ -31,7 +31,7 @@ use text::judge::judge;
 use text::kinds::Judged;
 ghost use mathlib.Core.Path.{_≡_};
 ghost use Rattle.scales.specs.Rounded.{rainFits};
-ghost use Rattle.synop_groups.specs.Judge.{unitFits, latitudeFits, longitudeFits, sightFits, speedFits, windFits, isStill, windAgrees};
+ghost use Rattle.synop_groups.specs.Judge.{unitFits, latitudeFits, longitudeFits, sightFits, speedFits, windFits, windAgrees};
 ghost use Rattle.synop_groups.specs.Judge.{tenthsFit, moistFits, levelFits, changeFits, changeSuits, changeAgrees, fallFits, clockFits};
 ghost use Rattle.synop_groups.specs.Judge.{judgeTime, judgeStation, judgeSign, judgePosition, judgeIndicators, judgeWind};
 ghost use Rattle.synop_groups.specs.Judge.{judgeAir, judgeMoisture, judgePressure, judgeLevel, judgeTendency, judgeRainfall, judgeWeather, judgeClouds, judgeClock};
@@ -126,12 +126,14 @@ pub fn judge_indicators(i: Indicators) -> Judged
     )
 }
 
+// No speed of a SYNOP or SHIP is "above" a number.
 fn speed_fits(s: Speed) -> bool
     ensures { λ r. ⌜ r ≡ speedFits s ⌝ }
 {
     match s {
         Speed::Missing => false,
         Speed::Is(s) => s <= 999,
+        Speed::Above(_) => false,
     }
 }
 
@@ -147,24 +149,15 @@ fn wind_fits(d: Direction, s: Speed) -> bool
     }
 }
 
-fn is_still(s: Speed) -> bool
-    ensures { λ r. ⌜ r ≡ isStill s ⌝ }
-{
-    match s {
-        Speed::Missing => false,
-        Speed::Is(s) => s == 0,
-    }
-}
-
 // A calm, and nothing else, has the speed 0.
 fn wind_agrees(d: Direction, s: Speed) -> bool
     ensures { λ r. ⌜ r ≡ windAgrees d s ⌝ }
 {
     match d {
         Direction::Missing => true,
-        Direction::Calm => is_still(s),
-        Direction::Variable => !is_still(s),
-        Direction::Degrees(_) => !is_still(s),
+        Direction::Calm => s.is_still(),
+        Direction::Variable => !s.is_still(),
+        Direction::Degrees(_) => !s.is_still(),
     }
 }
 

@@ -247,6 +247,7 @@ fn speed_field(speed: Speed) -> Field
     match speed {
         Speed::Missing => Field::Missing,
         Speed::Is(s) => Field::Number(speed_figure(s)),
+        Speed::Above(_) => Field::Missing,
     }
 }
 
@@ -277,6 +278,7 @@ pub fn put_speed(out: &mut [u8], at: usize, w: Wind) -> usize
                 at
             }
         }
+        Speed::Above(_) => at,
     }
 }
 

@@ -27,7 +27,7 @@ use Rattle.record.specs.declared.surface.Synop.{Synop}
 use Rattle.text.specs.declared.kinds.Judged.the-variants as judged
 use Rattle.record.specs.Classes.{classDirection}
 use Rattle.record.proofs.Near.{NumberDown, number-down, DirectionNear, directionFits, direction-near}
-use Rattle.synop_groups.specs.Judge.{windFits}
+use Rattle.synop_groups.specs.Judge.{speedFits, windFits}
 use Rattle.synop_groups.specs.Classes.{classBase, classSight, classFall}
 use Rattle.text.specs.Groups.{groupsFrom}
 use Rattle.text.specs.Text.{tailOf}
@@ -72,8 +72,7 @@ direction-fits : (d : Direction) (s : Speed) → windFits d s ≡ true → direc
 direction-fits direction.Missing s e = refl
 direction-fits direction.Calm s e = refl
 direction-fits direction.Variable s e = refl
-direction-fits (direction.Degrees d) speed.Missing e = absurd (false≢true e)
-direction-fits (direction.Degrees d) (speed.Is s) e = both (leb d 359) (leb s 999) e .0
+direction-fits (direction.Degrees d) s e = both (leb d 359) (speedFits s) e .0
 
 pub direction-read : (d : Direction) (s : Speed) → windFits d s ≡ true → DirectionNear d (classDirection d)
 direction-read d s e = direction-near d (direction-fits d s e)

@@ -156,6 +156,7 @@ speed-meant : (x : Speed) (s : Surface) → 0 < length (speedGroup x) → withSa
 unfolding withSaid
 speed-meant speed.Missing s h = absurd (omega arith)
 speed-meant (speed.Is n) s h = refl
+speed-meant (speed.Above n) s h = absurd (omega arith)
 
 -- groups of at most five bytes at each of the ten places
 abbrev fives : List ℕ
@@ -191,6 +192,7 @@ kept-row s w e =
 -- what Nddff leaves requires the same groups
 three-kept : (x : Speed) → isInThree (speedInTwo x) ≡ isInThree x
 three-kept speed.Missing = refl
+three-kept (speed.Above s) = refl
 three-kept (speed.Is s) = ⊎-elim (λ h. rw (le-leb 99 s h)) (λ h. rw (lt-leb 99 s h, lt-leb 99 s h)) (reached 99 s)
 
 pub needs-kept : (s : Surface) → needsOf (begunSurface s) ≡ needsOf s

@@ -44,6 +44,7 @@ fn is_in_three(speed: Speed) -> bool
     match speed {
         Speed::Missing => false,
         Speed::Is(n) => 99 <= n,
+        Speed::Above(_) => false,
     }
 }
 

@@ -29,15 +29,15 @@ use Rattle.taf_laws.proofs.Reports.{pieces-back}
 -- ---- how long it is
 
 -- The groups of a record can be joined and cut, and hold only bytes that a text may hold: the main part and sixteen changes.
-pub groups-sizes : (t : Taf) → TafArrays t → judgeOf t ≡ judged.Fine → Sizes 1937 (groupsOf t)
+pub groups-sizes : (t : Taf) → TafArrays t → judgeOf t ≡ judged.Fine → Sizes 1971 (groupsOf t)
 unfolding groupsOf
 groups-sizes t arrays e =
     let f = fair t e in
-    let room : rowRoom sizes (row part.Main) ≤ 129 = unfold row in omega arith in
+    let room : rowRoom sizes (row part.Main) ≤ 131 = unfold row in omega arith in
     sizes-append (written (row part.Main) (t .leg)) _ (sizes-more room (kept-sizes (kept-main t arrays f))) (changes-sizes t (listed t arrays f))
 
 -- HOW LONG THE CANONICAL TEXT IS, at most.
-pub length-canonical : (t : Taf) → TafArrays t → judgeOf t ≡ judged.Fine → length (canonicalOf t) ≤ 1937
+pub length-canonical : (t : Taf) → TafArrays t → judgeOf t ≡ judged.Fine → length (canonicalOf t) ≤ 1971
 unfolding canonicalOf
 length-canonical t arrays e = joined-short (groupsOf t) (unfold groupsOf row in omega arith) (groups-sizes t arrays e)
 

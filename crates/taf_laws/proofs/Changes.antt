@@ -91,13 +91,13 @@ part-change (opening.Probable n) = refl
 part-change (opening.ProbablyTemporary n) = refl
 part-change opening.From = refl
 
-change-room : (w : Part) → isMain w ≡ false → rowRoom sizes (row w) ≤ 100
+change-room : (w : Part) → isMain w ≡ false → rowRoom sizes (row w) ≤ 102
 unfolding row
 change-room part.Main e = absurd (false≢true (sym e))
 change-room part.Changing e = omega arith
 change-room part.From e = omega arith
 
-change-sizes : (c : Change) → Sound c → Sizes 113 (showChange c)
+change-sizes : (c : Change) → Sound c → Sizes 115 (showChange c)
 unfolding showChange
 change-sizes c s =
     sizes-append (showOpening (c .opening) (c .period)) (written (row (partOf (c .opening))) (legOf c))
@@ -105,8 +105,8 @@ change-sizes c s =
     (sizes-more (change-room (partOf (c .opening)) (part-change (c .opening))) (kept-sizes (kept-change c (s .0) (s .1))))
 
 -- sixteen changes, PROB30 TEMPO each
-pub changes-sizes : (t : Taf) → Listed t → Sizes 1808 (showEach (take (t .changes .count) (t .changes .items)))
-changes-sizes t l = list-sizes showChange showEach refl (λ c cs. refl) l 113 change-sizes
+pub changes-sizes : (t : Taf) → Listed t → Sizes 1840 (showEach (take (t .changes .count) (t .changes .items)))
+changes-sizes t l = list-sizes showChange showEach refl (λ c cs. refl) l 115 change-sizes
 
 -- ---- a part that is read back: written as it was, and judged fine as it was
 

@@ -1,8 +1,8 @@
--- How far off a wind, a variation and a visibility are read back: a direction by less than ten degrees on the circle, a visibility on its scale, not
+-- How far off a wind, a variation and a visibility are read back: a direction by less than ten degrees on the circle, a speed as its class, a visibility on its scale, not
 -- above its value and within its class.
 -- Assumes nothing.
 use Prim.Native.Nat.{ℕ}
-use mathlib.Core.Path.{_≡_}
+use mathlib.Core.Path.{_≡_, refl}
 use mathlib.Core.Bool.{Bool, true}
 use lib.Dec.{leb, eqb}
 use Rattle.text.specs.declared.kinds.Judged.the-variants as judged
@@ -19,14 +19,22 @@ use Rattle.record.specs.declared.aerodrome.View.the-variants as view
 use Rattle.record.proofs.Near.{Near, degrees-near, DirectionNear, direction-near}
 use Rattle.elements.specs.Wind.{extremesFit, judgeWind, judgeVariation, classExtremes, classVariation, classWind}
 use Rattle.elements.specs.Visibility.{viewFits, classView}
-use Rattle.wind.proofs.RoundTripWind.{direction-fits}
+use Rattle.wind.proofs.SpeedLaws.{SpeedKept}
+use Rattle.wind.proofs.RoundTripWind.{direction-fits, mean-kept, gust-kept}
 use Rattle.wind.proofs.RoundTripVariation.{judged-fine}
 
 -- ---- directions
 
--- the wind: all but its direction is read back as it was
-pub wind-near : (forecast : Bool) (w : Wind) → judgeWind forecast w ≡ judged.Fine → DirectionNear (w .direction) (classWind w .direction)
-wind-near forecast w e = direction-near (w .direction) (direction-fits forecast w e)
+-- the wind: its direction is read back near, each speed as its class
+pub record WindNear (w q : Wind) : Type 0 where
+  pub direction : DirectionNear (w .direction) (q .direction)
+  pub speed : SpeedKept (w .unit) (w .speed) (q .speed)
+  pub gust : SpeedKept (w .unit) (w .gust) (q .gust)
+  pub unit : q .unit ≡ w .unit
+
+pub wind-near : (forecast : Bool) (w : Wind) → judgeWind forecast w ≡ judged.Fine → WindNear w (classWind w)
+wind-near forecast w e =
+    record { direction = direction-near (w .direction) (direction-fits forecast w e); speed = mean-kept forecast w e; gust = gust-kept forecast w e; unit = refl }
 
 pub data ExtremesNear : Extremes → Extremes → Type 0 where
   no-extremes : ExtremesNear extremes.Missing extremes.Missing

@@ -1,13 +1,9 @@
--- What a group's parts come to, as the code finds them: three figures that are read as a direction or not, a gust by what its figures are read as, a wind by its parts.
+-- What a group's parts come to, as the code finds them: three figures that are read as a direction or not, a wind by its parts.
 -- Assumes nothing.
 use Prim.Native.Nat.{ℕ, _%_}
 use mathlib.Core.Path.{_≡_, refl, sym, ap, _∙_}
 use mathlib.Core.Bool.{Bool, true, false, cond, _&&_, false≢true}
 use lib.Dec.{leb, eqb}
-use borrow.Author.Tests.{ne-eqb}
-use Rattle.figures.proofs.Impossible.{impossible}
-use Rattle.text.specs.declared.kinds.Refusal.{Refusal}
-use Rattle.shapes.specs.declared.kinds.Value.{Value}
 use Rattle.shapes.proofs.Patterns.{both}
 use Rattle.scales.specs.declared.kinds.Reading.{Reading}
 use Rattle.scales.specs.declared.kinds.Reading.the-variants as reading
@@ -16,14 +12,10 @@ use Rattle.scales.proofs.DirectionLaws.{ddd-is}
 use Rattle.places.specs.Engine.{Read, Good, Bad}
 use Rattle.record.specs.declared.values.Direction.{Direction}
 use Rattle.record.specs.declared.values.Speed.{Speed}
-use Rattle.record.specs.declared.values.Speed.the-variants as speed
 use Rattle.record.specs.declared.aerodrome.Unit.{Unit}
 use Rattle.elements.specs.Parts.{wrong, used, agreeing, then}
-use Rattle.elements.specs.Wind.{speedOf, gustOf, windAgrees, windWith}
-use Rattle.wind.specs.declared.kinds.FiguresRead.{FiguresRead}
-use Rattle.wind.specs.declared.kinds.FiguresRead.the-variants as found
-use Rattle.wind.specs.declared.kinds.SpeedRead.the-variants as gust
-use Rattle.wind.specs.Parts.{asDirection, asFigures, asSpeed, windOf, isUsed}
+use Rattle.elements.specs.Wind.{windAgrees, windWith}
+use Rattle.wind.specs.Parts.{asDirection, asSpeed, windOf, isUsed}
 
 -- ---- three figures that are read as a direction, and two groups of them of which one is not
 
@@ -52,27 +44,10 @@ module _ {x y : Bool} (a b : ℕ) (first : x ≡ isUsed (dddReading a)) (second 
       go (reading.Is d) r h = rw (not-used r h)
       go reading.Unused r h = refl
 
--- ---- a gust, by what its figures are read as
-
-read-on : (x : Read ℕ) (n : ℕ) → asFigures x ≡ found.Good n → gust.Good (speed.Is n) ≡ asSpeed (then x (λ m. Good (speed.Is m)))
-read-on (Good m) n e = cc
-read-on (Bad f) n e = impossible (cc)
-
-refused-on : (x : Read ℕ) (f : Refusal) → asFigures x ≡ found.Bad f → gust.Bad f ≡ asSpeed (then x (λ m. Good (speed.Is m)))
-refused-on (Good m) f e = impossible (cc)
-refused-on (Bad g) f e = cc
-
-module _ (v : Value) (there : v .which ≡ 2 → ⊥) {s : FiguresRead} (asked : s ≡ asFigures (speedOf v)) where
-  pub gust-read : {n : ℕ} → s ≡ found.Good n → gust.Good (speed.Is n) ≡ asSpeed (gustOf v)
-  gust-read {n} is = rw (ne-eqb _ _ there) (read-on (speedOf v) n (sym asked ∙ is))
-
-  pub gust-refused : {f : Refusal} → s ≡ found.Bad f → gust.Bad f ≡ asSpeed (gustOf v)
-  gust-refused {f} is = rw (ne-eqb _ _ there) (refused-on (speedOf v) f (sym asked ∙ is))
-
 -- ---- a wind, by what its parts are read as
 
-pub parts-make : (u : Unit) (x : Read Direction) (y : Read ℕ) (z : Read Speed)
-    → windOf u (asDirection x) (asFigures y) (asSpeed z)
+pub parts-make : (u : Unit) (x : Read Direction) (y z : Read Speed)
+    → windOf u (asDirection x) (asSpeed y) (asSpeed z)
     ≡ then x (λ d. then y (λ s. then z (λ g. agreeing (windAgrees d s g) (Good (windWith u d s g)))))
 parts-make u (Bad f) y z = refl
 parts-make u (Good d) (Bad f) z = refl

@@ -1,13 +1,13 @@
 -- The wind's round trip: what is judged fine is written as a group of the wind's shape, read back as its class, and written the same again.
 -- Assumes nothing.
-use Prim.Native.Nat.{ℕ}
+use Prim.Native.Nat.{ℕ, _≤_}
 use native.Mathlib.Omega.{arith}
-use mathlib.Core.Path.{_≡_, refl, ap, _∙_}
+use mathlib.Core.Path.{_≡_, refl, sym, ap, _∙_}
 use mathlib.Core.Bool.{Bool, true, false, cond, not, _&&_, false≢true}
 use mathlib.Core.List.{List, [], _∷_}
 use lib.ListN.{length, getD, replicate}
-use lib.Dec.{leb, ltb}
-use borrow.Author.Tests.{leb-true, leb-false, le-leb, lt-ltb}
+use lib.Dec.{leb, ltb, eqb}
+use borrow.Author.Tests.{leb-true, leb-false, le-leb, lt-ltb, eq-eqb}
 use Rattle.figures.specs.Quote.{bytes}
 use Rattle.figures.specs.declared.kinds.Field.the-variants as field
 use Rattle.text.specs.declared.kinds.Judged.the-variants as judged
@@ -20,8 +20,7 @@ use Rattle.shapes.proofs.Patterns.{both}
 use Rattle.shapes.proofs.Shapes.{scan-back, covered}
 use Rattle.scales.specs.Rounded.{roundedDirection}
 use Rattle.scales.proofs.DirectionLaws.{rounded-below, ddd-most, ddd-some, ddd-back, ddd-again}
-use Rattle.places.specs.Engine.{Group, Read, Good}
-use Rattle.elements.specs.Parts.{then}
+use Rattle.places.specs.Engine.{Group, Good}
 use Rattle.elements.proofs.Scanned.{print-enough}
 use Rattle.record.specs.declared.values.Direction.{Direction}
 use Rattle.record.specs.declared.values.Direction.the-variants as direction
@@ -33,7 +32,9 @@ use Rattle.record.specs.declared.aerodrome.Wind.{Wind}
 use Rattle.record.specs.Classes.{classDirection}
 use Rattle.record.proofs.Near.{directionFits}
 use Rattle.record.specs.Missing.{noSpeed}
-use Rattle.elements.specs.Wind.{windShape, unitOf, speedOf, gustOf, directionOf, isCalm, windAgrees, windWith, isNoWind, windBy, readWind, numbered, directionValue, speedValue, gustValue, unitValue, showWind, hasUnit, gustFits, speedFits, windFits, speedsAgree, judgeWind, classWind}
+use Rattle.record.proofs.Blanks.{speed-blank}
+use Rattle.elements.specs.Wind.{windShape, unitOf, lastExact, speedOf, gustOf, directionOf, windAgrees, windWith, isNoWind, windBy, readWind, classSpeed, numbered, directionValue, speedValue, gustValue, unitValue, windValues, showWind, hasUnit, gustFits, speedFits, windFits, judgeWind, classWind}
+use Rattle.wind.proofs.SpeedLaws.{last-small, SpeedKept, no-speed, exact, over, above, speed-kept, own-class, missing-classed, class-has}
 
 -- ---- the shape
 
@@ -44,10 +45,10 @@ abbrev directions : Part
 directions = bytes "###" ∷ bytes "VRB" ∷ []
 
 abbrev speeds : Part
-speeds = bytes "###" ∷ bytes "##" ∷ []
+speeds = bytes "###" ∷ bytes "##" ∷ bytes "P###" ∷ bytes "P##" ∷ []
 
 abbrev gusts : Part
-gusts = bytes "G###" ∷ bytes "G##" ∷ [] ∷ []
+gusts = bytes "G###" ∷ bytes "G##" ∷ bytes "GP###" ∷ bytes "GP##" ∷ [] ∷ []
 
 abbrev units : Part
 units = bytes "KT" ∷ bytes "MPS" ∷ bytes "KMH" ∷ []
@@ -83,23 +84,34 @@ direction-said direction.Variable h = (refl, refl)
 direction-said (direction.Degrees d) h = (refl, omega (arith, ddd-most d))
 
 -- three figures from 100 on, and two below it
-number-said : (a b : Pattern) (others : Part) → fieldWidth a ≡ 3 → fieldWidth b ≡ 2 → (n : ℕ) → leb n 199 ≡ true
+number-said : (a b : Pattern) (others : Part) → fieldWidth a ≡ 3 → fieldWidth b ≡ 2 → (n : ℕ) → n ≤ 199
     → Said (a ∷ b ∷ others) (numbered (cond (leb 100 n) 0 1) (field.Number n))
 number-said a b others three two n h = go (leb 100 n) refl
   where
     go : (x : Bool) → leb 100 n ≡ x → Said (a ∷ b ∷ others) (numbered (cond x 0 1) (field.Number n))
-    go true e = (lt-ltb 0 (length (a ∷ b ∷ others)) (omega arith), rw three (omega (arith, leb-true n 199 h)))
+    go true e = (lt-ltb 0 (length (a ∷ b ∷ others)) (omega arith), rw three (omega (arith, h)))
     go false e = (lt-ltb 1 (length (a ∷ b ∷ others)) (omega arith), rw two (omega (arith, leb-false 100 n e)))
 
-speed-said : (s : Speed) → gustFits s ≡ true → Said speeds (speedValue s)
+above-said : (u : Unit) → Said speeds (speedValue (speed.Above (lastExact u))) × Said gusts (gustValue (speed.Above (lastExact u)))
 unfolding leading
-speed-said speed.Missing h = (refl, tt)
-speed-said (speed.Is n) h = number-said _ _ [] refl refl n h
+above-said unit.Missing = ((refl, omega arith), (refl, omega arith))
+above-said unit.Knots = ((refl, omega arith), (refl, omega arith))
+above-said unit.MetresPerSecond = ((refl, omega arith), (refl, omega arith))
+above-said unit.KilometresPerHour = ((refl, omega arith), (refl, omega arith))
 
-gust-said : (s : Speed) → gustFits s ≡ true → Said gusts (gustValue s)
+speed-said : {u : Unit} {s q : Speed} → SpeedKept u s q → Said speeds (speedValue q)
 unfolding leading
-gust-said speed.Missing h = (refl, refl)
-gust-said (speed.Is n) h = number-said _ _ ([] ∷ []) refl refl n h
+speed-said no-speed = (refl, tt)
+speed-said {u} (exact {n} h) = number-said _ _ (bytes "P###" ∷ bytes "P##" ∷ []) refl refl n (omega (arith, last-small u))
+speed-said {u} (over h) = above-said u .0
+speed-said {u} above = above-said u .0
+
+gust-said : {u : Unit} {s q : Speed} → SpeedKept u s q → Said gusts (gustValue q)
+unfolding leading
+gust-said no-speed = (refl, refl)
+gust-said {u} (exact {n} h) = number-said _ _ (bytes "GP###" ∷ bytes "GP##" ∷ [] ∷ []) refl refl n (omega (arith, last-small u))
+gust-said {u} (over h) = above-said u .1
+gust-said {u} above = above-said u .1
 
 unit-said : (u : Unit) → hasUnit u ≡ true → Said units (unitValue u)
 unfolding leading
@@ -108,42 +120,53 @@ unit-said unit.Knots h = (refl, refl)
 unit-said unit.MetresPerSecond h = (refl, refl)
 unit-said unit.KilometresPerHour h = (refl, refl)
 
-missing-fits : (s : Speed) → noSpeed s ≡ true → gustFits s ≡ true
-missing-fits speed.Missing h = refl
-missing-fits (speed.Is n) h = absurd (false≢true h)
+-- a speed that fits is a gust that does, and is there
+speed-fits : (u : Unit) (s : Speed) → speedFits u s ≡ true → (gustFits u s ≡ true) × (noSpeed s ≡ false)
+speed-fits u speed.Missing h = absurd (false≢true h)
+speed-fits u (speed.Is n) h = (h, refl)
+speed-fits u (speed.Above n) h = (h, refl)
 
-speed-fits : (s : Speed) → speedFits s ≡ true → gustFits s ≡ true
-speed-fits speed.Missing h = absurd (false≢true h)
-speed-fits (speed.Is n) h = h
-
-parts-fit : (forecast : Bool) (d : Direction) (s g : Speed) → windFits forecast d s g ≡ true
-    → (directionFits d ≡ true) × (gustFits s ≡ true) × (gustFits g ≡ true)
-parts-fit forecast direction.Missing s g h =
+parts-fit : (forecast : Bool) (u : Unit) (d : Direction) (s g : Speed) → windFits forecast u d s g ≡ true
+    → (directionFits d ≡ true) × (gustFits u s ≡ true) × (gustFits u g ≡ true)
+parts-fit forecast u direction.Missing s g h =
     let t = both (not forecast && noSpeed s) (noSpeed g) h in
-    (refl, missing-fits s (both (not forecast) (noSpeed s) (t .0) .1), missing-fits g (t .1))
-parts-fit forecast direction.Calm s g h = let t = both (speedFits s) (gustFits g) h in (refl, speed-fits s (t .0), t .1)
-parts-fit forecast direction.Variable s g h = let t = both (speedFits s) (gustFits g) h in (refl, speed-fits s (t .0), t .1)
-parts-fit forecast (direction.Degrees d) s g h =
-    let t = both (leb d 359 && speedFits s) (gustFits g) h in
-    let u = both (leb d 359) (speedFits s) (t .0) in
-    (u .0, speed-fits s (u .1), t .1)
+    (refl, rw (both (not forecast) (noSpeed s) (t .0) .1), rw (t .1))
+parts-fit forecast u direction.Calm s g h = let t = both (speedFits u s) (gustFits u g) h in (refl, speed-fits u s (t .0) .0, t .1)
+parts-fit forecast u direction.Variable s g h = let t = both (speedFits u s) (gustFits u g) h in (refl, speed-fits u s (t .0) .0, t .1)
+parts-fit forecast u (direction.Degrees d) s g h =
+    let t = both (leb d 359 && speedFits u s) (gustFits u g) h in
+    let r = both (leb d 359) (speedFits u s) (t .0) in
+    (r .0, speed-fits u s (r .1) .0, t .1)
 
 -- ---- what was printed is read as its class
 
-speed-back : (n : ℕ) → leb n 199 ≡ true → speedOf (numbered (cond (leb 100 n) 0 1) (field.Number n)) ≡ Good n
-speed-back n h = go (leb 100 n) refl
-  where
-    go : (x : Bool) → leb 100 n ≡ x → speedOf (numbered (cond x 0 1) (field.Number n)) ≡ Good n
-    go true e = rw (e, h)
-    go false e = refl
+-- a speed that is there; a gust is read as a speed is
+above-back : (u : Unit) → (speedOf u (speedValue (speed.Above (lastExact u))) ≡ Good (speed.Above (lastExact u)))
+    × (gustOf u (gustValue (speed.Above (lastExact u))) ≡ Good (speed.Above (lastExact u)))
+above-back unit.Missing = (refl, refl)
+above-back unit.Knots = (refl, refl)
+above-back unit.MetresPerSecond = (refl, refl)
+above-back unit.KilometresPerHour = (refl, refl)
 
-gust-back : (g : Speed) → gustFits g ≡ true → gustOf (gustValue g) ≡ Good g
-gust-back speed.Missing h = refl
-gust-back (speed.Is n) h = go (leb 100 n) (speed-back n h)
+exact-back : (u : Unit) (n : ℕ) → n ≤ lastExact u → (speedOf u (speedValue (speed.Is n)) ≡ Good (speed.Is n)) × (gustOf u (gustValue (speed.Is n)) ≡ Good (speed.Is n))
+exact-back u n h = go (leb 100 n) refl
   where
-    go : (x : Bool) → speedOf (numbered (cond x 0 1) (field.Number n)) ≡ Good n → gustOf (numbered (cond x 0 1) (field.Number n)) ≡ Good (speed.Is n)
-    go true e = ap (λ (r : Read ℕ). then r (λ m. Good (speed.Is m))) e
-    go false e = ap (λ (r : Read ℕ). then r (λ m. Good (speed.Is m))) e
+    go : (x : Bool) → leb 100 n ≡ x
+        → (speedOf u (numbered (cond x 0 1) (field.Number n)) ≡ Good (speed.Is n)) × (gustOf u (numbered (cond x 0 1) (field.Number n)) ≡ Good (speed.Is n))
+    go true e = let l = le-leb n 199 (omega (arith, last-small u)) in (rw (e, l), rw (e, l))
+    go false e = (refl, refl)
+
+speed-back : {u : Unit} {s q : Speed} → SpeedKept u s q → noSpeed s ≡ false → speedOf u (speedValue q) ≡ Good q
+speed-back no-speed there = absurd (false≢true (sym there))
+speed-back {u} (exact {n} h) there = exact-back u n h .0
+speed-back {u} (over h) there = above-back u .0
+speed-back {u} above there = above-back u .0
+
+gust-back : {u : Unit} {s q : Speed} → SpeedKept u s q → gustOf u (gustValue q) ≡ Good q
+gust-back no-speed = refl
+gust-back {u} (exact {n} h) = exact-back u n h .1
+gust-back {u} (over h) = above-back u .1
+gust-back {u} above = above-back u .1
 
 unit-back : (u : Unit) → hasUnit u ≡ true → unitOf (unitValue u .which) ≡ u
 unit-back unit.Missing h = absurd (false≢true h)
@@ -151,51 +174,43 @@ unit-back unit.Knots h = refl
 unit-back unit.MetresPerSecond h = refl
 unit-back unit.KilometresPerHour h = refl
 
--- a wind whose direction v is read as x
-known : (forecast : Bool) (v : Value) (x : Direction) (n : ℕ) (g : Speed) (u : Unit) → isNoWind v (speedValue (speed.Is n)) (gustValue g) ≡ false
-    → directionOf v ≡ Good x → leb n 199 ≡ true → gustFits g ≡ true → windAgrees x n g ≡ true → hasUnit u ≡ true
-    → windBy forecast v (speedValue (speed.Is n)) (gustValue g) (unitValue u) ≡ Good (windWith u x n g)
-unfolding windBy
-known forecast v x n g u there d s h e k = rw (there, d, speed-back n s, gust-back g h, e, unit-back u k)
-
 -- the class agrees where the wind does
-calm-classed : (d : Direction) → isCalm (classDirection d) ≡ isCalm d
-calm-classed direction.Missing = refl
-calm-classed direction.Calm = refl
-calm-classed direction.Variable = refl
-calm-classed (direction.Degrees d) = refl
+agree-classed : (d : Direction) (s g : Speed) → windAgrees (classDirection d) s g ≡ windAgrees d s g
+agree-classed direction.Missing s g = refl
+agree-classed direction.Calm s g = refl
+agree-classed direction.Variable s g = refl
+agree-classed (direction.Degrees d) s speed.Missing = refl
+agree-classed (direction.Degrees d) s (speed.Is g) = refl
+agree-classed (direction.Degrees d) s (speed.Above g) = refl
 
-agree-classed : (d : Direction) (s g : Speed) → speedsAgree (classDirection d) s g ≡ speedsAgree d s g
-agree-classed d speed.Missing g = refl
-agree-classed d (speed.Is s) speed.Missing = rw (calm-classed d)
-agree-classed d (speed.Is s) (speed.Is g) = rw (calm-classed d)
+-- a wind whose direction d is written as one that is there, and read as its class
+known : (forecast : Bool) (u : Unit) (d : Direction) (s g : Speed) → (v : Value) → directionValue d ≡ v → isNoWind v (speedValue (classSpeed u s)) (gustValue (classSpeed u g)) ≡ false
+    → directionOf v ≡ Good (classDirection d) → speedFits u s ≡ true → gustFits u g ≡ true → windAgrees d (classSpeed u s) (classSpeed u g) ≡ true
+    → windBy forecast u (directionValue d) (speedValue (classSpeed u s)) (gustValue (classSpeed u g)) ≡ Good (windWith u (classDirection d) (classSpeed u s) (classSpeed u g))
+unfolding windBy
+known forecast u d s g v is blows reads f h e =
+    let t = speed-fits u s f in
+    rw (is, blows, reads, speed-back (speed-kept u s (t .0)) (t .1), gust-back (speed-kept u g h), agree-classed d (classSpeed u s) (classSpeed u g) ∙ e)
 
--- the four values are read as the class
-values-back : (forecast : Bool) (d : Direction) (s g : Speed) (u : Unit) → hasUnit u ≡ true → windFits forecast d s g ≡ true → speedsAgree d s g ≡ true
-    → windBy forecast (directionValue d) (speedValue s) (gustValue g) (unitValue u)
-    ≡ Good (record { direction = classDirection d; speed = s; gust = g; unit = u })
-values-back forecast direction.Missing speed.Missing speed.Missing u k h e =
+-- the values are read as the class
+values-back : (forecast : Bool) (u : Unit) (d : Direction) (s g : Speed) → windFits forecast u d s g ≡ true → windAgrees d (classSpeed u s) (classSpeed u g) ≡ true
+    → windBy forecast u (directionValue d) (speedValue (classSpeed u s)) (gustValue (classSpeed u g)) ≡ Good (windWith u (classDirection d) (classSpeed u s) (classSpeed u g))
+values-back forecast u direction.Missing s g h e =
+    let t = both (not forecast && noSpeed s) (noSpeed g) h in
+    let r = both (not forecast) (noSpeed s) (t .0) in
     unfold windBy in
-    rw (both (not forecast) true (both (not forecast && true) true h .0) .0, unit-back u k)
-values-back forecast direction.Missing speed.Missing (speed.Is g) u k h e = absurd (false≢true (both (not forecast && true) false h .1))
-values-back forecast direction.Missing (speed.Is s) g u k h e =
-    absurd (false≢true (both (not forecast) false (both (not forecast && false) (noSpeed g) h .0) .1))
-values-back forecast direction.Calm speed.Missing g u k h e = absurd (false≢true h)
-values-back forecast direction.Calm (speed.Is s) g u k h e =
-    let t = both (leb s 199) (gustFits g) h in
-    known forecast (directionValue direction.Calm) direction.Calm s g u refl refl (t .0) (t .1) e k
-values-back forecast direction.Variable speed.Missing g u k h e = absurd (false≢true h)
-values-back forecast direction.Variable (speed.Is s) g u k h e =
-    let t = both (leb s 199) (gustFits g) h in
-    known forecast (directionValue direction.Variable) direction.Variable s g u refl refl (t .0) (t .1) e k
-values-back forecast (direction.Degrees d) speed.Missing g u k h e =
-    absurd (false≢true (both (leb d 359) false (both (leb d 359 && false) (gustFits g) h .0) .1))
-values-back forecast (direction.Degrees d) (speed.Is s) g u k h e =
-    let t = both (leb d 359 && leb s 199) (gustFits g) h in
-    let r = both (leb d 359) (leb s 199) (t .0) in
+    rw (speed-blank s (r .1), speed-blank g (t .1), r .0)
+values-back forecast u direction.Calm s g h e =
+    let t = both (speedFits u s) (gustFits u g) h in
+    known forecast u direction.Calm s g _ refl refl refl (t .0) (t .1) e
+values-back forecast u direction.Variable s g h e =
+    let t = both (speedFits u s) (gustFits u g) h in
+    known forecast u direction.Variable s g _ refl refl refl (t .0) (t .1) e
+values-back forecast u (direction.Degrees d) s g h e =
+    let t = both (leb d 359 && speedFits u s) (gustFits u g) h in
+    let r = both (leb d 359) (speedFits u s) (t .0) in
     let l = leb-true d 359 (r .0) in
-    known forecast (directionValue (direction.Degrees d)) (direction.Degrees (roundedDirection d)) s g u refl (rw (ddd-some d l, ddd-back d l)) (r .1) (t .1)
-    (agree-classed (direction.Degrees d) (speed.Is s) g ∙ e) k
+    known forecast u (direction.Degrees d) s g _ refl refl (rw (ddd-some d l, ddd-back d l)) (r .1) (t .1) e
 
 -- the class is written as the same values, and is in range
 direction-again : (d : Direction) → directionFits d ≡ true → directionValue (classDirection d) ≡ directionValue d
@@ -204,38 +219,65 @@ direction-again direction.Calm h = refl
 direction-again direction.Variable h = refl
 direction-again (direction.Degrees d) h = ap (λ (t : ℕ). numbered 0 (field.Number t)) (ddd-again d (leb-true d 359 h))
 
-fits-classed : (forecast : Bool) (d : Direction) (s g : Speed) → windFits forecast d s g ≡ true → windFits forecast (classDirection d) s g ≡ true
-fits-classed forecast direction.Missing s g h = h
-fits-classed forecast direction.Calm s g h = h
-fits-classed forecast direction.Variable s g h = h
-fits-classed forecast (direction.Degrees d) s g h =
-    let t = both (leb d 359 && speedFits s) (gustFits g) h in
-    rw (le-leb (roundedDirection d) 359 (omega (arith, rounded-below d)), both (leb d 359) (speedFits s) (t .0) .1, t .1)
+fits-classed : (forecast : Bool) (u : Unit) (d : Direction) (s g : Speed) → windFits forecast u d s g ≡ true
+    → windFits forecast u (classDirection d) (classSpeed u s) (classSpeed u g) ≡ true
+fits-classed forecast u d s g h = go d h
+  where
+    top : eqb (lastExact u) (lastExact u) ≡ true
+    top = eq-eqb (lastExact u) (lastExact u) refl
+
+    mean : speedFits u s ≡ true → speedFits u (classSpeed u s) ≡ true
+    mean = class-has (speedFits u) u s top
+
+    gust : gustFits u g ≡ true → gustFits u (classSpeed u g) ≡ true
+    gust = class-has (gustFits u) u g top
+
+    go : (d : Direction) → windFits forecast u d s g ≡ true → windFits forecast u (classDirection d) (classSpeed u s) (classSpeed u g) ≡ true
+    go direction.Missing h = rw (missing-classed u s, missing-classed u g) h
+    go direction.Calm h = let t = both (speedFits u s) (gustFits u g) h in rw (mean (t .0), gust (t .1))
+    go direction.Variable h = let t = both (speedFits u s) (gustFits u g) h in rw (mean (t .0), gust (t .1))
+    go (direction.Degrees d) h =
+        let t = both (leb d 359 && speedFits u s) (gustFits u g) h in
+        rw (le-leb (roundedDirection d) 359 (omega (arith, rounded-below d)), mean (both (leb d 359) (speedFits u s) (t .0) .1), gust (t .1))
 
 -- ---- the wind
 
 module _ (forecast : Bool) (w : Wind) (e : judgeWind forecast w ≡ judged.Fine) where
-  judged-fine : (hasUnit (w .unit) ≡ true) × (windFits forecast (w .direction) (w .speed) (w .gust) ≡ true) × (speedsAgree (w .direction) (w .speed) (w .gust) ≡ true)
+  abbrev mean : Speed
+  mean = classSpeed (w .unit) (w .speed)
+
+  abbrev gust : Speed
+  gust = classSpeed (w .unit) (w .gust)
+
+  judged-fine : (hasUnit (w .unit) ≡ true) × (windFits forecast (w .unit) (w .direction) (w .speed) (w .gust) ≡ true) × (windAgrees (w .direction) mean gust ≡ true)
   unfolding judgeWind
   judged-fine =
-      let t = fine (hasUnit (w .unit) && windFits forecast (w .direction) (w .speed) (w .gust)) (speedsAgree (w .direction) (w .speed) (w .gust)) e in
-      let u = both (hasUnit (w .unit)) (windFits forecast (w .direction) (w .speed) (w .gust)) (t .0) in
+      let t = fine (hasUnit (w .unit) && windFits forecast (w .unit) (w .direction) (w .speed) (w .gust)) (windAgrees (w .direction) mean gust) e in
+      let u = both (hasUnit (w .unit)) (windFits forecast (w .unit) (w .direction) (w .speed) (w .gust)) (t .0) in
       (u .0, u .1, t .1)
 
+  fit : (directionFits (w .direction) ≡ true) × (gustFits (w .unit) (w .speed) ≡ true) × (gustFits (w .unit) (w .gust) ≡ true)
+  fit = parts-fit forecast (w .unit) (w .direction) (w .speed) (w .gust) (judged-fine .1)
+
   pub direction-fits : directionFits (w .direction) ≡ true
-  direction-fits = parts-fit forecast (w .direction) (w .speed) (w .gust) (judged-fine .1) .0
+  direction-fits = fit .0
+
+  -- mean and gust are each read back as their class
+  pub mean-kept : SpeedKept (w .unit) (w .speed) mean
+  mean-kept = speed-kept (w .unit) (w .speed) (fit .1)
+
+  pub gust-kept : SpeedKept (w .unit) (w .gust) gust
+  gust-kept = speed-kept (w .unit) (w .gust) (fit .2)
 
   abbrev shown : List Value
-  shown = directionValue (w .direction) ∷ speedValue (w .speed) ∷ gustValue (w .gust) ∷ unitValue (w .unit) ∷ []
+  shown = windValues (w .unit) (w .direction) mean gust
 
   -- what was printed is scanned as it was, and so read
   scan-shown : scanOf windShape (showWind w) ≡ record { fits = true; values = padded shown }
   unfolding showWind
   scan-shown =
-      let j = judged-fine in
-      let p = parts-fit forecast (w .direction) (w .speed) (w .gust) (j .1) in
-      scan-four (directionValue (w .direction)) (speedValue (w .speed)) (gustValue (w .gust)) (unitValue (w .unit))
-      (direction-said (w .direction) (p .0), (speed-said (w .speed) (p .1), (gust-said (w .gust) (p .2), (unit-said (w .unit) (j .0), tt))))
+      scan-four (directionValue (w .direction)) (speedValue mean) (gustValue gust) (unitValue (w .unit))
+      (direction-said (w .direction) direction-fits, (speed-said mean-kept, (gust-said gust-kept, (unit-said (w .unit) (judged-fine .0), tt))))
 
   pub wind-shaped : (hasShape windShape (showWind w) ≡ true) × (hasAny (spellings (partsOf windShape)) (showWind w) ≡ true)
   unfolding hasShape
@@ -243,21 +285,19 @@ module _ (forecast : Bool) (w : Wind) (e : judgeWind forecast w ≡ judged.Fine)
       let has : hasShape windShape (showWind w) ≡ true = ap (λ (s : Scan). s .fits) scan-shown in
       (has, wind-covered (showWind w) has)
 
-  read-shown : readWind forecast (showWind w)
-      ≡ windBy forecast (directionValue (w .direction)) (speedValue (w .speed)) (gustValue (w .gust)) (unitValue (w .unit))
+  read-shown : readWind forecast (showWind w) ≡ windBy forecast (w .unit) (directionValue (w .direction)) (speedValue mean) (gustValue gust)
   unfolding readWind
-  read-shown = rw scan-shown
+  read-shown = rw (scan-shown, unit-back (w .unit) (judged-fine .0))
 
   pub wind-back : readWind forecast (showWind w) ≡ Good (classWind w)
-  wind-back = let j = judged-fine in read-shown ∙ values-back forecast (w .direction) (w .speed) (w .gust) (w .unit) (j .0) (j .1) (j .2)
+  wind-back = let j = judged-fine in read-shown ∙ values-back forecast (w .unit) (w .direction) (w .speed) (w .gust) (j .1) (j .2)
 
   pub wind-again : showWind (classWind w) ≡ showWind w
   unfolding showWind
-  wind-again =
-      ap (λ (v : Value). printOf windShape (v ∷ speedValue (w .speed) ∷ gustValue (w .gust) ∷ unitValue (w .unit) ∷ [])) (direction-again (w .direction) direction-fits)
+  wind-again = rw (own-class mean-kept, own-class gust-kept, direction-again (w .direction) direction-fits)
 
   pub wind-classed : judgeWind forecast (classWind w) ≡ judged.Fine
   unfolding judgeWind
   wind-classed =
       let j = judged-fine in
-      rw (j .0, fits-classed forecast (w .direction) (w .speed) (w .gust) (j .1), agree-classed (w .direction) (w .speed) (w .gust), j .2)
+      rw (own-class mean-kept, own-class gust-kept, j .0, fits-classed forecast (w .unit) (w .direction) (w .speed) (w .gust) (j .1), agree-classed (w .direction) mean gust, j .2)

@@ -1,6 +1,5 @@
 -- What the reader finds in the parts of a wind and of a visibility: the definition's readings, as enums of the code.
 -- Assumes nothing: these are definitions.
-use Prim.Native.Nat.{ℕ}
 use mathlib.Core.Bool.{Bool, true, false, not}
 use Rattle.places.specs.Engine.{Read, Good, Bad}
 use Rattle.scales.specs.declared.kinds.Reading.{Reading}
@@ -15,8 +14,6 @@ use Rattle.elements.specs.Parts.{used, provided, agreeing}
 use Rattle.elements.specs.Wind.{windAgrees, windWith}
 use Rattle.wind.specs.declared.kinds.DirectionRead.{DirectionRead}
 use Rattle.wind.specs.declared.kinds.DirectionRead.the-variants as direction
-use Rattle.wind.specs.declared.kinds.FiguresRead.{FiguresRead}
-use Rattle.wind.specs.declared.kinds.FiguresRead.the-variants as figures
 use Rattle.wind.specs.declared.kinds.SpeedRead.{SpeedRead}
 use Rattle.wind.specs.declared.kinds.SpeedRead.the-variants as speed
 
@@ -24,20 +21,16 @@ abbrev pub asDirection : Read Direction → DirectionRead
 asDirection (Good x) = direction.Good x
 asDirection (Bad f) = direction.Bad f
 
-abbrev pub asFigures : Read ℕ → FiguresRead
-asFigures (Good n) = figures.Good n
-asFigures (Bad f) = figures.Bad f
-
 abbrev pub asSpeed : Read Speed → SpeedRead
 asSpeed (Good x) = speed.Good x
 asSpeed (Bad f) = speed.Bad f
 
 -- the wind that the parts make, or the first refusal among them
-abbrev pub windOf : Unit → DirectionRead → FiguresRead → SpeedRead → Read Wind
+abbrev pub windOf : Unit → DirectionRead → SpeedRead → SpeedRead → Read Wind
 windOf u (direction.Bad f) s g = Bad f
-windOf u (direction.Good x) (figures.Bad f) g = Bad f
-windOf u (direction.Good x) (figures.Good y) (speed.Bad f) = Bad f
-windOf u (direction.Good x) (figures.Good y) (speed.Good z) = agreeing (windAgrees x y z) (Good (windWith u x y z))
+windOf u (direction.Good x) (speed.Bad f) g = Bad f
+windOf u (direction.Good x) (speed.Good y) (speed.Bad f) = Bad f
+windOf u (direction.Good x) (speed.Good y) (speed.Good z) = agreeing (windAgrees x y z) (Good (windWith u x y z))
 
 -- three figures that are read as a direction
 abbrev pub isUsed : Reading → Bool

@@ -2,7 +2,7 @@
 use record::values::Direction;
 use record::values::Speed;
 ghost use mathlib.Core.Path.{_≡_};
-ghost use Rattle.elements.specs.Wind.{isCalm, gustAgrees, windAgrees};
+ghost use Rattle.elements.specs.Wind.{isCalm, isBelow, gustAgrees, windAgrees};
 
 fn is_calm(d: Direction) -> bool
     ensures { λ r. ⌜ r ≡ isCalm d ⌝ }
@@ -15,19 +15,31 @@ fn is_calm(d: Direction) -> bool
     }
 }
 
-fn gust_agrees(d: Direction, mean: u32, gust: Speed) -> bool
+// No gust that is a number is known to be over a mean that is "above" a number.
+fn is_below(mean: Speed, gust: u32) -> bool
+    ensures { λ r. ⌜ r ≡ isBelow mean gust ⌝ }
+{
+    match mean {
+        Speed::Missing => false,
+        Speed::Is(n) => n < gust,
+        Speed::Above(_) => false, // beside P
+    }
+}
+
+fn gust_agrees(d: Direction, mean: Speed, gust: Speed) -> bool
     ensures { λ r. ⌜ r ≡ gustAgrees d mean gust ⌝ }
 {
     match gust {
         Speed::Missing => true,
-        Speed::Is(g) => !is_calm(d) & (mean < g),
+        Speed::Is(g) => !is_calm(d) & is_below(mean, g),
+        Speed::Above(_) => !is_calm(d),
     }
 }
 
-pub fn wind_agrees(d: Direction, mean: u32, gust: Speed) -> bool
+pub fn wind_agrees(d: Direction, mean: Speed, gust: Speed) -> bool
     ensures { λ r. ⌜ r ≡ windAgrees d mean gust ⌝ }
 {
-    let still = mean == 0;
+    let still = mean.is_still();
     if is_calm(d) {
         still & gust_agrees(d, mean, gust)
     } else {

@@ -2,7 +2,10 @@
 // TAF nothing is missing.
 use crate::agree::wind_agrees;
 use crate::directions::degrees_text;
+use crate::speeds::class_speed;
+use crate::speeds::last_exact;
 use record::aerodrome::Extremes;
+use record::aerodrome::Unit;
 use record::aerodrome::Variation;
 use record::aerodrome::View;
 use record::aerodrome::Visibility;
@@ -12,50 +15,52 @@ use record::values::Speed;
 use text::judge::judge;
 use text::kinds::Judged;
 ghost use mathlib.Core.Path.{_≡_};
-ghost use Rattle.elements.specs.Wind.{gustFits, speedFits, windFits, speedsAgree, judgeWind, extremesFit, extremesAgree, judgeVariation};
+ghost use Rattle.elements.specs.Wind.{mostSpeed, speedFits, gustFits, windFits, judgeWind, extremesFit, extremesAgree, judgeVariation};
 ghost use Rattle.elements.specs.Visibility.{viewFits, judgeVisibility};
 
 // ---- wind
 
-fn gust_fits(s: Speed) -> bool
-    ensures { λ r. ⌜ r ≡ gustFits s ⌝ }
+// The greatest number that a record may hold.
+fn most_speed(unit: Unit) -> u32
+    ensures { λ r. ⌜ r ≡ mostSpeed unit ⌝ }
 {
-    match s {
-        Speed::Missing => true,
-        Speed::Is(n) => n <= 199,
+    match unit {
+        Unit::Missing => 0,
+        Unit::Knots => 199,
+        Unit::MetresPerSecond => 199,
+        Unit::KilometresPerHour => 999,
     }
 }
 
-fn speed_fits(s: Speed) -> bool
-    ensures { λ r. ⌜ r ≡ speedFits s ⌝ }
+fn speed_fits(unit: Unit, s: Speed) -> bool
+    ensures { λ r. ⌜ r ≡ speedFits unit s ⌝ }
 {
     match s {
         Speed::Missing => false,
-        Speed::Is(n) => n <= 199,
+        Speed::Is(n) => n <= most_speed(unit),
+        Speed::Above(n) => n == last_exact(unit),
     }
+}
+
+fn gust_fits(unit: Unit, g: Speed) -> bool
+    ensures { λ r. ⌜ r ≡ gustFits unit g ⌝ }
+{
+    g.is_missing() | speed_fits(unit, g)
 }
 
 // A wind is missing as a whole, or its speed is there.
-fn wind_fits(forecast: bool, d: Direction, s: Speed, g: Speed) -> bool
-    ensures { λ r. ⌜ r ≡ windFits forecast d s g ⌝ }
+fn wind_fits(forecast: bool, unit: Unit, d: Direction, s: Speed, g: Speed) -> bool
+    ensures { λ r. ⌜ r ≡ windFits forecast unit d s g ⌝ }
 {
     match d {
         Direction::Missing => !forecast & s.is_missing() & g.is_missing(),
-        Direction::Calm => speed_fits(s) & gust_fits(g),
-        Direction::Variable => speed_fits(s) & gust_fits(g),
-        Direction::Degrees(degrees) => (degrees <= 359) & speed_fits(s) & gust_fits(g),
+        Direction::Calm => speed_fits(unit, s) & gust_fits(unit, g),
+        Direction::Variable => speed_fits(unit, s) & gust_fits(unit, g),
+        Direction::Degrees(degrees) => (degrees <= 359) & speed_fits(unit, s) & gust_fits(unit, g),
     }
 }
 
-fn speeds_agree(d: Direction, s: Speed, g: Speed) -> bool
-    ensures { λ r. ⌜ r ≡ speedsAgree d s g ⌝ }
-{
-    match s {
-        Speed::Missing => true,
-        Speed::Is(mean) => wind_agrees(d, mean, g),
-    }
-}
-
+// The parts agree by the figures that would be written.
 pub fn judge_wind(forecast: bool, w: Wind) -> Judged
     ensures { λ r. ⌜ r ≡ judgeWind forecast w ⌝ }
 {
@@ -63,9 +68,11 @@ pub fn judge_wind(forecast: bool, w: Wind) -> Judged
     let speed = w.speed;
     let gust = w.gust;
     let unit = w.unit;
+    let mean_written = class_speed(unit, speed);
+    let gust_written = class_speed(unit, gust);
     judge(
-        !unit.is_missing() & wind_fits(forecast, direction, speed, gust),
-        speeds_agree(direction, speed, gust),
+        !unit.is_missing() & wind_fits(forecast, unit, direction, speed, gust),
+        wind_agrees(direction, mean_written, gust_written),
     )
 }
 

@@ -8,11 +8,6 @@ pub enum DirectionRead {
     Bad(Refusal),
 }
 
-pub enum FiguresRead {
-    Good(u32),
-    Bad(Refusal),
-}
-
 pub enum SpeedRead {
     Good(Speed),
     Bad(Refusal),

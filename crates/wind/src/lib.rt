@@ -4,4 +4,5 @@ pub mod directions;
 pub mod judge;
 pub mod kinds;
 pub mod read;
+pub mod speeds;
 pub mod write;

@@ -3,8 +3,8 @@
 use crate::agree::wind_agrees;
 use crate::directions::is_tens;
 use crate::kinds::DirectionRead;
-use crate::kinds::FiguresRead;
 use crate::kinds::SpeedRead;
+use crate::speeds::last_exact;
 use elements::kinds::Said;
 use figures::field;
 use figures::kinds::Field;
@@ -32,14 +32,14 @@ ghost use Rattle.shapes.specs.Shape.{hasShape, scanOf};
 ghost use Rattle.scales.specs.Metres.{visibility, metresReading};
 ghost use Rattle.places.specs.Engine.{Good};
 ghost use Rattle.elements.specs.Parts.{agreeing, isMissing};
-ghost use Rattle.elements.specs.Wind.{windShape, variationShape, unitOf, speedOf, gustOf, directionOf, windAgrees, windWith, isNoWind, windBy, readWind, readVariation};
+ghost use Rattle.elements.specs.Wind.{windShape, variationShape, unitOf, inWidth, speedBy, speedOf, gustOf, directionOf, windAgrees, windWith, isNoWind, windBy, readWind, readVariation};
 ghost use Rattle.elements.specs.Visibility.{visibilityShapes, readVisibility, isCavok};
 ghost use Rattle.elements.specs.Answers.{asWind, asVariation, asVisibility};
-ghost use Rattle.wind.specs.Parts.{asDirection, asFigures, asSpeed, windOf, seenBy, unseen};
+ghost use Rattle.wind.specs.Parts.{asDirection, asSpeed, windOf, seenBy, unseen};
 
 // ---- wind
 
-// Direction, speed, gust and unit: "###|VRB ###|## G###|G##| KT|MPS|KMH" by code made for it.
+// Direction, speed, gust and unit: "###|VRB ###|##|P###|P## G###|G##|GP###|GP##| KT|MPS|KMH" by code made for it.
 fn scan_wind(g: &[u8]) -> Scan
     ensures { λ r. ⌜ r ≡ scanOf windShape (now (g .entry)) ⌝ }
 {
@@ -47,11 +47,15 @@ fn scan_wind(g: &[u8]) -> Scan
     let variable = word_or(g, 0, 1, b"VRB", none);
     let direction = figures_or(g, 0, 0, b"###", 0, 3, variable);
     let at = direction.past;
-    let two_figures = figures_or(g, at, 1, b"##", 0, 2, none);
+    let above_two = figures_or(g, at, 3, b"P##", 1, 2, none);
+    let above_three = figures_or(g, at, 2, b"P###", 1, 3, above_two);
+    let two_figures = figures_or(g, at, 1, b"##", 0, 2, above_three);
     let speed = figures_or(g, at, 0, b"###", 0, 3, two_figures);
     let at = speed.past;
-    let steady = nothing(2, at);
-    let two_figures = figures_or(g, at, 1, b"G##", 1, 2, steady);
+    let steady = nothing(4, at);
+    let above_two = figures_or(g, at, 3, b"GP##", 2, 2, steady);
+    let above_three = figures_or(g, at, 2, b"GP###", 2, 3, above_two);
+    let two_figures = figures_or(g, at, 1, b"G##", 1, 2, above_three);
     let gust = figures_or(g, at, 0, b"G###", 1, 3, two_figures);
     let at = gust.past;
     let kilometres = word_or(g, at, 2, b"KMH", none);
@@ -90,37 +94,53 @@ fn is_missing(f: Field) -> bool
     }
 }
 
-// Two figures below 100, three for 100 to 199: the alternative of three figures is number 0.
-fn speed_of(v: Value) -> FiguresRead
-    ensures { λ r. ⌜ r ≡ asFigures (speedOf v) ⌝ }
+// Two figures below 100, three for 100 to 199: the alternatives of three figures are number 0 and, after P, number 2.
+fn in_width(which: usize, n: u32) -> bool
+    ensures { λ r. ⌜ r ≡ inWidth which n ⌝ }
+{
+    if (which == 0) | (which == 2) {
+        (100 <= n) & (n <= 199)
+    } else {
+        true
+    }
+}
+
+// After P stands the greatest speed that is written as a number in this unit, and no other.
+fn speed_by(unit: Unit, which: usize, n: u32) -> SpeedRead
+    ensures { λ r. ⌜ r ≡ asSpeed (speedBy unit which n) ⌝ }
+{
+    if which <= 1 {
+        SpeedRead::Good(Speed::Is(n))
+    } else if n == last_exact(unit) {
+        SpeedRead::Good(Speed::Above(n))
+    } else {
+        SpeedRead::Bad(Refusal::Figure)
+    }
+}
+
+fn speed_of(unit: Unit, v: Value) -> SpeedRead
+    ensures { λ r. ⌜ r ≡ asSpeed (speedOf unit v) ⌝ }
 {
     let which = v.which;
     let f = v.field;
     let Field::Number(n) = f else {
-        return FiguresRead::Bad(Refusal::Figure);
+        return SpeedRead::Bad(Refusal::Figure);
     };
-    if which == 0 {
-        if (100 <= n) & (n <= 199) {
-            FiguresRead::Good(n)
-        } else {
-            FiguresRead::Bad(Refusal::Figure)
-        }
+    if in_width(which, n) {
+        speed_by(unit, which, n)
     } else {
-        FiguresRead::Good(n)
+        SpeedRead::Bad(Refusal::Figure)
     }
 }
 
-// Alternative number 2 of the gust is nothing.
-fn gust_of(v: Value) -> SpeedRead
-    ensures { λ r. ⌜ r ≡ asSpeed (gustOf v) ⌝ }
+// Alternative number 4 of the gust is nothing.
+fn gust_of(unit: Unit, v: Value) -> SpeedRead
+    ensures { λ r. ⌜ r ≡ asSpeed (gustOf unit v) ⌝ }
 {
-    if v.which == 2 {
-        return SpeedRead::Good(Speed::Missing);
-    }
-    let s = speed_of(v);
-    match s {
-        FiguresRead::Good(n) => SpeedRead::Good(Speed::Is(n)),
-        FiguresRead::Bad(f) => SpeedRead::Bad(f),
+    if v.which == 4 {
+        SpeedRead::Good(Speed::Missing)
+    } else {
+        speed_of(unit, v)
     }
 }
 
@@ -151,15 +171,14 @@ fn is_no_wind(d: Value, s: Value, g: Value) -> bool
 {
     let direction = d.field;
     let speed = s.field;
-    (d.which == 0) & is_missing(direction) & (s.which == 1) & is_missing(speed) & (g.which == 2)
+    (d.which == 0) & is_missing(direction) & (s.which == 1) & is_missing(speed) & (g.which == 4)
 }
 
 // A wind whose parts agree.
-fn wind_with(unit: Unit, direction: Direction, mean: u32, gust: Speed) -> Said
-    ensures { λ r. ⌜ r ≡ asWind (agreeing (windAgrees direction mean gust) (Good (windWith unit direction mean gust))) ⌝ }
+fn wind_with(unit: Unit, direction: Direction, speed: Speed, gust: Speed) -> Said
+    ensures { λ r. ⌜ r ≡ asWind (agreeing (windAgrees direction speed gust) (Good (windWith unit direction speed gust))) ⌝ }
 {
-    if wind_agrees(direction, mean, gust) {
-        let speed = Speed::Is(mean);
+    if wind_agrees(direction, speed, gust) {
         Said::Wind(Wind {
             direction,
             speed,
@@ -172,14 +191,14 @@ fn wind_with(unit: Unit, direction: Direction, mean: u32, gust: Speed) -> Said
 }
 
 // The wind that the parts read make, or the first refusal among them.
-fn wind_of(unit: Unit, d: DirectionRead, s: FiguresRead, g: SpeedRead) -> Said
+fn wind_of(unit: Unit, d: DirectionRead, s: SpeedRead, g: SpeedRead) -> Said
     ensures { λ r. ⌜ r ≡ asWind (windOf unit d s g) ⌝ }
 {
     match d {
         DirectionRead::Bad(f) => Said::Refused(f),
         DirectionRead::Good(direction) => match s {
-            FiguresRead::Bad(f) => Said::Refused(f),
-            FiguresRead::Good(mean) => match g {
+            SpeedRead::Bad(f) => Said::Refused(f),
+            SpeedRead::Good(mean) => match g {
                 SpeedRead::Bad(f) => Said::Refused(f),
                 SpeedRead::Good(gust) => wind_with(unit, direction, mean, gust),
             },
@@ -187,11 +206,10 @@ fn wind_of(unit: Unit, d: DirectionRead, s: FiguresRead, g: SpeedRead) -> Said
     }
 }
 
-// What the four parts of the group say together.
-fn wind_by(forecast: bool, d: Value, s: Value, g: Value, u: Value) -> Said
-    ensures { λ r. ⌜ r ≡ asWind (windBy forecast d s g u) ⌝ }
+// What the parts of the group say together.
+fn wind_by(forecast: bool, unit: Unit, d: Value, s: Value, g: Value) -> Said
+    ensures { λ r. ⌜ r ≡ asWind (windBy forecast unit d s g) ⌝ }
 {
-    let unit = unit_of(u.which);
     if is_no_wind(d, s, g) {
         if forecast {
             return Said::Refused(Refusal::Figure);
@@ -204,8 +222,8 @@ fn wind_by(forecast: bool, d: Value, s: Value, g: Value, u: Value) -> Said
         });
     }
     let direction = direction_of(d);
-    let mean = speed_of(s);
-    let gust = gust_of(g);
+    let mean = speed_of(unit, s);
+    let gust = gust_of(unit, g);
     wind_of(unit, direction, mean, gust)
 }
 
@@ -218,7 +236,7 @@ pub fn read_wind(forecast: bool, g: &[u8]) -> Said
     let speed = values[1];
     let gust = values[2];
     let unit = values[3];
-    wind_by(forecast, direction, speed, gust, unit)
+    wind_by(forecast, unit_of(unit.which), direction, speed, gust)
 }
 
 // ---- variation

@@ -1,6 +1,7 @@
 // How a wind, its variation and a visibility are written over a lent buffer, with what parts the group from the one before it. Every function
 // answers the position after its text. What a buffer has no room for is not written, so that a caller may judge the room afterwards.
 use crate::directions::degrees_text;
+use crate::speeds::class_speed;
 use figures::kinds::Field;
 use figures::put::put_byte;
 use figures::put::put_number;
@@ -58,18 +59,18 @@ fn direction_value(d: Direction) -> Value
     }
 }
 
-// Three figures from 100 on, two below.
-fn number_value(n: u32) -> Value
-    ensures { λ r. ⌜ r ≡ numbered (cond (leb 100 n) 0 1) (Number n) ⌝ }
+// Three figures from 100 on, two below: the alternative of three figures and that of two.
+fn number_value(three: usize, two: usize, n: u32) -> Value
+    ensures { λ r. ⌜ r ≡ numbered (cond (leb 100 n) three two) (Number n) ⌝ }
 {
     if 100 <= n {
         Value {
-            which: 0,
+            which: three,
             field: Field::Number(n),
         }
     } else {
         Value {
-            which: 1,
+            which: two,
             field: Field::Number(n),
         }
     }
@@ -83,20 +84,22 @@ fn speed_value(s: Speed) -> Value
             which: 1,
             field: Field::Missing,
         },
-        Speed::Is(n) => number_value(n),
+        Speed::Is(n) => number_value(0, 1, n),
+        Speed::Above(n) => number_value(2, 3, n),
     }
 }
 
-// Alternative number 2 is nothing.
+// Alternative number 4 is nothing.
 fn gust_value(s: Speed) -> Value
     ensures { λ r. ⌜ r ≡ gustValue s ⌝ }
 {
     match s {
         Speed::Missing => Value {
-            which: 2,
+            which: 4,
             field: Field::Other,
         },
-        Speed::Is(n) => number_value(n),
+        Speed::Is(n) => number_value(0, 1, n),
+        Speed::Above(n) => number_value(2, 3, n),
     }
 }
 
@@ -124,7 +127,7 @@ fn unit_value(u: Unit) -> Value
     }
 }
 
-const WIND_SHAPE: [u8; 35] = *b"###|VRB ###|## G###|G##| KT|MPS|KMH";
+const WIND_SHAPE: [u8; 55] = *b"###|VRB ###|##|P###|P## G###|G##|GP###|GP##| KT|MPS|KMH";
 
 // dddffGff and unit
 pub fn put_wind(out: &mut [u8], at: usize, w: Wind) -> usize
@@ -137,8 +140,8 @@ pub fn put_wind(out: &mut [u8], at: usize, w: Wind) -> usize
     let last = unit_value(unit);
     let mut values = [last; 8];
     values[0] = direction_value(direction);
-    values[1] = speed_value(speed);
-    values[2] = gust_value(gust);
+    values[1] = speed_value(class_speed(unit, speed));
+    values[2] = gust_value(class_speed(unit, gust));
     let opened = open_group(out, at);
     put_shape(out, opened, &WIND_SHAPE, values)
 }

@@ -1,8 +1,6 @@
 -- `synop_groups_judge::judge::wind_fits` meets its contract, case by case.
 -- Assumes nothing.
-use mathlib.Core.Path.{_∙_}
 use borrow.Author.Needs.{needs}
-use Rattle.synop_groups_judge.proofs.Judging.{fits-missing, fits-calm, fits-variable, fits-degrees}
 use Rattle.synop_groups_judge.proofs.judge.wind_fits.Statement.{statement}
 use Rattle.synop_groups_judge.proofs.judge.wind_fits.Tie as tie
 
@@ -11,7 +9,7 @@ wind-fits-spec =
     tie.close
     (tie.spec
     (λ c. search needs) (λ c κs. tt) (λ c. search needs) (λ c κs. tt) (λ c. search needs) (λ c κs. tt) (λ c. search needs) (λ c κs. tt)
-    (λ c. rw (c .before .enum-told .given .1) (c .is-missing .ensures ∙ fits-missing (c .before .before .before .args .s)))
-    (λ c. rw (c .before .enum-told2 .given .1) (c .speed-fits .ensures ∙ fits-calm (c .before .before .before .args .s)))
-    (λ c. rw (c .before .enum-told3 .given .1) (c .speed-fits2 .ensures ∙ fits-variable (c .before .before .before .args .s)))
-    (λ c. rw (c .before .before .d .given .1, c .speed-fits3 .ensures) (fits-degrees (c .before .before .d .given .0 .0) (c .before .before .before .before .args .s))))
+    (λ c. rw (c .before .enum-told .given .1) (c .is-missing .ensures))
+    (λ c. rw (c .before .enum-told2 .given .1) (c .speed-fits .ensures))
+    (λ c. rw (c .before .enum-told3 .given .1) (c .speed-fits2 .ensures))
+    (λ c. rw (c .before .before .d .given .1, c .speed-fits3 .ensures)))

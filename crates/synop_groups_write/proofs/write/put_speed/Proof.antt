@@ -12,7 +12,7 @@ pub put-speed-spec : {M : Type 1} → statement M
 put-speed-spec =
     tie.close
     (tie.spec
-    (λ c. search needs) (λ c. search needs) (λ c. search needs) (λ c κs. tt)
+    (λ c. search needs) (λ c. search needs) (λ c. search needs) (λ c κs. tt) (λ c. search needs)
     (λ c. unfold showSpeed in rw (c .enum-told .given .1) (write-none _ _))
     (λ c. search needs)
     (λ c.
@@ -20,4 +20,5 @@ put-speed-spec =
     let e = d .before .before in
     unfold showSpeed numberText in
     rw (e .speed .given .1, le-leb _ _ (d .if1 .taken)) (c .before .before .put-coded .ensures))
-    (λ c. unfold showSpeed in rw (c .before .before .speed .given .1, lt-leb _ _ (c .if1 .left)) (write-none _ _)))
+    (λ c. unfold showSpeed in rw (c .before .before .speed .given .1, lt-leb _ _ (c .if1 .left)) (write-none _ _))
+    (λ c. unfold showSpeed in rw (c .enum-told2 .given .1) (write-none _ _)))

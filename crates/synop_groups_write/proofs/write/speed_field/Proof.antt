@@ -8,5 +8,6 @@ pub speed-field-spec : {M : Type 1} → statement M
 speed-field-spec =
     tie.close
     (tie.spec
-    (λ c. search needs) (λ c. search needs) (λ c κs. tt) (λ c. search needs)
-    (λ c. rw (c .before .before .speed .given .1, c .speed-figure .ensures)))
+    (λ c. search needs) (λ c. search needs) (λ c κs. tt) (λ c. search needs) (λ c. search needs)
+    (λ c. rw (c .before .before .speed .given .1, c .speed-figure .ensures))
+    (λ c. search needs))

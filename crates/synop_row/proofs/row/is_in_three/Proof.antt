@@ -8,4 +8,4 @@ pub is-in-three-spec : {M : Type 1} → statement M
 is-in-three-spec =
     tie.close
     (tie.spec
-    (λ c. search needs) (λ c. search needs) (λ c. search needs) (λ c. rw (c .before .speed .given .1)))
+    (λ c. search needs) (λ c. search needs) (λ c. search needs) (λ c. search needs) (λ c. rw (c .before .speed .given .1)) (λ c. search needs))

@@ -8,5 +8,6 @@ pub gust-agrees-spec : {M : Type 1} → statement M
 gust-agrees-spec =
     tie.close
     (tie.spec
-    (λ c. search needs) (λ c. search needs) (λ c κs. tt) (λ c. search needs)
-    (λ c. rw (c .before .before .gust .given .1, c .is-calm .ensures)))
+    (λ c. search needs) (λ c. search needs) (λ c κs. tt) (λ c κs. tt) (λ c. search needs) (λ c κs. tt) (λ c. search needs)
+    (λ c. rw (c .before .before .before .gust .given .1, c .before .is-calm .ensures, c .is-below .ensures))
+    (λ c. search needs))

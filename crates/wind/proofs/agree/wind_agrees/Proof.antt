@@ -7,6 +7,6 @@ pub wind-agrees-spec : {M : Type 1} → statement M
 wind-agrees-spec =
     tie.close
     (tie.spec
-    (λ c κs. tt) (λ c κs. tt) (λ c κs. tt)
-    (λ c. rw (← c .before .before .is-calm .ensures, c .before .if1 .taken, c .gust-agrees .ensures))
-    (λ c. rw (← c .before .before .is-calm .ensures, c .before .if1 .left, c .gust-agrees2 .ensures)))
+    (λ c κs. tt) (λ c κs. tt) (λ c κs. tt) (λ c κs. tt)
+    (λ c. rw (← c .before .before .is-calm .ensures, c .before .if1 .taken, c .before .before .before .is-still .ensures, c .gust-agrees .ensures))
+    (λ c. rw (← c .before .before .is-calm .ensures, c .before .if1 .left, c .before .before .before .is-still .ensures, c .gust-agrees2 .ensures)))

@@ -8,5 +8,7 @@ pub judge-wind-spec : {M : Type 1} → statement M
 judge-wind-spec =
     tie.close
     (tie.spec
-    (λ c κs. tt) (λ c κs. tt) (λ c κs. tt) (λ c κs. tt)
-    (λ c. unfold judgeWind in rw (c .judge .ensures, c .before .before .before .is-missing .ensures, c .before .before .wind-fits .ensures, c .before .speeds-agree .ensures)))
+    (λ c κs. tt) (λ c κs. tt) (λ c κs. tt) (λ c κs. tt) (λ c κs. tt) (λ c κs. tt)
+    (λ c.
+    unfold judgeWind in
+    rw (c .judge .ensures, c .before .before .before .is-missing .ensures, c .before .before .wind-fits .ensures, c .before .wind-agrees .ensures, c .before .before .before .before .class-speed2 .ensures, c .before .before .before .before .before .class-speed .ensures)))

@@ -18,12 +18,14 @@ unfolding readWind
 read-wind-spec =
     tie.close
     (tie.spec
-    (λ c κs. tt) (λ c. search needs) (λ c. search needs) (λ c. search needs) (λ c. search needs) (λ c κs. tt)
+    (λ c κs. tt) (λ c. search needs) (λ c. search needs) (λ c. search needs) (λ c. search needs) (λ c κs. tt) (λ c κs. tt)
     (λ c.
-    let g = c .before .before .before .before .before .before .before .before .args .g .now in
+    let scanned = c .before .before .before .before .before .before .before in
+    let g = scanned .before .before .args .g .now in
     rw (
       c .wind-by .ensures,
-      c .before .before .before .before .before .before .scan-wind .ensures,
+      c .before .unit-of .ensures,
+      scanned .scan-wind .ensures,
       value-is windShape g 0 none (omega arith),
       value-is windShape g 1 none (omega arith),
       value-is windShape g 2 none (omega arith),
