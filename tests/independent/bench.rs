@@ -58,6 +58,7 @@ const SYNOP: Kind = kind("SYNOP", "AAXX", delgushar_synop);
 const SHIP: Kind = kind("SHIP", "BBXX", delgushar_synop);
 const METAR: Kind = kind("METAR", "METAR", delgushar_metar);
 const TREND: Kind = kind("METAR with a trend", "METAR", delgushar_metar);
+const STATE: Kind = kind("METAR with runway states", "METAR", delgushar_metar);
 const TAF: Kind = kind("TAF", "TAF", delgushar_taf);
 
 /// Texts of one kind that are timed together.
@@ -104,12 +105,22 @@ fn of_kind(kind: Kind, lines: &str) -> Texts {
     Texts { kind, texts }
 }
 
-/// Observations without a trend, and those with one.
-fn by_trend(observations: Texts) -> [Texts; 2] {
+/// Whether a group is one of runway state, or SNOCLO.
+fn is_state(group: &[u8]) -> bool {
+    let figure = |byte: &u8| byte.is_ascii_digit() || *byte == b'/';
+    let state = group.ends_with(b"CLRD//") || group.iter().all(figure);
+    group == b"SNOCLO" || (group.len() == 8 && state)
+}
+
+/// Observations with neither runway states nor a trend, those with a trend alone, and those with
+/// runway states.
+fn by_parts(observations: Texts) -> [Texts; 3] {
     let begins_trend = |group: &[u8]| matches!(group, b"NOSIG" | b"BECMG" | b"TEMPO");
+    let has_state = |text: &Vec<u8>| groups(text).any(is_state);
     let has_trend = |text: &Vec<u8>| groups(text).any(begins_trend);
-    let (with, without) = observations.texts.into_iter().partition(has_trend);
-    [(METAR, without), (TREND, with)].map(|(kind, texts)| Texts { kind, texts })
+    let (states, others): (Vec<_>, Vec<_>) = observations.texts.into_iter().partition(has_state);
+    let (trends, plain) = others.into_iter().partition(has_trend);
+    [(METAR, plain), (TREND, trends), (STATE, states)].map(|(kind, texts)| Texts { kind, texts })
 }
 
 /// A forecast with so many changes.
@@ -261,7 +272,7 @@ fn median(mut times: Vec<f64>) -> f64 {
 }
 
 /// The longest name of a row.
-const NAME_WIDTH: usize = "METAR with a trend, first group bad".len();
+const NAME_WIDTH: usize = "METAR with runway states, first group bad".len();
 
 /// A row of a table: the texts, and for each side the times of the rounds.
 struct Row {
@@ -414,7 +425,7 @@ fn print_stacks(valid: &[Texts]) {
     print!("| library | own reader | decoder ");
     println!("| library, written too | own reader | decoder |");
     print_rule();
-    for texts in &valid[..4] {
+    for texts in &valid[..5] {
         print_stack(texts.kind.name, texts);
     }
     print_stack("TAF, 0 changes", &with_changes(0));
@@ -528,8 +539,8 @@ fn main() {
     let mut lines = String::new();
     std::io::stdin().read_to_string(&mut lines).unwrap();
     let [synop, ship, metar, taf] = [SYNOP, SHIP, METAR, TAF].map(|kind| of_kind(kind, &lines));
-    let [metar, trend] = by_trend(metar);
-    let valid = [synop, ship, metar, trend, taf];
+    let [metar, trend, state] = by_parts(metar);
+    let valid = [synop, ship, metar, trend, state, taf];
     let mut rows = valid_rows(&valid);
     rows.extend(refused_rows(&valid));
     rows.extend(growth_rows());
@@ -543,8 +554,9 @@ fn main() {
         }
     }
     let count = valid[0].texts.len();
-    let trends = valid[3].texts.len();
-    print!("{count} reports of each kind, {trends} of the METARs with a trend, ");
+    let [trends, states] = [3, 4].map(|at: usize| valid[at].texts.len());
+    print!("{count} reports of each kind, of the METARs {trends} with a trend and ");
+    print!("{states} with runway states, ");
     println!("the median of {rounds} rounds.");
     print_times(&rows);
     print_heights(&heights);

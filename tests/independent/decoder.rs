@@ -149,6 +149,7 @@ pub struct Observation {
     /// Tenths of a hectopascal.
     pub pressure: Option<u32>,
     pub recent: Vec<Weather>,
+    pub runway_state: RunwayState,
     pub trend: Trend,
 }
 
@@ -233,6 +234,43 @@ pub struct Runway {
     pub range: Option<u32>,
     /// U, D or N.
     pub tendency: Option<u8>,
+}
+
+/// "SNOCLO alone" or "Up to four groups", or nothing (request 13).
+#[derive(Debug, Clone, Default, PartialEq)]
+pub struct RunwayState {
+    /// SNOCLO.
+    pub closed_by_snow: bool,
+    pub groups: Vec<StateOfRunway>,
+}
+
+/// A group of runway state.
+#[derive(Debug, Clone, Copy, PartialEq)]
+pub struct StateOfRunway {
+    /// RR: 01-36, 51-86 the right-hand one, 88 all, 99 repeated from the last.
+    pub runway: u32,
+    /// None where it is CLRD//.
+    pub contamination: Option<Contamination>,
+}
+
+/// "Any of the four after RR may be missing".
+#[derive(Debug, Clone, Copy, PartialEq)]
+pub struct Contamination {
+    /// A figure of table 0919.
+    pub deposit: Option<u32>,
+    /// A figure of table 0519.
+    pub extent: Option<u32>,
+    pub depth: Option<Depth>,
+    /// A figure of table 0366.
+    pub braking: Option<u32>,
+}
+
+/// Table 1079.
+#[derive(Debug, Clone, Copy, PartialEq)]
+pub enum Depth {
+    Millimetres(u32),
+    /// 99.
+    Closed,
 }
 
 /// A weather group: //, NSW or codes of table 4678.
@@ -609,6 +647,16 @@ fn split_cloud(group: &[u8]) -> Option<CloudParts<'_>> {
     all_figures(height).then_some(CloudParts::Layer(amount, height, close))
 }
 
+/// "Eight figures or slashes; two figures or slashes and CLRD//, whose strokes are fixed" (ruling
+/// 13.1).
+fn is_state_of_runway(group: &[u8]) -> bool {
+    fits("########", group) || is_cleared(group)
+}
+
+fn is_cleared(group: &[u8]) -> bool {
+    fits("##CLRD//", group)
+}
+
 const TREND_WORDS: [&str; 2] = ["BECMG", "TEMPO"];
 
 fn is_trend_word(group: &[u8]) -> bool {
@@ -647,6 +695,8 @@ enum Slot {
     Temperatures,
     Pressure,
     Recent,
+    Snoclo,
+    StateOfRunway,
     Nosig,
     TrendWord,
     /// Any of the three times.
@@ -687,6 +737,8 @@ fn has_shape(slot: Slot, group: &[u8]) -> bool {
         Slot::Temperatures => split_temperatures(group).is_some(),
         Slot::Pressure => fits("Q####", group),
         Slot::Recent => split_recent(group).is_some(),
+        Slot::Snoclo => group == b"SNOCLO",
+        Slot::StateOfRunway => is_state_of_runway(group),
         Slot::Nosig => group == b"NOSIG",
         Slot::TrendWord => is_trend_word(group),
         Slot::TrendTime => TREND_TIMES.iter().any(|&time| has_shape(time, group)),
@@ -782,6 +834,11 @@ impl Walk {
                 self.element_due = false;
             }
             Slot::Change => self.open_change(index, group),
+            // After a group SNOCLO has a place, at which it is 7 (ruling 13.5); a second one
+            // has none (ruling 13.4).
+            Slot::StateOfRunway if self.places[index].taken == 1 => {
+                self.places.insert(index + 1, one(Slot::Snoclo, false));
+            }
             Slot::TrendWord => self.open_trend(index),
             // "AT alone": the places of FM and TL are closed with its own.
             Slot::At => self.open = index + TREND_TIMES.len(),
@@ -843,7 +900,7 @@ fn ends_body(slot: Slot) -> bool {
 
 /// "METAR or SPECI, [COR], CCCC, YYGGggZ, then NIL (end) or [AUTO], wind, [dddVddd], visibility,
 /// up to 4 runway ranges, 3 weather groups, 4 cloud groups, T/Td, Q, up to 3 RE groups"; then
-/// the trend. A time outside a trend is 6 from the name on (ruling 1.8): its place comes before
+/// the runway state, "after RE and before the trend", and the trend. A time outside a trend is 6 from the name on (ruling 1.8): its place comes before
 /// all others.
 fn observation_places() -> Vec<Place> {
     vec![
@@ -863,6 +920,8 @@ fn observation_places() -> Vec<Place> {
         one(Slot::Temperatures, true),
         one(Slot::Pressure, true),
         up_to(3, Slot::Recent),
+        one(Slot::Snoclo, false),
+        up_to(4, Slot::StateOfRunway),
         one(Slot::Nosig, false),
         up_to(3, Slot::TrendWord),
     ]
@@ -1047,6 +1106,14 @@ fn height_classes() -> Classes {
     let mut classes: Classes = (0..=100).map(|code| (code, code * 30)).collect();
     classes.extend((110..=990).step_by(10).map(|code| (code, code * 30)));
     classes.push((999, 30_000));
+    classes
+}
+
+/// 1079, in millimetres: "92 to 98 as 100 to 400 by 50, 98 open"; 91 is reserved, and 99 is no
+/// depth (ruling 13.9).
+fn depth_classes() -> Classes {
+    let mut classes: Classes = (0..=90).map(|code| (code, code)).collect();
+    classes.extend((92..=98).map(|code| (code, 100 + (code - 92) * 50)));
     classes
 }
 
@@ -1705,6 +1772,9 @@ fn take_in_observation(observation: &mut Observation, slot: Slot, group: &[u8]) 
         // Q: whole hectopascals, "0000-9999", or Q////.
         Slot::Pressure => observation.pressure = optional(&group[1..])?.map(|whole| whole * 10),
         Slot::Recent => observation.recent.push(read_recent(observation, group)?),
+        Slot::Snoclo | Slot::StateOfRunway => {
+            take_runway_state(&mut observation.runway_state, slot, group)?;
+        }
         Slot::Nosig | Slot::TrendWord => open_trend(&mut observation.trend, group)?,
         _ => match observation.trend.changes.last_mut() {
             Some(change) => take_in_trend(change, slot, group)?,
@@ -1719,6 +1789,68 @@ fn take_in_observation(observation: &mut Observation, slot: Slot, group: &[u8]) 
         },
     }
     Ok(())
+}
+
+/// "SNOCLO beside a group 7", at whichever comes second; a group's figures go first (ruling 13.5).
+fn take_runway_state(state: &mut RunwayState, slot: Slot, group: &[u8]) -> Result<(), u8> {
+    if slot == Slot::Snoclo {
+        state.closed_by_snow = true;
+    } else {
+        state.groups.push(read_state_of_runway(group)?);
+    }
+    match state.closed_by_snow && !state.groups.is_empty() {
+        true => Err(7),
+        false => Ok(()),
+    }
+}
+
+/// RR and CLRD//, or RR, deposit, extent, depth and braking.
+fn read_state_of_runway(group: &[u8]) -> Result<StateOfRunway, u8> {
+    let runway = match required(&group[..2])? {
+        runway @ (1..=36 | 51..=86 | 88 | 99) => runway,
+        _ => return Err(5),
+    };
+    if is_cleared(group) {
+        return Ok(StateOfRunway {
+            runway,
+            contamination: None,
+        });
+    }
+    let contamination = Contamination {
+        deposit: optional(&group[2..3])?,
+        extent: read_extent(&group[3..4])?,
+        depth: read_depth(&group[4..6])?,
+        braking: read_braking(&group[6..])?,
+    };
+    Ok(StateOfRunway {
+        runway,
+        contamination: Some(contamination),
+    })
+}
+
+/// Table 0519 has 1, 2, 5 and 9; the others are reserved, and 0 is not in it (ruling 13.2).
+fn read_extent(figure: &[u8]) -> Result<Option<u32>, u8> {
+    match optional(figure)? {
+        extent @ (None | Some(1 | 2 | 5 | 9)) => Ok(extent),
+        _ => Err(5),
+    }
+}
+
+/// Table 1079.
+fn read_depth(figures: &[u8]) -> Result<Option<Depth>, u8> {
+    match optional(figures)? {
+        None => Ok(None),
+        Some(99) => Ok(Some(Depth::Closed)),
+        Some(code) => foot_of(&depth_classes(), code).map(|foot| Some(Depth::Millimetres(foot))),
+    }
+}
+
+/// Table 0366: 96 to 98 are reserved.
+fn read_braking(figures: &[u8]) -> Result<Option<u32>, u8> {
+    match optional(figures)? {
+        Some(96..=98) => Err(5),
+        braking => Ok(braking),
+    }
 }
 
 /// NOSIG, BECMG or TEMPO: "NOSIG beside one 7", at whichever comes second (ruling 1.4).
@@ -2104,7 +2236,35 @@ fn write_observation(groups: &mut Vec<String>, observation: &Observation) {
     groups.push(format!("Q{}", figures(pressure, 4)));
     let recent = observation.recent.iter().map(write_weather);
     groups.extend(recent.map(|weather| format!("RE{weather}")));
+    write_runway_state(groups, &observation.runway_state);
     write_trend(groups, &observation.trend);
+}
+
+fn write_runway_state(groups: &mut Vec<String>, state: &RunwayState) {
+    if state.closed_by_snow {
+        groups.push("SNOCLO".to_string());
+    }
+    groups.extend(state.groups.iter().map(write_state_of_runway));
+}
+
+fn write_state_of_runway(state: &StateOfRunway) -> String {
+    let runway = state.runway;
+    let Some(contamination) = state.contamination else {
+        return format!("{runway:02}CLRD//");
+    };
+    let deposit = figures(contamination.deposit, 1);
+    let extent = figures(contamination.extent, 1);
+    let depth = figures(contamination.depth.map(depth_code), 2);
+    let braking = figures(contamination.braking, 2);
+    format!("{runway:02}{deposit}{extent}{depth}{braking}")
+}
+
+/// "The writer rounds depths down: 0 to 89 by 1, then 90 up to 99 mm, then the 50s."
+fn depth_code(depth: Depth) -> u32 {
+    match depth {
+        Depth::Millimetres(depth) => code_of(&depth_classes(), depth),
+        Depth::Closed => 99,
+    }
 }
 
 fn write_trend(groups: &mut Vec<String>, trend: &Trend) {
@@ -2366,6 +2526,15 @@ mod tests {
         assert_eq!(runway(49), "R01/M0050");
     }
 
+    /// "91 to 99 mm are written 90 .. and 91 is written never" (ruling 13.9).
+    #[test]
+    fn depths_round_down() {
+        let written = [0, 89, 90, 91, 99, 100, 149, 150, 399, 400, 99_999]
+            .map(|depth| depth_code(Depth::Millimetres(depth)));
+        assert_eq!(written, [0, 89, 90, 90, 90, 92, 92, 93, 97, 98, 98]);
+        assert_eq!(depth_code(Depth::Closed), 99);
+    }
+
     #[test]
     fn the_others_round_to_the_nearest() {
         let written: Vec<_> = [25, -15, -4, -5, -6, -1, 0, -995, 994]
@@ -2394,5 +2563,6 @@ mod tests {
     fn not_in_the_table() {
         assert_eq!(read_signed(b"11000"), Err(5));
         assert_eq!(foot_of(&land_classes(), 55), Err(5));
+        assert_eq!(foot_of(&depth_classes(), 91), Err(5));
     }
 }

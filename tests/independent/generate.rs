@@ -519,6 +519,10 @@ fn observation_groups(random: &mut Random, extent: Extent, name: &str) -> Vec<St
         let codes = weather_codes(random, extent, true, automatic);
         groups.push(format!("RE{}", codes));
     }
+    // Runway states are rare, as deposits are.
+    if extent == Extent::Longest || (extent == Extent::Usual && random.one_in(4)) {
+        push_runway_state(random, extent, &mut groups);
+    }
     if random.below(5) < 2 {
         push_trend(random, extent, &mut groups);
     }
@@ -558,6 +562,43 @@ fn temperature(random: &mut Random) -> String {
         1 | 2 => format!("M{}", random.figures(0, 99, 2)),
         _ => random.figures(0, 99, 2),
     }
+}
+
+/// SNOCLO, or one to four groups.
+fn push_runway_state(random: &mut Random, extent: Extent, groups: &mut Vec<String>) {
+    if extent != Extent::Longest && random.one_in(4) {
+        groups.push("SNOCLO".to_string());
+        return;
+    }
+    for _ in 0..=extent.count(random, 3) {
+        groups.push(state_of_runway(random));
+    }
+}
+
+fn state_of_runway(random: &mut Random) -> String {
+    let runway = match random.below(6) {
+        0 => "88".to_string(),
+        1 => "99".to_string(),
+        2 | 3 => random.figures(51, 86, 2),
+        _ => random.figures(1, 36, 2),
+    };
+    if random.one_in(5) {
+        return format!("{}CLRD//", runway);
+    }
+    let deposit = random.figure_or_slash();
+    let extent = random.pick(&['1', '2', '5', '9', '/']);
+    let depth = match random.below(5) {
+        0 => "//".to_string(),
+        1 => "99".to_string(),
+        2 | 3 => random.figures(92, 98, 2),
+        _ => random.figures(0, 90, 2),
+    };
+    let braking = match random.below(5) {
+        0 => "//".to_string(),
+        1 => "99".to_string(),
+        _ => random.figures(0, 95, 2),
+    };
+    format!("{}{}{}{}{}", runway, deposit, extent, depth, braking)
 }
 
 /// NOSIG, or one to three changes.
@@ -793,6 +834,8 @@ fn damaged(random: &mut Random, kind: usize) -> Vec<u8> {
     let observation = matches!(NAMES[kind], "METAR" | "SPECI");
     if grouped > 0 && observation && random.one_in(3) {
         damage_trend(random, kind, &mut groups);
+    } else if grouped > 0 && observation && random.one_in(4) {
+        damage_runway_state(random, kind, &mut groups);
     } else if grouped > 0 {
         damage_groups(random, kind, &mut groups);
     }
@@ -889,6 +932,53 @@ fn damage_trend(random: &mut Random, kind: usize, groups: &mut Vec<String>) {
             groups.insert(inside, group);
         }
     }
+}
+
+/// One thing wrong about the runway state, which a report without one gets first, before the
+/// trend.
+fn damage_runway_state(random: &mut Random, kind: usize, groups: &mut Vec<String>) {
+    let begins_trend = |group: &String| group == "NOSIG" || TREND_WORDS.contains(&group.as_str());
+    let end = groups.iter().position(begins_trend);
+    let mut trend = groups.split_off(end.unwrap_or(groups.len()));
+    let stands = |group: &String| group == "SNOCLO" || is_state_of_runway(group);
+    let first = groups.iter().position(stands).unwrap_or(groups.len());
+    if first == groups.len() {
+        push_runway_state(random, Extent::Usual, groups);
+    }
+    let inside = first + random.below(groups.len() - first + 1);
+    match random.below(10) {
+        0 | 1 => groups.insert(inside, "SNOCLO".to_string()),
+        // Too many of them, perhaps after SNOCLO, perhaps with a wrong figure.
+        2 | 3 => {
+            for _ in 0..random.within(1, 4) {
+                groups.push(any_state_of_runway(random));
+            }
+        }
+        // Before the place, and in the trend or after it.
+        4 => groups.insert(1 + random.below(first), any_state_of_runway(random)),
+        5 => {
+            let at = random.below(trend.len() + 1);
+            trend.insert(at, any_state_of_runway(random));
+        }
+        6 => groups.insert(inside, foreign_group(random, kind)),
+        _ => groups.insert(inside, random.pick(&STATE_MISSES).to_string()),
+    }
+    groups.append(&mut trend);
+}
+
+/// A group of runway state or SNOCLO, sometimes with figures that are not right.
+fn any_state_of_runway(random: &mut Random) -> String {
+    match random.below(4) {
+        0 => "SNOCLO".to_string(),
+        1 => random.pick(&STATE_MISSES).to_string(),
+        _ => state_of_runway(random),
+    }
+}
+
+/// Whether a group is one of runway state.
+fn is_state_of_runway(group: &str) -> bool {
+    let figure = |byte: u8| byte.is_ascii_digit() || byte == b'/';
+    group.len() == 8 && (group.ends_with("CLRD//") || group.bytes().all(figure))
 }
 
 /// FM, TL or AT, sometimes with figures that are not right.
@@ -1013,6 +1103,8 @@ fn aerodrome_misses(group: &str) -> &'static [&'static str] {
         &RECENT_MISSES
     } else if starts(&["R0", "R1", "R2", "R3"]) {
         &RUNWAY_MISSES
+    } else if group == "SNOCLO" || is_state_of_runway(group) {
+        &STATE_MISSES
     } else if group.len() == 5 && group.starts_with('Q') {
         &["Q///1", "Q10//", "Q101/", "Q/013"]
     } else if starts(&["PROB"]) {
@@ -1116,6 +1208,38 @@ const RUNWAY_MISSES: [&str; 19] = [
     "R24/05//",
     "R24/0500V0600",
     "R24L/2000N",
+];
+const STATE_MISSES: [&str; 30] = [
+    "00451293",
+    "37451293",
+    "50451293",
+    "87451293",
+    "89451293",
+    "98451293",
+    "//451293",
+    "2/451293",
+    "24401293",
+    "24431293",
+    "24481293",
+    "24459193",
+    "24451/93",
+    "2445/193",
+    "24451296",
+    "24451298",
+    "2445129/",
+    "////////",
+    "0112/011",
+    "00CLRD//",
+    "87CLRD//",
+    "//CLRD//",
+    "24CLRD95",
+    "24CLRD",
+    "24CLRD///",
+    "2445129",
+    "244512933",
+    "R24/451293",
+    "R/SNOCLO",
+    "SNOCLOX",
 ];
 const TIME_MISSES: [&str; 14] = [
     "FM2400", "FM2360", "FM1260", "FM////", "FM12//", "FM12", "FM12000", "AT2400", "AT0060",
@@ -1280,7 +1404,7 @@ const SYNOPTIC_SHAPES: [&str; 22] = [
 ];
 
 /// The shapes of METAR, SPECI and TAF: # is a figure or slash, @ a letter.
-const AERODROME_SHAPES: [&str; 39] = [
+const AERODROME_SHAPES: [&str; 42] = [
     "######Z",
     "####/####",
     "###V###",
@@ -1316,6 +1440,9 @@ const AERODROME_SHAPES: [&str; 39] = [
     "BKN###TCU",
     "OVC###",
     "VV###",
+    "########",
+    "2445##9#",
+    "##CLRD//",
     "@@@@",
     "@@@",
     "##",
@@ -1323,7 +1450,7 @@ const AERODROME_SHAPES: [&str; 39] = [
 ];
 
 /// The words of all reports.
-const WORDS: [&str; 43] = [
+const WORDS: [&str; 44] = [
     "AAXX",
     "BBXX",
     "METAR",
@@ -1354,6 +1481,7 @@ const WORDS: [&str; 43] = [
     "PROB40",
     "PROB",
     "NOSIG",
+    "SNOCLO",
     "WS",
     "RMK",
     "333",

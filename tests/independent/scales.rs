@@ -1,4 +1,4 @@
-// The scales, written from document 01 alone, by search over lists of classes: prints the lines that the program `examples` has to print.
+// The scales, written from documents 01 and 02 alone, by search over lists of classes: prints the lines that the program `examples` has to print.
 // A check on the library's definitions and code by another hand and another method.
 
 /// A scale that rounds down: the foot of each class and the figure that it is written as, by rising foot.
@@ -57,6 +57,13 @@ fn cloud() -> Scale {
     let mut s: Scale = (0..=100).map(|code| (code * 30, format!("{code:03}"))).collect();
     s.extend((11..=99).map(|tens| (tens * 300, format!("{}", tens * 10))));
     s.push((30_000, "999".into()));
+    s
+}
+
+/// Table 1079, millimetres; 91 is reserved, and 99 says that the runway is closed.
+fn depth() -> Scale {
+    let mut s: Scale = (0..=90).map(|mm| (mm, format!("{mm:02}"))).collect();
+    s.extend((92..=98).zip((100..=400).step_by(50)).map(|(code, mm)| (mm, code.to_string())));
     s
 }
 
@@ -236,6 +243,7 @@ fn seen() {
     readings(&cloud(), &[2_970, 3_000, 3_300, 30_000]);
     readings(&visibility(), &[750, 4_000, 4_050, 9_000, 10_000]);
     readings(&runway(), &[0, 50, 375, 2_000, 2_001]);
+    readings(&depth(), &[0, 89, 90, 91, 100, 350, 400]);
     for t in [10_130, 10_135, 99_990] {
         line(tenths(t), if t % 10 == 0 { format!("{} to {}", tenths(t), tenths(t + 9)) } else { "nothing".into() });
     }
@@ -263,6 +271,9 @@ fn main() {
     for text in ["M0050", "M0100", "P2000", "P1500"] {
         line(text.into(), reading(&runway(), text));
     }
+    heading("1079, mm");
+    values(&depth(), &[0, 1, 89, 90, 91, 99, 100, 149, 150, 399, 400, 99999, 100000]);
+    figures(&depth(), 2, &[0, 1, 89, 90, 91, 92, 93, 97, 98, 99]);
     heading("aerodrome temperature, degrees");
     temperatures();
     heading("sTTT, degrees");

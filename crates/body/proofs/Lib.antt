@@ -5,5 +5,5 @@ pub mod Variants
 pub mod Says
 pub mod Meets
 pub mod Parts
-pub mod Changes
+pub mod Arrays
 pub mod Sayings

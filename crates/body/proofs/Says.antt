@@ -157,7 +157,7 @@ module _ (forecast may automatic : Bool) (k : ℕ) (g : Group) (b : Body) where
 
 -- what is no part of the body leaves it as it is, and so does a refusal
 abbrev elsewhere : List ℕ
-elsewhere = 0 ∷ 1 ∷ 2 ∷ 3 ∷ 4 ∷ 5 ∷ 6 ∷ 7 ∷ 8 ∷ 10 ∷ 12 ∷ 17 ∷ 18 ∷ 19 ∷ 20 ∷ 21 ∷ 22 ∷ []
+elsewhere = 0 ∷ 1 ∷ 2 ∷ 3 ∷ 4 ∷ 5 ∷ 6 ∷ 7 ∷ 8 ∷ 10 ∷ 12 ∷ 17 ∷ 18 ∷ 19 ∷ 20 ∷ 21 ∷ 22 ∷ 23 ∷ 24 ∷ []
 
 pub others : (k : ℕ) (b : Body) (x : Said) → OneOf elsewhere (tagOf says.the-type x) → b ≡ putSaid k x b
 unfolding putSaid
@@ -169,7 +169,7 @@ put-by k b q = rw q
 
 -- what is no refusal is put
 abbrev pub said-fine : List ℕ
-said-fine = 0 ∷ 1 ∷ 2 ∷ 3 ∷ 4 ∷ 5 ∷ 6 ∷ 7 ∷ 8 ∷ 9 ∷ 10 ∷ 11 ∷ 12 ∷ 13 ∷ 14 ∷ 15 ∷ 16 ∷ 17 ∷ 18 ∷ 19 ∷ 20 ∷ 22 ∷ []
+said-fine = 0 ∷ 1 ∷ 2 ∷ 3 ∷ 4 ∷ 5 ∷ 6 ∷ 7 ∷ 8 ∷ 9 ∷ 10 ∷ 11 ∷ 12 ∷ 13 ∷ 14 ∷ 15 ∷ 16 ∷ 17 ∷ 18 ∷ 19 ∷ 20 ∷ 22 ∷ 23 ∷ 24 ∷ []
 
 pub not-refused : {R : Type 0} (r : R) (x : Said) → OneOf said-fine (tagOf says.the-type x) → unlessRefused x r ≡ Good r
 not-refused r = by-tag said-fine (λ x. unlessRefused x r ≡ Good r) (search never)

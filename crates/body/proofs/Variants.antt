@@ -36,6 +36,8 @@ pub record Each (F : Said → Type 0) : Type 0 where
   pub nothing : F said.Nothing
   pub refused : (x : _) → F (said.Refused x)
   pub times : (x : _) → F (said.Times x)
+  pub state : (x : _) → F (said.State x)
+  pub snoclo : F said.Snoclo
 
 pub each : (F : Said → Type 0) → Each F → (x : Said) → F x
 each F e (said.Special x) = e .special x
@@ -61,6 +63,8 @@ each F e (said.Recent x) = e .recent x
 each F e said.Nothing = e .nothing
 each F e (said.Refused x) = e .refused x
 each F e (said.Times x) = e .times x
+each F e (said.State x) = e .state x
+each F e said.Snoclo = e .snoclo
 
 -- of those whose tag is one of these, as an arm of a `match` has it
 pub by-tag : (ks : List ℕ) (F : Said → Type 0) → Each (λ x. T (hasKey ks (tagOf says.the-type x)) → F x) → (x : Said) → OneOf ks (tagOf says.the-type x) → F x

@@ -40,6 +40,8 @@ unlessRefused (said.Recent x) r = Good r
 unlessRefused said.Nothing r = Good r
 unlessRefused (said.Refused f) r = Bad f
 unlessRefused (said.Times x) r = Good r
+unlessRefused (said.State x) r = Good r
+unlessRefused said.Snoclo r = Good r
 
 -- The body with what a group says, where k groups stand at its place. What is no part of the body changes nothing of it, nor does a refusal.
 unfoldable pub putSaid : ℕ → Said → Body → Body
@@ -66,6 +68,8 @@ putSaid k (said.Recent x) b = b
 putSaid k said.Nothing b = b
 putSaid k (said.Refused f) b = b
 putSaid k (said.Times x) b = b
+putSaid k (said.State x) b = b
+putSaid k said.Snoclo b = b
 
 abbrev pub withSaid : ℕ → Said → Body → Read Body
 withSaid k x b = unlessRefused x (putSaid k x b)
@@ -100,6 +104,8 @@ isOfBody (said.Recent x) = false
 isOfBody said.Nothing = false
 isOfBody (said.Refused f) = true
 isOfBody (said.Times x) = false
+isOfBody (said.State x) = false
+isOfBody said.Snoclo = false
 
 -- A group at place i of the body's row, where k groups stand, says this. Whether wind and visibility must stand and whether anything is written have no
 -- part in reading.

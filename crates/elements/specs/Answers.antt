@@ -18,6 +18,7 @@ use Rattle.record.specs.declared.aerodrome.Runway.{Runway}
 use Rattle.record.specs.declared.aerodrome.Temperatures.{Temperatures}
 use Rattle.record.specs.declared.aerodrome.Qnh.{Qnh}
 use Rattle.record.specs.declared.aerodrome.Times.{Times}
+use Rattle.record.specs.declared.aerodrome.RunwayState.{RunwayState}
 use Rattle.elements.specs.declared.kinds.Said.{Said}
 use Rattle.elements.specs.declared.kinds.Said.the-variants as said
 use Rattle.elements.specs.declared.kinds.WeatherRead.{WeatherRead}
@@ -59,6 +60,9 @@ asQnh = asSaid said.Qnh
 
 abbrev pub asTimes : Read Times → Said
 asTimes = asSaid said.Times
+
+abbrev pub asState : Read RunwayState → Said
+asState = asSaid said.State
 
 abbrev pub asWeather : Read Weather → WeatherRead
 asWeather (Good x) = weather.Good x

@@ -86,8 +86,15 @@ covering before (c ∷ cs) = (before ++ c ++ bytes "*") ∷ covering before cs
 abbrev pub allCodes : List (List ℕ)
 allCodes = codesOf (bytes "MIBCPRDRBLSHTSFZDZRASNSGICPLGRGSUPBRFGFUVADUSAHZPOSQFCSSDSVC")
 
+-- without a sign SN stands alone or before another code, so that SNOCLO is no weather
+abbrev pub codesButSnow : List (List ℕ)
+codesButSnow = codesOf (bytes "MIBCPRDRBLSHTSFZDZRASGICPLGRGSUPBRFGFUVADUSAHZPOSQFCSSDSVC")
+
+abbrev pub unsignedCover : List Pattern
+unsignedCover = bytes "SN" ∷ (covering (bytes "SN") allCodes ++ covering [] codesButSnow)
+
 abbrev pub weatherCover : List Pattern
-weatherCover = bytes "//" ∷ (covering [] allCodes ++ (covering (bytes "+") allCodes ++ covering (bytes "-") allCodes))
+weatherCover = bytes "//" ∷ (unsignedCover ++ (covering (bytes "+") allCodes ++ covering (bytes "-") allCodes))
 
 -- what is written of weather fits one of these: PR stands before FG alone, so that PROB30 is no weather
 abbrev pub spokenCodes : List (List ℕ)

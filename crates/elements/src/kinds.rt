@@ -6,6 +6,7 @@ use record::aerodrome::Layer;
 use record::aerodrome::Period;
 use record::aerodrome::Qnh;
 use record::aerodrome::Runway;
+use record::aerodrome::RunwayState;
 use record::aerodrome::Temperatures;
 use record::aerodrome::Times;
 use record::aerodrome::Variation;
@@ -39,6 +40,8 @@ pub enum Said {
     Nothing,
     Refused(Refusal),
     Times(Times),
+    State(RunwayState),
+    Snoclo,
 }
 
 pub enum WeatherRead {

@@ -162,6 +162,15 @@ fn runways() {
     rows::range(Range::Above(1500));
 }
 
+fn depths() {
+    print::heading(b"1079, mm");
+    rows::values(
+        Scale::Depth,
+        &[0, 1, 89, 90, 91, 99, 100, 149, 150, 399, 400, 99999, 100000],
+    );
+    rows::figures(Scale::Depth, &[0, 1, 89, 90, 91, 92, 93, 97, 98, 99]);
+}
+
 fn temperatures() {
     print::heading(b"aerodrome temperature, degrees");
     rows::temperatures(
@@ -263,6 +272,7 @@ fn seen() {
     rows::readings(Scale::Cloud, &[2970, 3000, 3300, 30000]);
     rows::readings(Scale::Visibility, &[750, 4000, 4050, 9000, 10000]);
     rows::readings(Scale::Runway, &[0, 50, 375, 2000, 2001]);
+    rows::readings(Scale::Depth, &[0, 89, 90, 91, 100, 350, 400]);
     rows::readings(Scale::Pressure, &[10130, 10135, 99990]);
 }
 
@@ -288,6 +298,7 @@ fn main() {
     clouds();
     visibilities();
     runways();
+    depths();
     temperatures();
     pressures();
     rains();

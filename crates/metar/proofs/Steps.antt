@@ -7,7 +7,7 @@ use mathlib.Core.Path.{_≡_, refl, sym, _∙_}
 use mathlib.Core.Bool.{Bool, true, false, cond, or-false}
 use mathlib.Core.List.{List, [], _∷_}
 use lib.ListN.{length, drop}
-use lib.Dec.{T}
+use lib.Dec.{T, eqb}
 use types.Run.{OneOf}
 use denote.Enum.Declared.{tagOf}
 use Rattle.text.specs.declared.kinds.Refusal.the-variants as refusal
@@ -16,7 +16,7 @@ use Rattle.text.specs.Groups.{Piece, partOf}
 use Rattle.figures.specs.Quote.{bytes}
 use Rattle.shapes.specs.Pattern.{low, high, fits, hasPattern, hasAny, clash, clashEach, allApart}
 use Rattle.shapes.proofs.Patterns.{or-right, excluded, all-excluded}
-use Rattle.places.specs.Engine.{Group, Good, then, placeAt, mustsOf, On, step}
+use Rattle.places.specs.Engine.{Group, Read, Good, Bad, then, placeAt, mustsOf, On, step}
 use Rattle.places.specs.Seek.{owed}
 use Rattle.places.specs.Parts.{stepBy, runTo, owes, reportOf}
 use Rattle.places.proofs.ReadBack.{two-patterns}
@@ -24,7 +24,8 @@ use Rattle.places.proofs.Going.{step-first}
 use Rattle.places.proofs.Loop.{atMost}
 use Rattle.record.specs.declared.aerodrome.Body.{Body}
 use Rattle.record.specs.declared.aerodrome.Observation.{Observation}
-use Rattle.record.specs.Observation.{blankObservation, setSpecial, setTime, setBody, setVariation, setRunways, setTemperatures, setQnh, setRecents}
+use Rattle.record.specs.declared.aerodrome.RunwayState.{RunwayState}
+use Rattle.record.specs.Observation.{blankObservation, setSpecial, setTime, setBody, setVariation, setRunways, setTemperatures, setQnh, setRecents, setStates}
 use Rattle.elements.specs.declared.kinds.Said.{Said}
 use Rattle.elements.specs.declared.kinds.Said.the-variants as said
 use Rattle.elements.proofs.kinds.Said as says
@@ -34,12 +35,14 @@ use Rattle.elements.specs.Answers.{asSaid}
 use Rattle.aerodrome_groups.specs.Head.{readTime}
 use Rattle.aerodrome_groups.specs.Runway.{readRunway, withRunway}
 use Rattle.aerodrome_groups.specs.Temperatures.{readTemperatures, readQnh}
+use Rattle.elements.specs.Parts.{disagrees}
+use Rattle.runway_states.specs.State.{readState, withState, withSnoclo}
 use Rattle.elements.specs.Body.{bodyRow}
-use Rattle.body.specs.Said.{isOfBody, Says as BodySays}
+use Rattle.body.specs.Said.{unlessRefused, isOfBody, Says as BodySays}
 use Rattle.body.proofs.Variants.{each, by-tag, never}
 use Rattle.body.proofs.Says.{value-says, body-says, past-says}
 use Rattle.metar_row.specs.Row.{isName, observed, row, words}
-use Rattle.metar.specs.Said.{ontoBody, reportSaid, Says}
+use Rattle.metar.specs.Said.{ontoBody, reportSaid, Seen, Says}
 use Rattle.trend.specs.declared.kinds.Next.{Next}
 use Rattle.trend.specs.Step.{afterPart, MetWord}
 use Rattle.metar.specs.Read.{mainPart, groupsRead, behindName}
@@ -47,7 +50,7 @@ use Rattle.metar.specs.Step.{alone, wordAt}
 
 -- ---- the row
 
-pub row-length : length row ≡ 16
+pub row-length : length row ≡ 19
 unfolding row
 row-length = refl
 
@@ -65,43 +68,79 @@ of-body : (k : ℕ) (g : Group) (r : Observation) (x : Said) → isOfBody x ≡ 
 unfolding reportSaid
 of-body k g r x own = each (λ x. T (isOfBody x) → ontoBody k x r ≡ reportSaid k g x r) (search never) x (rw own tt)
 
--- in a record that has the body that was seen, AUTO or not
-module _ (k : ℕ) (g : Group) (automatic : Bool) (b : Body) where
+-- what a place over a part of the record reads, set back into the record
+set-back : {A B R : Type 0} (x : Read A) (f : A → B) (set : B → R) → then x (λ a. Good (set (f a))) ≡ then (then x (λ a. Good (f a))) (λ b. Good (set b))
+set-back (Good a) f set = refl
+set-back (Bad n) f set = refl
+
+-- in a record that has the body that was seen and as many runway states, AUTO or not
+module _ (k : ℕ) (g : Group) (automatic : Bool) (b : Body) (states : ℕ) where
   abbrev seen : Observation → Type 0
-  seen r = (r .automatic ≡ automatic) × (r .body ≡ b)
+  seen = Seen automatic b states
 
   -- what is of the body, by its place there
   pub says-body : (i j : ℕ) {x : Said} → BodySays false false automatic j k g b x
-      → ((r : Observation) → placeAt row i .read k g r ≡ then (placeAt (bodyRow (observed r)) j .read k g (r .body)) (λ b. Good (setBody b r))) → Says i k g automatic b x
+      → ((r : Observation) → placeAt row i .read k g r ≡ then (placeAt (bodyRow (observed r)) j .read k g (r .body)) (λ b. Good (setBody b r))) → Says i k g automatic b states x
   says-body i j s reads =
       body-says row reportSaid seen k g (λ r. r .body) setBody b (λ r is. is .1) (of-body k g) i s (λ r is. (true, r .nil, rw (← is .0) (reads r)))
 
-  pub says-time : Says 3 k g automatic b (asSaid said.Time (readTime g))
+  pub says-time : Says 3 k g automatic b states (asSaid said.Time (readTime g))
   unfolding row reportSaid
   says-time = value-says row reportSaid seen k g 3 said.Time setTime (readTime g) (λ r a. refl) (λ r is. refl)
 
-  pub says-variation : Says 7 k g automatic b (asSaid said.Variation (readVariation g))
+  pub says-variation : Says 7 k g automatic b states (asSaid said.Variation (readVariation g))
   unfolding row reportSaid
   says-variation = value-says row reportSaid seen k g 7 said.Variation setVariation (readVariation g) (λ r a. refl) (λ r is. refl)
 
-  pub says-runway : Says 9 k g automatic b (asSaid said.Runway (readRunway g))
+  pub says-runway : Says 9 k g automatic b states (asSaid said.Runway (readRunway g))
   unfolding row reportSaid
   says-runway = value-says row reportSaid seen k g 9 said.Runway (λ x r. setRunways (withRunway k (r .runways) x) r) (readRunway g) (λ r a. refl) (λ r is. refl)
 
-  pub says-temperatures : Says 12 k g automatic b (asSaid said.Temperatures (readTemperatures g))
+  pub says-temperatures : Says 12 k g automatic b states (asSaid said.Temperatures (readTemperatures g))
   unfolding row reportSaid
   says-temperatures = value-says row reportSaid seen k g 12 said.Temperatures setTemperatures (readTemperatures g) (λ r a. refl) (λ r is. refl)
 
-  pub says-qnh : Says 13 k g automatic b (asSaid said.Qnh (readQnh g))
+  pub says-qnh : Says 13 k g automatic b states (asSaid said.Qnh (readQnh g))
   unfolding row reportSaid
   says-qnh = value-says row reportSaid seen k g 13 said.Qnh setQnh (readQnh g) (λ r a. refl) (λ r is. refl)
 
-  pub says-recent : Says 14 k g automatic b (asSaid said.Recent (readRecent automatic g))
+  pub says-recent : Says 14 k g automatic b states (asSaid said.Recent (readRecent automatic g))
   unfolding row reportSaid
   says-recent = value-says row reportSaid seen k g 14 said.Recent (λ x r. setRecents (withWeather k (r .recents) x) r) (readRecent automatic g) (λ r a. refl) (λ r is. rw (is .0))
 
+  pub says-state : Says 15 k g automatic b states (asSaid said.State (readState g))
+  unfolding row reportSaid
+  says-state =
+      value-says row reportSaid seen k g 15 said.State (λ x r. setStates (withState k (r .states) x) r) (readState g) (λ r a. refl)
+      (λ r is. sym (set-back (readState g) (withState k (r .states)) (λ ss. setStates ss r)))
+
+  -- SNOCLO, by whether a state stands
+  pub says-snoclo : Says 16 k g automatic b states (cond (eqb states 0) said.Snoclo (said.Refused refusal.Disagreement))
+  unfolding row reportSaid
+  says-snoclo r is = rw (← is .2) (go (eqb (r .states .count) 0))
+    where
+      says : Bool → Said
+      says alone = cond alone said.Snoclo (said.Refused refusal.Disagreement)
+
+      go : (alone : Bool) → unlessRefused (says alone) (reportSaid k g (says alone) r) ≡ then (cond alone (Good (withSnoclo true (r .states))) disagrees) (λ ss. Good (setStates ss r))
+      go true = refl
+      go false = refl
+
+  -- a state after SNOCLO
+  pub says-beside : Says 17 k g automatic b states (asSaid said.State (then (readState g) (λ x. disagrees)))
+  unfolding row reportSaid
+  says-beside r is = go (readState g)
+    where
+      beside : Read RunwayState → Read RunwayState
+      beside x = then x (λ y. disagrees)
+
+      go : (x : Read RunwayState)
+          → unlessRefused (asSaid said.State (beside x)) (reportSaid k g (asSaid said.State (beside x)) r) ≡ then (then x (λ y. disagrees)) (λ ss. Good (setStates ss r))
+      go (Good y) = refl
+      go (Bad f) = refl
+
   -- past the row no group is taken
-  pub says-nothing : (i : ℕ) → 16 ≤ i → Says i k g automatic b (said.Refused refusal.Shape)
+  pub says-nothing : (i : ℕ) → 19 ≤ i → Says i k g automatic b states (said.Refused refusal.Shape)
   says-nothing i h = past-says row reportSaid seen k g i (rw row-length h)
 
 -- no place has more than four groups

@@ -6,12 +6,13 @@ use mathlib.Core.Bool.{Bool, true}
 use Rattle.places.specs.Engine.{Group}
 use Rattle.record.specs.declared.aerodrome.Body.{Body}
 use Rattle.record.specs.declared.aerodrome.Observation.{Observation}
-use Rattle.record.specs.Observation.{setSpecial, setCorrected, setStation, setTime, setNil, setAutomatic, setBody, setVariation, setRunways, setTemperatures, setQnh, setRecents}
+use Rattle.record.specs.Observation.{setSpecial, setCorrected, setStation, setTime, setNil, setAutomatic, setBody, setVariation, setRunways, setTemperatures, setQnh, setRecents, setStates}
 use Rattle.elements.specs.declared.kinds.Said.{Said}
 use Rattle.elements.specs.declared.kinds.Said.the-variants as said
 use Rattle.elements.specs.Weather.{withWeather}
 use Rattle.aerodrome_groups.specs.Head.{stationOf}
 use Rattle.aerodrome_groups.specs.Runway.{withRunway}
+use Rattle.runway_states.specs.State.{withState, withSnoclo}
 use Rattle.body.specs.Said.{putSaid, SaysAt}
 use Rattle.metar_row.specs.Row.{row}
 
@@ -32,6 +33,8 @@ reportSaid k g (said.Runway x) r = setRunways (withRunway k (r .runways) x) r
 reportSaid k g (said.Temperatures x) r = setTemperatures x r
 reportSaid k g (said.Qnh x) r = setQnh x r
 reportSaid k g (said.Recent x) r = setRecents (withWeather k (r .recents) x) r
+reportSaid k g (said.State x) r = setStates (withState k (r .states) x) r
+reportSaid k g said.Snoclo r = setStates (withSnoclo true (r .states)) r
 reportSaid k g (said.Correction x) r = ontoBody k (said.Correction x) r
 reportSaid k g (said.Period x) r = ontoBody k (said.Period x) r
 reportSaid k g said.Cancelled r = ontoBody k said.Cancelled r
@@ -45,6 +48,10 @@ reportSaid k g said.Nothing r = ontoBody k said.Nothing r
 reportSaid k g (said.Refused f) r = ontoBody k (said.Refused f) r
 reportSaid k g (said.Times x) r = ontoBody k (said.Times x) r
 
--- A group at place i says this: put into any record with this body, AUTO or not, it is what the place reads.
-abbrev pub Says : ℕ → ℕ → Group → Bool → Body → Said → Type 0
-Says i k g automatic b x = SaysAt row reportSaid (λ r. (r .automatic ≡ automatic) × (r .body ≡ b)) i k g x
+-- What of a record a reading depends on: AUTO or not, the body, and how many runway states stand.
+abbrev pub Seen : Bool → Body → ℕ → Observation → Type 0
+Seen automatic b states r = (r .automatic ≡ automatic) × (r .body ≡ b) × (r .states .count ≡ states)
+
+-- A group at place i says this: put into any such record, it is what the place reads.
+abbrev pub Says : ℕ → ℕ → Group → Bool → Body → ℕ → Said → Type 0
+Says i k g automatic b states x = SaysAt row reportSaid (Seen automatic b states) i k g x

@@ -20,6 +20,7 @@ use Rattle.elements.specs.Body.{windJudged, visibilityJudged, weatherJudged, sk
 use Rattle.aerodrome_groups.specs.Head.{judgeStation, judgeTime}
 use Rattle.aerodrome_groups.specs.Runway.{judgeRunways}
 use Rattle.aerodrome_groups.specs.Temperatures.{judgeTemperatures, judgeQnh}
+use Rattle.runway_states.specs.State.{judgeStates}
 use Rattle.metar_row.specs.Row.{observed, row}
 use Rattle.trend.specs.Write.{judgeTrend, showTrend, classTrend}
 
@@ -42,7 +43,8 @@ judgeObservation r =
     (andThen (weatherJudged (observed r) (r .body))
     (andThen (skyJudged (observed r) (r .body))
     (andThen (judgeTemperatures (r .temperatures))
-    (andThen (judgeQnh (r .qnh)) (judgeWeathers (judgeRecent (r .automatic)) (r .recents)))))))))
+    (andThen (judgeQnh (r .qnh))
+    (andThen (judgeWeathers (judgeRecent (r .automatic)) (r .recents)) (judgeStates (r .states))))))))))
 
 unfoldable pub judgeOf : Metar → Judged
 judgeOf r =

@@ -19,6 +19,8 @@ use record::aerodrome::Observation;
 use record::aerodrome::Trend;
 use record::blank_aerodrome::blank_metar;
 use record::blank_aerodrome::blank_observation;
+use runway_states::read::add_state;
+use runway_states::read::close;
 use text::kinds::Cut;
 use text::kinds::Verdict;
 use text::part;
@@ -36,7 +38,7 @@ ghost use Rattle.record.specs.declared.aerodrome.Observation.{Observation};
 ghost use Rattle.body.specs.Met.{Meets};
 ghost use Rattle.metar_row.specs.Row.{row, words};
 ghost use Rattle.places.specs.Answer.{outcomeOf, endVerdict};
-ghost use Rattle.metar.specs.Said.{reportSaid};
+ghost use Rattle.metar.specs.Said.{Seen, reportSaid};
 ghost use Rattle.trend.specs.Step.{afterPart};
 ghost use Rattle.trend.specs.declared.kinds.Next.the-variants as next;
 ghost use Rattle.metar.specs.Step.{alone, wordAt};
@@ -106,8 +108,16 @@ fn conclude(text: &[u8], next: Next, observation: Observation) -> Reading
 }
 
 // The next group of the text: where it goes in the row, and what it says there. Of the record it sees what a reading depends on.
-fn meet(text: &[u8], from: usize, place: usize, count: usize, automatic: bool, body: Body) -> Met
-    ensures { λ m. ⌜ Meets row (hasAny words) reportSaid place count (λ (r : Observation). (r .automatic ≡ automatic) × (r .body ≡ body)) (now (text .entry)) from m ⌝ }
+fn meet(
+    text: &[u8],
+    from: usize,
+    place: usize,
+    count: usize,
+    automatic: bool,
+    body: Body,
+    states: usize,
+) -> Met
+    ensures { λ m. ⌜ Meets row (hasAny words) reportSaid place count (Seen automatic body states) (now (text .entry)) from m ⌝ }
 {
     let Cut::Group { start, end } = text::next_group(text, from) else {
         return Met::Over;
@@ -121,7 +131,7 @@ fn meet(text: &[u8], from: usize, place: usize, count: usize, automatic: bool, b
             place: there,
             count: standing,
         } => {
-            let said = say_at(there, standing, g, automatic, body);
+            let said = say_at(there, standing, g, automatic, body, states);
             meet_said(said, there, standing, start, end)
         }
     }
@@ -138,7 +148,15 @@ pub fn read_from(text: &[u8], at: usize, special: bool) -> Reading
     let mut count = 1;
     let mut from = at;
     loop {
-        let met = meet(text, from, place, count, report.automatic, report.body);
+        let met = meet(
+            text,
+            from,
+            place,
+            count,
+            report.automatic,
+            report.body,
+            report.states.count,
+        );
         match met {
             Met::Over => return conclude(text, after_groups(text, place, count), report),
             Met::Halt { start, end } => {
@@ -163,6 +181,8 @@ pub fn read_from(text: &[u8], at: usize, special: bool) -> Reading
                     Said::Temperatures(x) => report.temperatures = x,
                     Said::Qnh(x) => report.qnh = x,
                     Said::Recent(x) => report.recents = add_weather(next.count, report.recents, x),
+                    Said::State(x) => report.states = add_state(next.count, report.states, x),
+                    Said::Snoclo => report.states = close(report.states),
                     _ => report.body = put(said, next.count, report.body),
                 }
             }

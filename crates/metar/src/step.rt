@@ -11,6 +11,9 @@ use metar_row::is_word;
 use places::kinds::Turn;
 use places::turn_by;
 use record::aerodrome::Body;
+use runway_states::read::read_beside;
+use runway_states::read::read_state;
+use runway_states::read::say_snoclo;
 use shapes::has_pattern;
 use text::kinds::Refusal;
 use weather::read::read_recent;
@@ -28,7 +31,7 @@ ghost use Rattle.metar.specs.Said.{Says};
 pub fn decide(place: usize, count: usize, g: &[u8]) -> Turn
     ensures { λ t. ⌜ t ≡ turnAt row (hasAny words) place count (now (g .entry)) ⌝ }
 {
-    if 16 <= place {
+    if 19 <= place {
         return Turn::Refused(Refusal::Shape);
     }
     if is_word(g) {
@@ -48,9 +51,9 @@ fn say_recent(automatic: bool, g: &[u8]) -> Said
     }
 }
 
-// What the group says at its place, where `count` groups stand; `automatic` and the body are those of the record so far.
-pub fn say_at(place: usize, count: usize, g: &[u8], automatic: bool, b: Body) -> Said
-    ensures { λ x. ⌜ Says place count (now (g .entry)) automatic b x ⌝ }
+// What the group says at its place, where `count` groups stand; `automatic`, the body and how many runway states there are, are those of the record so far.
+pub fn say_at(place: usize, count: usize, g: &[u8], automatic: bool, b: Body, states: usize) -> Said
+    ensures { λ x. ⌜ Says place count (now (g .entry)) automatic b states x ⌝ }
 {
     match place {
         0 => Said::Special(has_pattern(g, b"SPECI")),
@@ -68,7 +71,10 @@ pub fn say_at(place: usize, count: usize, g: &[u8], automatic: bool, b: Body) ->
         12 => read_temperatures(g),
         13 => read_qnh(g),
         14 => say_recent(automatic, g),
-        15 => Said::Refused(Refusal::Order),
+        15 => read_state(g),
+        16 => say_snoclo(states),
+        17 => read_beside(g),
+        18 => Said::Refused(Refusal::Order),
         _ => Said::Refused(Refusal::Shape),
     }
 }

@@ -26,6 +26,7 @@ use Rattle.body.proofs.Bodies.{wind-both, view-both, weather-classed, clouds-cl
 use Rattle.body.proofs.Sayings.{keep-part, last-unless, report-said}
 use Rattle.aerodrome_groups.proofs.RunwaysBack.{runways-again, runways-classed}
 use Rattle.aerodrome_groups.proofs.TemperaturesBack.{temperatures-again, temperatures-classed, qnh-again, qnh-classed}
+use Rattle.runway_states.proofs.StatesBack.{Counted, none-counted, states-fit, states-again, states-classed}
 use Rattle.metar_row.specs.Row.{observed, row, words}
 use Rattle.metar.specs.Read.{mainPart, groupsRead}
 use Rattle.metar.specs.Write.{judgeHead, judgeObservation, judgeOf, groupsOf, canonicalOf, classObservation, classedOf}
@@ -49,17 +50,27 @@ trend-listed r arrays e = go (r .observation .nil) refl
     go true n = rw (fair-silent r arrays e n) (unfold isBlankBody in record { few = omega arith; each = tt; many = refl; past = refl; rest = refl })
     go false n = listed (r .trend) (arrays .trend) (arrays .each) (fair r e .rest n .1)
 
+-- ---- runway states
+
+-- judged where the report is not NIL, and blank where it is
+pub states-counted : (r : Metar) → MetarArrays r → judgeOf r ≡ judged.Fine → Counted (r .observation .states)
+states-counted r arrays e = go (r .observation .nil) refl
+  where
+    go : (b : Bool) → r .observation .nil ≡ b → Counted (r .observation .states)
+    go true n = rw (fair-bare r arrays e n .states) none-counted
+    go false n = states-fit (r .observation .states) (arrays .observation .states) (fair-observation r e n .states)
+
 -- ---- how long it is
 
 -- The groups of a record can be joined and cut, and hold only bytes that a text may hold.
-pub groups-sizes : (r : Metar) → MetarArrays r → judgeOf r ≡ judged.Fine → Sizes 636 (groupsOf r)
+pub groups-sizes : (r : Metar) → MetarArrays r → judgeOf r ≡ judged.Fine → Sizes 680 (groupsOf r)
 unfolding groupsOf
 groups-sizes r arrays e =
-    let room : rowRoom sizes row ≤ 258 = unfold row in omega arith in
+    let room : rowRoom sizes row ≤ 302 = unfold row in omega arith in
     sizes-append (written row (r .observation)) (showTrend (r .trend)) (sizes-more room (kept-sizes (kept-row r arrays e))) (trend-sizes (r .trend) (trend-listed r arrays e))
 
 -- HOW LONG THE CANONICAL TEXT IS, at most: with NOSIG, or with three changes.
-pub length-canonical : (r : Metar) → MetarArrays r → judgeOf r ≡ judged.Fine → length (canonicalOf r) ≤ 636
+pub length-canonical : (r : Metar) → MetarArrays r → judgeOf r ≡ judged.Fine → length (canonicalOf r) ≤ 680
 unfolding canonicalOf
 length-canonical r arrays e = joined-short (groupsOf r) (unfold groupsOf row in omega arith) (groups-sizes r arrays e)
 
@@ -89,9 +100,9 @@ read-canonical r arrays e = joined-back groupsRead (groupsOf r) (groups-sizes r 
 -- ---- written again
 
 -- what stands in the observation is written alike
-observation-again : (r : Observation) → FairObservation r → r .nil ≡ false → written row (classObservation r) ≡ written row r
+observation-again : (r : Observation) → FairObservation r → Counted (r .states) → r .nil ≡ false → written row (classObservation r) ≡ written row r
 unfolding row classObservation
-observation-again r f full =
+observation-again r f l full =
     let t = observed r in
     rw (
       wind-both t (live r full) (r .body) (f .body .wind) .0,
@@ -101,11 +112,12 @@ observation-again r f full =
       sky-again (r .body .sky),
       temperatures-again (r .temperatures) (f .temperatures),
       qnh-again (r .qnh),
+      states-again (r .states) l,
     )
 
 nil-observed : (r : Observation) → Bare r → classObservation r ≡ r
 unfolding row classObservation
-nil-observed r b = rw (b .automatic, b .body, b .variation, b .runways, b .temperatures, b .qnh, b .recents)
+nil-observed r b = rw (b .automatic, b .body, b .variation, b .runways, b .temperatures, b .qnh, b .recents, b .states)
 
 -- A record that is NIL is read back as it was.
 pub nil-classed : (r : Metar) → MetarArrays r → judgeOf r ≡ judged.Fine → r .observation .nil ≡ true → classedOf r ≡ r
@@ -119,11 +131,11 @@ written-again r arrays e = go (r .observation .nil) refl
   where
     go : (b : Bool) → r .observation .nil ≡ b → canonicalOf (classedOf r) ≡ canonicalOf r
     go true n = ap canonicalOf (nil-classed r arrays e n)
-    go false n = ap join (rw (observation-again (r .observation) (fair-observation r e n) n, trend-again (r .trend) (trend-listed r arrays e)))
+    go false n = ap join (rw (observation-again (r .observation) (fair-observation r e n) (states-counted r arrays e) n, trend-again (r .trend) (trend-listed r arrays e)))
 
-observation-classed : (r : Observation) → FairObservation r → r .nil ≡ false → judgeObservation (classObservation r) ≡ judged.Fine
+observation-classed : (r : Observation) → FairObservation r → Counted (r .states) → r .nil ≡ false → judgeObservation (classObservation r) ≡ judged.Fine
 unfolding judgeObservation row classObservation
-observation-classed r f full =
+observation-classed r f l full =
     let t = observed r in
     rw (
       wind-both t (live r full) (r .body) (f .body .wind) .1,
@@ -135,6 +147,7 @@ observation-classed r f full =
       temperatures-classed (r .temperatures) (f .temperatures),
       qnh-classed (r .qnh) (f .qnh),
       f .recents,
+      states-classed (r .states) l,
     )
 
 -- the head is as it was
@@ -150,7 +163,7 @@ full-classed : (r : Metar) → MetarArrays r → judgeOf r ≡ judged.Fine → r
 unfolding judgeOf classedOf judgeHead judgeObservation
 full-classed r arrays e n =
     let o = r .observation in
-    rw (nil-same o ∙ n, head-classed r e, observation-classed o (fair-observation r e n) n, trend-judged (r .trend) (trend-listed r arrays e))
+    rw (nil-same o ∙ n, head-classed r e, observation-classed o (fair-observation r e n) (states-counted r arrays e) n, trend-judged (r .trend) (trend-listed r arrays e))
 
 -- AND THE WRITER ACCEPTS IT.
 pub classed-fine : (r : Metar) → MetarArrays r → judgeOf r ≡ judged.Fine → judgeOf (classedOf r) ≡ judged.Fine

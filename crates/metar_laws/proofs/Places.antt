@@ -22,7 +22,7 @@ use Rattle.record.specs.declared.aerodrome.Extremes.{Extremes}
 use Rattle.record.specs.declared.aerodrome.Extremes.the-variants as extremes
 use Rattle.record.specs.declared.aerodrome.Body.{Body}
 use Rattle.record.specs.declared.aerodrome.Observation.{Observation}
-use Rattle.record.specs.Observation.{setCorrected, setStation, setTime, setNil, setAutomatic, setBody, blankObservation, blankRunways, setRunways, setRecents}
+use Rattle.record.specs.Observation.{setCorrected, setStation, setTime, setNil, setAutomatic, setBody, blankObservation, blankRunways, blankStates, setRunways, setRecents, setStates}
 use Rattle.record.specs.Body.{blankWeathers}
 use Rattle.elements.specs.Wind.{variationShape, showVariation, judgeVariation}
 use Rattle.elements.specs.Body.{Terms}
@@ -38,6 +38,9 @@ use Rattle.aerodrome_groups.proofs.HeadKept.{kept-word}
 use Rattle.aerodrome_groups.proofs.TemperaturesBack.{temperatures-shaped, temperatures-back, qnh-shaped, qnh-back}
 use Rattle.aerodrome_groups.specs.Runway.{runwayShape, readRunway, withRunway, showRunways, judgeRunways, classRunways}
 use Rattle.aerodrome_groups.proofs.RunwaysBack.{addEach as addRunways, runways-shaped, runways-few, runways-back}
+use Rattle.runway_states.specs.State.{statesPlace, snocloPlace, besidePlace}
+use Rattle.runway_states.proofs.StatesBack.{Counted, snoclo-alone}
+use Rattle.runway_states.proofs.StatesKept.{kept-states, kept-snoclo, kept-beside}
 use Rattle.body.proofs.Places.{Live}
 use Rattle.metar_row.specs.Row.{isName, observed, ofBody, row}
 
@@ -82,6 +85,9 @@ nil-lens = record { got = λ a r. refl; same = λ r. refl; twice = λ a b r. ref
 
 automatic-lens : Lens (λ (r : Observation). r .automatic) setAutomatic
 automatic-lens = record { got = λ a r. refl; same = λ r. refl; twice = λ a b r. refl }
+
+states-lens : Lens (λ (r : Observation). r .states) setStates
+states-lens = record { got = λ a r. refl; same = λ r. refl; twice = λ a b r. refl }
 
 body-lens : Lens (λ (r : Observation). r .body) setBody
 body-lens = record { got = λ a r. refl; same = λ r. refl; twice = λ a b r. refl }
@@ -187,3 +193,18 @@ module _ (r acc : Observation) (blank : setRecents blankWeathers acc ≡ acc) (s
       (weathers-all showRecent (judgeRecent (r .automatic)) (r .recents) e (Sized 10)
       (λ w h. let z = recent-sized (r .automatic) w h in record { whole = z .0; allow = z .1; short = z .2 }))
       (weathers-three showRecent (judgeRecent (r .automatic)) (r .recents) e three) recents-filled
+
+-- ---- runway states and SNOCLO, of which nothing was read before
+
+module _ (r acc : Observation) where
+  pub kept-states-at : Counted (r .states) → acc .states ≡ blankStates → Kept (placeAt row 15) 8 r acc
+  unfolding row
+  kept-states-at l none = kept-lifted states-lens {p = statesPlace} (rw none (kept-states (r .states) l))
+
+  pub kept-snoclo-at : Counted (r .states) → acc .states .count ≡ r .states .count → acc .states .snoclo ≡ false → Kept (placeAt row 16) 6 r acc
+  unfolding row
+  kept-snoclo-at l same unset = kept-lifted states-lens {p = snocloPlace} (kept-snoclo (r .states) (acc .states) (λ closed. same ∙ snoclo-alone (r .states) l closed) unset)
+
+  pub kept-beside-at : Kept (placeAt row 17) 0 r acc
+  unfolding row
+  kept-beside-at = kept-lifted states-lens {p = besidePlace} (kept-beside (r .states) (acc .states))

@@ -12,10 +12,14 @@ use Rattle.places.specs.Engine.{Done}
 use Rattle.record.specs.declared.aerodrome.Observation.{Observation}
 use Rattle.record.specs.declared.aerodrome.TrendChange.{TrendChange}
 use Rattle.record.specs.declared.aerodrome.Metar.{Metar}
+use Rattle.record.specs.Observation.{blankState}
 use Rattle.record.specs.Trend.{blankTrendChange}
 use Rattle.wind.proofs.Promises.{ExtremesNear, no-extremes, variation-near}
 use Rattle.body.proofs.Promises.{BodyRead, body-read, blank-read}
 use Rattle.aerodrome_groups.proofs.Promises.{RunwaysKept, runways-kept, TemperaturesKept, temperatures-kept, QnhKept, qnh-kept}
+use Rattle.runway_states.specs.State.{classState}
+use Rattle.runway_states.proofs.StatesBack.{Counted}
+use Rattle.runway_states.proofs.Promises.{StatesKept, states-kept}
 use Rattle.metar_row.specs.Row.{observed, row}
 use Rattle.metar.specs.Read.{groupsRead}
 use Rattle.elements.specs.Body.{changing}
@@ -28,7 +32,7 @@ use Rattle.record.proofs.Counted.{map-counted, taken, dropped, EachRead, each-r
 use Rattle.metar_laws.proofs.Places.{live}
 use Rattle.metar_laws.proofs.Report.{fair-observation, fair-bare}
 use Rattle.metar_laws.proofs.Trends.{Sound, change-is}
-use Rattle.metar_laws.proofs.Canonical.{trend-listed, read-canonical}
+use Rattle.metar_laws.proofs.Canonical.{trend-listed, states-counted, read-canonical}
 
 -- ---- the record that is read back
 
@@ -46,6 +50,7 @@ pub record ObservationRead (r q : Observation) : Type 0 where
   pub temperatures : TemperaturesKept (r .temperatures) (q .temperatures)
   pub qnh : QnhKept (r .qnh) (q .qnh)
   pub recents : q .recents ≡ r .recents
+  pub states : StatesKept (r .states) (q .states)
 
 pub record ChangeRead (c d : TrendChange) : Type 0 where
   pub tendency : d .tendency ≡ c .tendency
@@ -78,9 +83,9 @@ near r arrays e = go (r .observation .nil) refl
         let f = fair-observation r e n in
         record { body = body-read (observed o) (live o n) (o .body) (f .body); variation = variation-near (o .variation) (f .variation) }
 
-observation-read : (r : Observation) → Near r (classObservation r) → ObservationRead r (classObservation r)
+observation-read : (r : Observation) → Near r (classObservation r) → Counted (r .states) → ObservationRead r (classObservation r)
 unfolding row classObservation
-observation-read r n =
+observation-read r n l =
     record {
       special = refl;
       corrected = refl;
@@ -94,6 +99,7 @@ observation-read r n =
       temperatures = temperatures-kept (r .temperatures);
       qnh = qnh-kept (r .qnh);
       recents = refl;
+      states = states-kept (r .states) l;
     }
 
 -- ---- the trend
@@ -107,7 +113,7 @@ record-read r arrays e =
     let t = r .trend in
     let l = trend-listed r arrays e in
     record {
-      observation = observation-read (r .observation) (near r arrays e);
+      observation = observation-read (r .observation) (near r arrays e) (states-counted r arrays e);
       nosig = refl;
       count = refl;
       changes = rw (taken classChange (t .count) (t .items) (l .many)) (each-read ChangeRead classChange (change-read (t .nosig)) (take (t .count) (t .items)) (l .each));
@@ -119,7 +125,13 @@ pub promise : (r : Metar) → MetarArrays r → judgeOf r ≡ judged.Fine
     → (groupsRead (tailOf (canonicalOf r)) (length (canonicalOf r)) (groupsFrom (canonicalOf r) 0) ≡ Done (length (canonicalOf r)) (classedOf r)) × RecordRead r (classedOf r)
 promise r arrays e = (read-canonical r arrays e, record-read r arrays e)
 
--- ---- each change is read back as its class, and those past the count too
+-- ---- each change and each runway state is read back as its class, and those past the count too
+
+pub states-items : (r : Metar) → MetarArrays r → judgeOf r ≡ judged.Fine → classedOf r .observation .states .items ≡ map classState (r .observation .states .items)
+unfolding classedOf row classObservation
+states-items r arrays e =
+    let ss = r .observation .states in
+    map-counted classState blankState refl (ss .count) 4 (ss .items) (states-counted r arrays e .rest)
 
 blank-classed : classChange blankTrendChange ≡ blankTrendChange
 unfolding classChange trend-row.row

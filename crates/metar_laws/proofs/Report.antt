@@ -27,6 +27,8 @@ use Rattle.elements.proofs.Classed.{cavok-classed}
 use Rattle.aerodrome_groups.specs.Head.{judgeStation, judgeTime}
 use Rattle.aerodrome_groups.specs.Runway.{showRunways, judgeRunways}
 use Rattle.aerodrome_groups.specs.Temperatures.{judgeTemperatures, judgeQnh}
+use Rattle.runway_states.specs.State.{showStates, judgeStates}
+use Rattle.runway_states.proofs.StatesBack.{states-fit}
 use Rattle.places.proofs.Lift.{kept-lifted}
 use Rattle.aerodrome_groups.proofs.HeadKept.{kept-station, kept-time}
 use Rattle.body.proofs.Places.{kept-wind, kept-visibility, kept-weather, kept-sky}
@@ -34,7 +36,7 @@ use Rattle.body.proofs.Bodies.{FairBody}
 use Rattle.metar_row.specs.Row.{observed, row}
 use Rattle.trend.specs.Write.{judgeTrend}
 use Rattle.metar.specs.Write.{foreignBlank, judgeHead, judgeObservation, judgeOf}
-use Rattle.metar_laws.proofs.Places.{station-lens, time-lens, kept-name, kept-corrected, kept-nil, kept-automatic, kept-of, live, kept-variation, kept-temperatures, kept-qnh, kept-runways, kept-recents}
+use Rattle.metar_laws.proofs.Places.{station-lens, time-lens, kept-name, kept-corrected, kept-nil, kept-automatic, kept-of, live, kept-variation, kept-temperatures, kept-qnh, kept-runways, kept-recents, kept-states-at, kept-snoclo-at, kept-beside-at}
 
 -- ---- what is judged fine
 
@@ -72,6 +74,7 @@ pub record FairObservation (r : Observation) : Type 0 where
   pub temperatures : judgeTemperatures (r .temperatures) ≡ judged.Fine
   pub qnh : judgeQnh (r .qnh) ≡ judged.Fine
   pub recents : judgeWeathers (judgeRecent (r .automatic)) (r .recents) ≡ judged.Fine
+  pub states : judgeStates (r .states) ≡ judged.Fine
 
 fair-parts : (r : Observation) → judgeObservation r ≡ judged.Fine → FairObservation r
 unfolding judgeObservation
@@ -84,13 +87,15 @@ fair-parts r e =
     let c = and-then (skyJudged (observed r) (r .body)) _ (p .1) in
     let t = and-then (judgeTemperatures (r .temperatures)) _ (c .1) in
     let q = and-then (judgeQnh (r .qnh)) _ (t .1) in
+    let d = and-then (judgeWeathers (judgeRecent (r .automatic)) (r .recents)) (judgeStates (r .states)) (q .1) in
     record {
       body = record { wind = w .0; visibility = s .0; weather = p .0; sky = c .0 };
       variation = v .0;
       runways = n .0;
       temperatures = t .0;
       qnh = q .0;
-      recents = q .1;
+      recents = d .0;
+      states = d .1;
     }
 
 -- what stands after the time is judged where the report is not NIL, and blank where it is
@@ -110,7 +115,7 @@ fair-silent r arrays e nil = trend-blank (r .trend) (arrays .trend) (arrays .eac
 
 -- the bytes that a group may have at each place
 abbrev pub sizes : List ℕ
-sizes = 5 ∷ 3 ∷ 4 ∷ 7 ∷ 3 ∷ 4 ∷ 15 ∷ 7 ∷ 5 ∷ 11 ∷ 9 ∷ 9 ∷ 7 ∷ 5 ∷ 10 ∷ 0 ∷ []
+sizes = 5 ∷ 3 ∷ 4 ∷ 7 ∷ 3 ∷ 4 ∷ 15 ∷ 7 ∷ 5 ∷ 11 ∷ 9 ∷ 9 ∷ 7 ∷ 5 ∷ 10 ∷ 8 ∷ 6 ∷ 0 ∷ 0 ∷ []
 
 -- the record as the head leaves it
 abbrev pub headed : Observation → Observation
@@ -118,12 +123,12 @@ headed r = putAll (take 5 row) r blankObservation
 
 -- after NIL nothing is written, and nothing is put
 nil-written : (r : Observation) → Bare r → r .nil ≡ true → written (drop 5 row) r ≡ []
-unfolding row showVariation showRunways showWeathers showSky showRecents
-nil-written r b nil = rw (nil, b .automatic, b .body, b .variation, b .runways, b .recents)
+unfolding row showVariation showRunways showWeathers showSky showRecents showStates
+nil-written r b nil = rw (nil, b .automatic, b .body, b .variation, b .runways, b .recents, b .states)
 
 nil-put : (r : Observation) → Bare r → putAll (drop 5 row) r (headed r) ≡ headed r
 unfolding row
-nil-put r b = rw (b .automatic, b .body, b .variation, b .runways, b .temperatures, b .qnh, b .recents)
+nil-put r b = rw (b .automatic, b .body, b .variation, b .runways, b .temperatures, b .qnh, b .recents, b .states)
 
 kept-observation : (r : Observation) → ObservationArrays r → FairObservation r → r .nil ≡ false → KeptRow (drop 5 sizes) (drop 5 row) r (headed r)
 unfolding row
@@ -131,6 +136,7 @@ kept-observation r arrays f full =
     let t = observed r in
     let l = live r full in
     let b = r .body in
+    let s = states-fit (r .states) (arrays .states) (f .states) in
     more (kept-automatic r _ refl) refl
     (more (kept-of r _ windPlace (record { has = refl; spoken = refl; most = refl; must = refl }) refl (kept-wind t l b _ refl (f .body .wind))) refl
     (more (kept-variation r _ full (f .variation) refl) refl
@@ -141,7 +147,10 @@ kept-observation r arrays f full =
     (more (kept-temperatures r _ full (f .temperatures)) refl
     (more (kept-qnh r _ full (f .qnh)) refl
     (more (kept-recents r _ refl refl (arrays .recents) (f .recents)) refl
-    (more (keep-none refl refl refl) refl done))))))))))
+    (more (kept-states-at r _ s refl) refl
+    (more (kept-snoclo-at r _ s refl refl) refl
+    (more (kept-beside-at r _) refl
+    (more (keep-none refl refl refl) refl done)))))))))))))
 
 -- THE ROW KEEPS WHAT IS WRITTEN OF A RECORD THAT THE WRITER ACCEPTS.
 pub kept-row : (r : Metar) → MetarArrays r → judgeOf r ≡ judged.Fine → KeptRow sizes row (r .observation) blankObservation

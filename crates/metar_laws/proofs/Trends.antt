@@ -28,7 +28,7 @@ use Rattle.record.proofs.AerodromeBlanks.{trend-change-blank}
 use Rattle.elements.specs.Body.{changing, judgeBody, hasElement, classBody}
 use Rattle.sky.proofs.RoundTrip.{sky-again}
 use Rattle.body.proofs.Bodies.{FairBody, fair-body, wind-both, view-both, body-classed, element-classed}
-use Rattle.body.proofs.Changes.{list-fair, list-judged, one-sizes, list-sizes, list-again}
+use Rattle.elements.proofs.Lists.{list-fair, list-judged, one-sizes, list-sizes, list-again}
 use Rattle.trend_row.specs.Times.{hoursFit}
 use Rattle.trend_row.specs.Row.{row}
 use Rattle.trend_row.proofs.Changes.{live, changeSizes, kept-change-row, change-classed}

@@ -23,4 +23,4 @@ pub row-covered : Covered row
 unfolding row
 row-covered =
     let b = body-covered (observed blankObservation) in
-    (two-patterns _ _, (one-pattern _, (one-pattern _, (one-pattern _, (one-pattern _, (one-pattern _, (b .0, (one-pattern _, (b .1 .0, (runway-covered, (b .1 .1 .0, (b .1 .1 .1 .0, (temperatures-covered, (one-pattern _, (recent-covered, ((λ g h. h), tt))))))))))))))))
+    (two-patterns _ _, (one-pattern _, (one-pattern _, (one-pattern _, (one-pattern _, (one-pattern _, (b .0, (one-pattern _, (b .1 .0, (runway-covered, (b .1 .1 .0, (b .1 .1 .1 .0, (temperatures-covered, (one-pattern _, (recent-covered, ((λ g h. h), (one-pattern _, ((λ g h. h), ((λ g h. h), tt)))))))))))))))))))

@@ -35,11 +35,11 @@ unfolding hasAny
 time-is g {a} {b} {c} p q r = rw (← p, ← q, ← r) (any-time a b c)
 
 -- some place has the shape, by the first that has it
-pub known-is : (g : Group) {f : ℕ} → f ≡ fitFrom true 0 0 (standsOf row g) → ltb f 16 ≡ isKnown g
+pub known-is : (g : Group) {f : ℕ} → f ≡ fitFrom true 0 0 (standsOf row g) → ltb f 19 ≡ isKnown g
 unfolding row isKnown
 known-is g e = rw e (sym (anywhere-fit (standsOf row g) 0 0))
 
 -- NIL ends the report
-pub past-nil : (i : ℕ) (b : Bool) → eqb i 4 ≡ b → cond b 16 i ≡ onward row i
+pub past-nil : (i : ℕ) (b : Bool) → eqb i 4 ≡ b → cond b 19 i ≡ onward row i
 unfolding row
-past-nil i b e = ap (λ (x : Bool). cond x 16 i) (sym e ∙ ends-at row 4 i refl)
+past-nil i b e = ap (λ (x : Bool). cond x 19 i) (sym e ∙ ends-at row 4 i refl)

@@ -1,5 +1,6 @@
 -- METAR and SPECI as a row of places: "METAR or SPECI, [COR], CCCC, YYGGggZ, then NIL (end) or [AUTO], wind, [dddVddd], visibility, up to 4 runway
 -- ranges, 3 weather groups, 4 cloud groups, T/Td, Q, up to 3 RE groups. Parts in brackets or "up to" a number may be absent; the others are required."
+-- Runway states stand "after RE and before the trend".
 -- Assumes nothing: these are definitions.
 use Prim.Native.Nat.{ℕ}
 use mathlib.Core.Bool.{Bool, true, false, _||_, cond}
@@ -12,13 +13,14 @@ use Rattle.places.specs.Engine.{Group, Read, Good, Place, standsOf}
 use Rattle.places.specs.Lift.{lift, liftIn, shut}
 use Rattle.record.specs.declared.aerodrome.Body.{Body}
 use Rattle.record.specs.declared.aerodrome.Observation.{Observation}
-use Rattle.record.specs.Observation.{setSpecial, setCorrected, setStation, setTime, setNil, setAutomatic, setBody, setVariation, setRunways, setTemperatures, setQnh, setRecents, blankObservation}
+use Rattle.record.specs.Observation.{setSpecial, setCorrected, setStation, setTime, setNil, setAutomatic, setBody, setVariation, setRunways, setTemperatures, setQnh, setRecents, setStates, blankObservation}
 use Rattle.elements.specs.Parts.{then}
 use Rattle.elements.specs.Wind.{variationShape, readVariation, showVariation, classVariation}
 use Rattle.elements.specs.Weather.{hasRecent, readRecent, withWeather, showRecents}
 use Rattle.elements.specs.Body.{Terms, windPlace, visibilityPlace, weatherPlace, skyPlace}
 use Rattle.aerodrome_groups.specs.Head.{wordPlace, stationPlace, timePlace}
 use Rattle.aerodrome_groups.specs.Runway.{runwayShape, readRunway, withRunway, showRunways, classRunways}
+use Rattle.runway_states.specs.State.{statesPlace, snocloPlace, besidePlace}
 use Rattle.aerodrome_groups.specs.Temperatures.{temperaturesShape, qnhShape, readTemperatures, readQnh, showTemperatures, showQnh, classTemperatures, classQnh}
 
 -- a place: its shape and the patterns that cover it, how many may or must stand there; how a group is read, how it is written and what it is read back as
@@ -89,6 +91,9 @@ row =
     ∷ placeFor hasRecent (bytes "RE*" ∷ []) 3 false
     (λ k g r. onto (readRecent (r .automatic) g) (λ w r. setRecents (withWeather k (r .recents) w) r) r)
     (λ r. showRecents (r .recents)) (λ r acc. setRecents (r .recents) acc)
+    ∷ lift (λ (r : Observation). r .states) setStates statesPlace
+    ∷ lift (λ (r : Observation). r .states) setStates snocloPlace
+    ∷ lift (λ (r : Observation). r .states) setStates besidePlace
     ∷ shut (hasAny timeShapes) timeShapes
     ∷ []
 

@@ -6,6 +6,7 @@ use places::found_at;
 use places::kinds::Found;
 use places::may_answer;
 use places::most_at;
+use runway_states::read::has_state;
 use shapes::has_pattern;
 use sky::read::has_sky;
 use weather::read::has_recent;
@@ -71,20 +72,23 @@ fn has_at(place: usize, g: &[u8]) -> bool
         12 => has_temperatures(g),
         13 => has_pattern(g, b"Q####"),
         14 => has_recent(g),
-        15 => is_time(g),
+        15 => has_state(g),
+        16 => has_pattern(g, b"SNOCLO"),
+        17 => has_state(g),
+        18 => is_time(g),
         _ => false,
     }
 }
 
 // How many groups may stand at each place?
-fn mosts() -> [u8; 16]
+fn mosts() -> [u8; 19]
     ensures { λ r. ⌜ r ≡ mostsOf row ⌝ }
 {
-    [1, 1, 1, 1, 1, 1, 1, 1, 1, 4, 3, 4, 1, 1, 3, 0]
+    [1, 1, 1, 1, 1, 1, 1, 1, 1, 4, 3, 4, 1, 1, 3, 4, 1, 1, 0]
 }
 
 // Which places must have a group?
-pub fn musts() -> [bool; 16]
+pub fn musts() -> [bool; 19]
     ensures { λ r. ⌜ r ≡ mustsOf row ⌝ }
 {
     [
@@ -102,6 +106,9 @@ pub fn musts() -> [bool; 16]
         false,
         true,
         true,
+        false,
+        false,
+        false,
         false,
         false,
     ]
@@ -125,7 +132,7 @@ fn fit_from(all: bool, place: usize, count: usize, g: &[u8]) -> usize
 {
     let mut i = place;
     let mut k = count;
-    while i < 16 {
+    while i < 19 {
         if is_fit(all, i, k, g) {
             return i;
         }
@@ -139,7 +146,7 @@ fn fit_from(all: bool, place: usize, count: usize, g: &[u8]) -> usize
 pub fn is_known(g: &[u8]) -> bool
     ensures { λ r. ⌜ r ≡ isKnown (now (g .entry)) ⌝ }
 {
-    fit_from(true, 0, 0, g) < 16
+    fit_from(true, 0, 0, g) < 19
 }
 
 // The place that the group goes to.
@@ -147,12 +154,12 @@ pub fn find(place: usize, count: usize, g: &[u8]) -> Found
     ensures { λ r. ⌜ r ≡ findOf (standsOf row (now (g .entry))) place count ⌝ }
 {
     let fit = fit_from(false, place, count, g);
-    if fit < 16 {
+    if fit < 19 {
         let most = mosts();
         let must = musts();
         return found_at(&most, &must, place, count, fit);
     }
-    if fit_from(true, 0, 0, g) < 16 {
+    if fit_from(true, 0, 0, g) < 19 {
         Found::Earlier
     } else {
         Found::Unknown
@@ -163,5 +170,5 @@ pub fn find(place: usize, count: usize, g: &[u8]) -> Found
 pub fn go_past(place: usize) -> usize
     ensures { λ r. ⌜ r ≡ onward row place ⌝ }
 {
-    if place == 4 { 16 } else { place }
+    if place == 4 { 19 } else { place }
 }

@@ -11,6 +11,7 @@ use body::judge::weather_judged;
 use body::judge::wind_judged;
 use record::aerodrome::Metar;
 use record::aerodrome::Observation;
+use runway_states::judge::judge_states;
 use text::judge::and_then;
 use text::judge::judge as judge_pair;
 use text::kinds::Judged;
@@ -29,7 +30,9 @@ fn judge_observation(r: Observation) -> Judged
     let temperatures = r.temperatures;
     let qnh = r.qnh;
     let recents = r.recents;
-    let from_qnh = and_then(judge_qnh(qnh), judge_recents(automatic, recents));
+    let states = r.states;
+    let from_recents = and_then(judge_recents(automatic, recents), judge_states(states));
+    let from_qnh = and_then(judge_qnh(qnh), from_recents);
     let from_air = and_then(judge_temperatures(temperatures), from_qnh);
     let from_sky = and_then(sky_judged(false, body), from_air);
     let from_weather = and_then(weather_judged(false, false, automatic, body), from_sky);

@@ -11,6 +11,7 @@ use body::write::put_weather_or_nsw;
 use body::write::put_wind_unless;
 use record::aerodrome::Metar;
 use record::aerodrome::Observation;
+use runway_states::write::put_states;
 use sky::write::put_sky;
 use text::kinds::Judged;
 use text::kinds::Written;
@@ -77,7 +78,7 @@ fn put_seen(out: &mut [u8], at: usize, r: Observation) -> usize
     put_runways(out, seen, runways)
 }
 
-// T/Td, Q and recent weather: the last three. A NIL report is written without T/Td and Q.
+// T/Td, Q, recent weather and runway states: the last places. A NIL report is written without T/Td and Q.
 fn put_last(out: &mut [u8], at: usize, r: Observation) -> usize
     ensures { λ n. ⌜ Put (now (out .entry)) at (written at (groupsAt (drop 12 row) r)) n (now (out .exit)) ⌝ }
 {
@@ -85,12 +86,15 @@ fn put_last(out: &mut [u8], at: usize, r: Observation) -> usize
     let temperatures = r.temperatures;
     let qnh = r.qnh;
     let recents = r.recents;
+    let states = r.states;
     if nil {
-        put_recents(out, at, recents)
+        let rained = put_recents(out, at, recents);
+        put_states(out, rained, states)
     } else {
         let warmed = put_temperatures(out, at, temperatures);
         let pressed = put_qnh(out, warmed, qnh);
-        put_recents(out, pressed, recents)
+        let rained = put_recents(out, pressed, recents);
+        put_states(out, rained, states)
     }
 }
 
@@ -119,12 +123,12 @@ fn put_report(out: &mut [u8], r: Metar) -> usize
     close_report(out, told)
 }
 
-// A record that is judged fine: its text, at most 640 bytes, is made first, so that its length is known before the lent buffer is touched.
+// A record that is judged fine: its text, at most 704 bytes, is made first, so that its length is known before the lent buffer is touched.
 fn write_fine(r: Metar, out: &mut [u8]) -> Written
     requires { ⌜ judgeOf r ≡ judged.Fine ⌝ }
     ensures { λ w. ⌜ (w ≡ writtenOf r (length (now (out .entry)))) × (now (out .exit) ≡ bufferOf r (now (out .entry))) ⌝ }
 {
-    let mut text = [0u8; 640];
+    let mut text = [0u8; 704];
     let end = put_report(&mut text, r);
     deliver(&text[..end], out)
 }

@@ -24,6 +24,12 @@ use Rattle.record.specs.declared.aerodrome.Course.{Course}
 use Rattle.record.specs.declared.aerodrome.Course.the-variants as course
 use Rattle.record.specs.declared.aerodrome.Runway.{Runway}
 use Rattle.record.specs.declared.aerodrome.Runways.{Runways}
+use Rattle.record.specs.declared.aerodrome.Depth.{Depth}
+use Rattle.record.specs.declared.aerodrome.Depth.the-variants as depth
+use Rattle.record.specs.declared.aerodrome.Condition.{Condition}
+use Rattle.record.specs.declared.aerodrome.Condition.the-variants as condition
+use Rattle.record.specs.declared.aerodrome.RunwayState.{RunwayState}
+use Rattle.record.specs.declared.aerodrome.RunwayStates.{RunwayStates}
 use Rattle.record.specs.declared.aerodrome.Phenomena.{Phenomena}
 use Rattle.record.specs.declared.aerodrome.Phenomena.the-variants as phenomena
 use Rattle.record.specs.declared.aerodrome.Weather.{Weather}
@@ -56,12 +62,12 @@ use Rattle.record.specs.declared.aerodrome.Trend.{Trend}
 use Rattle.record.specs.declared.aerodrome.Metar.{Metar}
 use Rattle.record.specs.declared.aerodrome.Taf.{Taf}
 use Rattle.record.specs.Body.{blankWeather, blankWeathers, blankLayer, blankSky, blankWind, blankVisibility, blankBody}
-use Rattle.record.specs.Observation.{blankRunway, blankRunways, blankObservation}
+use Rattle.record.specs.Observation.{blankRunway, blankRunways, blankState, blankStates, blankObservation}
 use Rattle.record.specs.Trend.{blankTrendChange, blankTrend, blankMetar}
 use Rattle.record.specs.Taf.{blankInstant, blankPeriod, blankLeg, blankChange, blankTaf}
 use Rattle.record.proofs.Counted.{blank-each}
 use Rattle.record.specs.Arrays.{BodyArrays, ObservationArrays, TrendArrays, MetarArrays, TafArrays}
-use Rattle.record.specs.SilentAerodrome.{noUnit, isBlankWind, noExtremes, noView, noSide, noCourse, isBlankRunway, noRunways, noPhenomena, isBlankWeather, noWeathers}
+use Rattle.record.specs.SilentAerodrome.{noUnit, isBlankWind, noExtremes, noView, noSide, noCourse, isBlankRunway, noRunways, noDepth, noCondition, isBlankState, noStates, noPhenomena, isBlankWeather, noWeathers}
 use Rattle.record.specs.SilentAerodrome.{noAmount, noConvective, isBlankLayer, isLayers, noSky, noTemperatures, noStation, noInstant, noPeriod, noCorrection, noOpening}
 use Rattle.record.specs.SilentAerodrome.{isBlankBody, noHead, isBlankChange, noObservation, isBlankObservation, noHours, noTendency, isBlankTrendChange, noTrend, isBlankMetar, isBlankTaf}
 use Rattle.record.proofs.Blanks.{number-blank, tenths-blank, direction-blank, speed-blank, letters-blank}
@@ -116,6 +122,32 @@ pub runways-blank : (x : Runways) → length (x .items) ≡ 4 → noRunways x �
 runways-blank x all e =
     let t = both _ _ e in
     λ i. record { items = (rw all at (every-is isBlankRunway blankRunway runway-blank (x .items) (t .1))) i; count = eqb-true (x .count) 0 (t .0) i }
+
+-- ---- runway states
+
+depth-blank : (d : Depth) → noDepth d ≡ true → d ≡ depth.Missing
+depth-blank depth.Missing e = refl
+depth-blank depth.Closed e = absurd (false≢true e)
+depth-blank (depth.Millimetres m) e = absurd (false≢true e)
+
+condition-blank : (c : Condition) → noCondition c ≡ true → c ≡ blankState .condition
+condition-blank condition.Cleared e = absurd (false≢true e)
+condition-blank (condition.Covered d e h b) n =
+    let brakes = both _ _ n in
+    let deep = both _ _ (brakes .0) in
+    let lies = both _ _ (deep .0) in
+    λ i. condition.Covered (number-blank d (lies .0) i) (number-blank e (lies .1) i) (depth-blank h (deep .1) i) (number-blank b (brakes .1) i)
+
+pub state-blank : (s : RunwayState) → isBlankState s ≡ true → s ≡ blankState
+state-blank s e =
+    let t = both _ _ e in
+    λ i. record { runway = number-blank (s .runway) (t .0) i; condition = condition-blank (s .condition) (t .1) i }
+
+states-blank : (x : RunwayStates) → length (x .items) ≡ 4 → noStates x ≡ true → x ≡ blankStates
+states-blank x all e =
+    let t = both _ _ e in
+    let u = both _ _ (t .0) in
+    λ i. record { items = (rw all at (every-is isBlankState blankState state-blank (x .items) (t .1))) i; count = eqb-true (x .count) 0 (u .1) i; snoclo = not-true (x .snoclo) (u .0) i }
 
 -- ---- weather and sky
 
@@ -218,11 +250,13 @@ pub record Bare (r : Observation) : Type 0 where
   pub temperatures : r .temperatures ≡ blankObservation .temperatures
   pub qnh : r .qnh ≡ blankObservation .qnh
   pub recents : r .recents ≡ blankObservation .recents
+  pub states : r .states ≡ blankObservation .states
 
 pub bare : (r : Observation) → ObservationArrays r → noObservation r ≡ true → Bare r
 unfolding noObservation
 bare r arrays e =
-    let recents = both _ _ e in
+    let states = both _ _ e in
+    let recents = both _ _ (states .0) in
     let qnh = both _ _ (recents .0) in
     let temperatures = both _ _ (qnh .0) in
     let runways = both _ _ (temperatures .0) in
@@ -236,6 +270,7 @@ bare r arrays e =
       temperatures = temperatures-blank (r .temperatures) (temperatures .1);
       qnh = rw (number-blank (r .qnh .is) (qnh .1));
       recents = weathers-blank (r .recents) (arrays .recents) (recents .1);
+      states = states-blank (r .states) (arrays .states) (states .1);
     }
 
 pub observation-blank : (r : Observation) → ObservationArrays r → isBlankObservation r ≡ true → r ≡ blankObservation
@@ -247,7 +282,7 @@ observation-blank r arrays e =
     let station = both _ _ (time .0) in
     let special = both _ _ (station .0) in
     let b = bare r arrays (observed .1) in
-    λ i. record { special = not-true (r .special) (special .0) i; corrected = not-true (r .corrected) (special .1) i; station = station-blank (r .station) (arrays .letters) (station .1) i; time = instant-blank (r .time) (time .1) i; nil = not-true (r .nil) (nil .1) i; automatic = b .automatic i; body = b .body i; variation = b .variation i; runways = b .runways i; temperatures = b .temperatures i; qnh = b .qnh i; recents = b .recents i }
+    λ i. record { special = not-true (r .special) (special .0) i; corrected = not-true (r .corrected) (special .1) i; station = station-blank (r .station) (arrays .letters) (station .1) i; time = instant-blank (r .time) (time .1) i; nil = not-true (r .nil) (nil .1) i; automatic = b .automatic i; body = b .body i; variation = b .variation i; runways = b .runways i; temperatures = b .temperatures i; qnh = b .qnh i; recents = b .recents i; states = b .states i }
 
 -- ---- the trend
 

@@ -19,6 +19,7 @@ pub record ObservationArrays (r : Observation) : Type 0 where
   pub body : BodyArrays (r .body)
   pub runways : length (r .runways .items) ≡ 4
   pub recents : length (r .recents .items) ≡ 3
+  pub states : length (r .states .items) ≡ 4
 
 -- it holds of each
 abbrev pub Each : {A : Type 0} → (A → Type 0) → List A → Type 0

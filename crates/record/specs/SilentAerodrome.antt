@@ -18,6 +18,12 @@ use Rattle.record.specs.declared.aerodrome.Course.{Course}
 use Rattle.record.specs.declared.aerodrome.Course.the-variants as course
 use Rattle.record.specs.declared.aerodrome.Runway.{Runway}
 use Rattle.record.specs.declared.aerodrome.Runways.{Runways}
+use Rattle.record.specs.declared.aerodrome.Depth.{Depth}
+use Rattle.record.specs.declared.aerodrome.Depth.the-variants as depth
+use Rattle.record.specs.declared.aerodrome.Condition.{Condition}
+use Rattle.record.specs.declared.aerodrome.Condition.the-variants as condition
+use Rattle.record.specs.declared.aerodrome.RunwayState.{RunwayState}
+use Rattle.record.specs.declared.aerodrome.RunwayStates.{RunwayStates}
 use Rattle.record.specs.declared.aerodrome.Phenomena.{Phenomena}
 use Rattle.record.specs.declared.aerodrome.Phenomena.the-variants as phenomena
 use Rattle.record.specs.declared.aerodrome.Weather.{Weather}
@@ -90,6 +96,24 @@ isBlankRunway w = isMissing (w .number) && noSide (w .side) && isMissing (w .ran
 
 abbrev pub noRunways : Runways → Bool
 noRunways rs = eqb (rs .count) 0 && every isBlankRunway (rs .items)
+
+-- ---- runway states
+
+abbrev pub noDepth : Depth → Bool
+noDepth depth.Missing = true
+noDepth depth.Closed = false
+noDepth (depth.Millimetres m) = false
+
+-- not cleared, and nothing is said of a deposit
+abbrev pub noCondition : Condition → Bool
+noCondition condition.Cleared = false
+noCondition (condition.Covered d e h b) = isMissing d && isMissing e && noDepth h && isMissing b
+
+abbrev pub isBlankState : RunwayState → Bool
+isBlankState s = isMissing (s .runway) && noCondition (s .condition)
+
+abbrev pub noStates : RunwayStates → Bool
+noStates ss = not (ss .snoclo) && eqb (ss .count) 0 && every isBlankState (ss .items)
 
 -- ---- weather and sky
 
@@ -168,7 +192,7 @@ isBlankBody b = isBlankWind (b .wind) && noView (b .visibility .is) && noWeather
 unfoldable pub noObservation : Observation → Bool
 noObservation r =
     not (r .automatic) && isBlankBody (r .body) && noExtremes (r .variation .is) && noRunways (r .runways)
-    && noTemperatures (r .temperatures) && isMissing (r .qnh .is) && noWeathers (r .recents)
+    && noTemperatures (r .temperatures) && isMissing (r .qnh .is) && noWeathers (r .recents) && noStates (r .states)
 
 unfoldable pub isBlankObservation : Observation → Bool
 isBlankObservation r = not (r .special) && not (r .corrected) && noStation (r .station) && noInstant (r .time) && not (r .nil) && noObservation r

@@ -69,6 +69,38 @@ pub struct Runways {
     pub count: usize,
 }
 
+// How deep a runway's deposit is: in millimetres, or not told of a runway that is closed (99).
+pub enum Depth {
+    Missing,
+    Closed,
+    Millimetres(u32),
+}
+
+// What a runway is like: cleared (CLRD//), or its deposit, extent, depth and braking, the figures of tables 0919, 0519 and 0366, and of 1079 in
+// millimetres.
+pub enum Condition {
+    Cleared,
+    Covered {
+        deposit: Number,
+        extent: Number,
+        depth: Depth,
+        braking: Number,
+    },
+}
+
+// The state of a runway: 01-36, 51-86 the right-hand one, 88 all, 99 repeated from the last.
+pub struct RunwayState {
+    pub runway: Number,
+    pub condition: Condition,
+}
+
+// The aerodrome closed by snow (SNOCLO), or up to four states, the first `count`.
+pub struct RunwayStates {
+    pub items: [RunwayState; 4],
+    pub count: usize,
+    pub snoclo: bool,
+}
+
 pub enum Intensity {
     None,
     Light,
@@ -187,6 +219,7 @@ pub struct Observation {
     pub temperatures: Temperatures,
     pub qnh: Qnh,
     pub recents: Weathers,
+    pub states: RunwayStates,
 }
 
 // A time of the day, GGgg.

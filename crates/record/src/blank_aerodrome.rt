@@ -3,10 +3,12 @@ use crate::aerodrome::Amount;
 use crate::aerodrome::Body;
 use crate::aerodrome::Change;
 use crate::aerodrome::Changes;
+use crate::aerodrome::Condition;
 use crate::aerodrome::Convective;
 use crate::aerodrome::Correction;
 use crate::aerodrome::Course;
 use crate::aerodrome::Cover;
+use crate::aerodrome::Depth;
 use crate::aerodrome::Extremes;
 use crate::aerodrome::Hours;
 use crate::aerodrome::Instant;
@@ -19,6 +21,8 @@ use crate::aerodrome::Period;
 use crate::aerodrome::Phenomena;
 use crate::aerodrome::Qnh;
 use crate::aerodrome::Runway;
+use crate::aerodrome::RunwayState;
+use crate::aerodrome::RunwayStates;
 use crate::aerodrome::Runways;
 use crate::aerodrome::Side;
 use crate::aerodrome::Sky;
@@ -42,7 +46,7 @@ use crate::values::Speed;
 use crate::values::Tenths;
 ghost use mathlib.Core.Path.{_≡_};
 ghost use Rattle.record.specs.Body.{blankWind, blankWeathers, blankSky, blankBody};
-ghost use Rattle.record.specs.Observation.{blankRunways, blankObservation};
+ghost use Rattle.record.specs.Observation.{blankRunways, blankStates, blankObservation};
 ghost use Rattle.record.specs.Trend.{blankTrendChange, blankTrend, blankMetar};
 ghost use Rattle.record.specs.Taf.{blankInstant, blankPeriod, blankLeg, blankChange, blankTaf};
 
@@ -101,6 +105,27 @@ fn blank_runways() -> Runways
     Runways { items, count: 0 }
 }
 
+fn blank_states() -> RunwayStates
+    ensures { λ r. ⌜ r ≡ blankStates ⌝ }
+{
+    let condition = Condition::Covered {
+        deposit: Number::Missing,
+        extent: Number::Missing,
+        depth: Depth::Missing,
+        braking: Number::Missing,
+    };
+    let blank = RunwayState {
+        runway: Number::Missing,
+        condition,
+    };
+    let items = [blank; 4];
+    RunwayStates {
+        items,
+        count: 0,
+        snoclo: false,
+    }
+}
+
 fn blank_weathers() -> Weathers
     ensures { λ r. ⌜ r ≡ blankWeathers ⌝ }
 {
@@ -150,6 +175,7 @@ pub fn blank_observation() -> Observation
     let body = blank_body();
     let runways = blank_runways();
     let recents = blank_weathers();
+    let states = blank_states();
     Observation {
         special: false,
         corrected: false,
@@ -170,6 +196,7 @@ pub fn blank_observation() -> Observation
             is: Number::Missing,
         },
         recents,
+        states,
     }
 }
 

@@ -4,10 +4,12 @@ use crate::aerodrome::Amount;
 use crate::aerodrome::Body;
 use crate::aerodrome::Change;
 use crate::aerodrome::Changes;
+use crate::aerodrome::Condition;
 use crate::aerodrome::Convective;
 use crate::aerodrome::Correction;
 use crate::aerodrome::Course;
 use crate::aerodrome::Cover;
+use crate::aerodrome::Depth;
 use crate::aerodrome::Extremes;
 use crate::aerodrome::Hours;
 use crate::aerodrome::Instant;
@@ -19,6 +21,8 @@ use crate::aerodrome::Opening;
 use crate::aerodrome::Period;
 use crate::aerodrome::Phenomena;
 use crate::aerodrome::Runway;
+use crate::aerodrome::RunwayState;
+use crate::aerodrome::RunwayStates;
 use crate::aerodrome::Runways;
 use crate::aerodrome::Side;
 use crate::aerodrome::Sky;
@@ -37,7 +41,8 @@ use crate::letters::are_blank_from;
 ghost use mathlib.Core.Path.{_≡_};
 ghost use lib.ListN.{drop};
 ghost use Rattle.figures.specs.Figures.{every};
-ghost use Rattle.record.specs.SilentAerodrome.{noUnit, isBlankWind, noExtremes, noView, noSide, noCourse, isBlankRunway, noRunways, noPhenomena, isBlankWeather, noWeathers};
+ghost use Rattle.record.specs.SilentAerodrome.{noUnit, isBlankWind, noExtremes, noView, noSide, noCourse, isBlankRunway, noRunways, noDepth, noCondition, isBlankState, noStates};
+ghost use Rattle.record.specs.SilentAerodrome.{noPhenomena, isBlankWeather, noWeathers};
 ghost use Rattle.record.specs.SilentAerodrome.{noAmount, noConvective, isBlankLayer, isLayers, noSky, noTemperatures, noStation, noInstant, noPeriod, noCorrection, noOpening};
 ghost use Rattle.record.specs.SilentAerodrome.{isBlankBody, isBlankChange, noChanges, noObservation, isBlankObservation, noHours, noTendency, isBlankTrendChange, noTrend, isBlankMetar, noHead, isBlankTaf};
 
@@ -151,6 +156,75 @@ impl Runways {
         ensures { λ r. ⌜ r ≡ noRunways self ⌝ }
     {
         (self.count == 0) & self.is_blank_from(0)
+    }
+}
+
+// ---- runway states
+
+impl Depth {
+    pub fn is_missing(self) -> bool
+        ensures { λ r. ⌜ r ≡ noDepth self ⌝ }
+    {
+        match self {
+            Depth::Missing => true,
+            Depth::Closed => false,
+            Depth::Millimetres(_) => false,
+        }
+    }
+}
+
+impl Condition {
+    // Not cleared, and nothing is said of a deposit.
+    pub fn is_blank(self) -> bool
+        ensures { λ r. ⌜ r ≡ noCondition self ⌝ }
+    {
+        match self {
+            Condition::Cleared => false,
+            Condition::Covered {
+                deposit,
+                extent,
+                depth,
+                braking,
+            } => {
+                let seen = deposit.is_missing() & extent.is_missing();
+                seen & depth.is_missing() & braking.is_missing()
+            }
+        }
+    }
+}
+
+impl RunwayState {
+    pub fn is_blank(self) -> bool
+        ensures { λ r. ⌜ r ≡ isBlankState self ⌝ }
+    {
+        let runway = self.runway;
+        let condition = self.condition;
+        runway.is_missing() & condition.is_blank()
+    }
+}
+
+impl RunwayStates {
+    // The states from number `from` on are blank.
+    pub fn is_blank_from(self, from: usize) -> bool
+        ensures { λ r. ⌜ r ≡ every isBlankState (drop from (self .items)) ⌝ }
+    {
+        let items = self.items;
+        let mut i = from;
+        while i < 4 {
+            let one = items[i];
+            if one.is_blank() {
+                i += 1;
+            } else {
+                return false;
+            }
+        }
+        true
+    }
+
+    pub fn is_blank(self) -> bool
+        ensures { λ r. ⌜ r ≡ noStates self ⌝ }
+    {
+        !self.snoclo & (self.count == 0) & self.is_blank_from(0)
     }
 }
 
@@ -413,9 +487,11 @@ impl Observation {
         let qnh = self.qnh;
         let pressure = qnh.is;
         let recents = self.recents;
+        let states = self.states;
         let automatic = self.automatic;
         let seen = !automatic & body.is_blank() & extremes.is_missing() & runways.is_blank();
-        seen & temperatures.is_blank() & pressure.is_missing() & recents.is_blank()
+        let felt = seen & temperatures.is_blank() & pressure.is_missing();
+        felt & recents.is_blank() & states.is_blank()
     }
 
     pub fn is_blank(self) -> bool

@@ -14,6 +14,7 @@ use Rattle.record.specs.declared.aerodrome.Weathers.{Weathers}
 use Rattle.record.specs.declared.aerodrome.Layer.{Layer}
 use Rattle.record.specs.declared.aerodrome.Sky.{Sky}
 use Rattle.record.specs.declared.aerodrome.Runway.{Runway}
+use Rattle.record.specs.declared.aerodrome.RunwayState.{RunwayState}
 use Rattle.record.specs.declared.aerodrome.Body.{Body}
 use Rattle.record.specs.declared.aerodrome.TrendChange.{TrendChange}
 use Rattle.record.specs.declared.aerodrome.Trend.{Trend}
@@ -28,6 +29,7 @@ use Rattle.elements.specs.Sky.{classLayer, judgeLayers, judgeSky}
 use Rattle.elements.specs.Body.{Terms, judgeBody}
 use Rattle.aerodrome_groups.specs.Head.{judgeStation, judgeTime}
 use Rattle.aerodrome_groups.specs.Runway.{judgeEachRunway, judgeRunways}
+use Rattle.runway_states.specs.State.{judgeEachState, judgeStates}
 use Rattle.aerodrome_groups.specs.Temperatures.{judgeTemperatures, judgeQnh}
 use Rattle.synop_row.specs.declared.kinds.Needs.{Needs}
 use Rattle.synop.specs.Write as synop
@@ -110,6 +112,10 @@ each-runway : (ws : List Runway) → Caused (judgeEachRunway ws)
 each-runway [] = fine
 each-runway (w ∷ ws) = let rest = each-runway ws in search made
 
+each-state : (snoclo : Bool) (ss : List RunwayState) → Caused (judgeEachState snoclo ss)
+each-state snoclo [] = fine
+each-state snoclo (s ∷ ss) = let rest = each-state snoclo ss in search made
+
 -- a trend's change, and a TAF's part: a body and what it needs
 body : (t : Terms) (b : Body) → Caused (judgeBody t b)
 unfolding judgeBody judgeWind judgeVisibility
@@ -128,8 +134,8 @@ unfolding trend.judgeTrend
 trend-causes t = search (made, each-trend-change)
 
 pub observed-causes : (r : Metar) → Caused (metar.judgeOf r)
-unfolding metar.judgeOf metar.judgeHead metar.judgeObservation judgeStation judgeTime judgeWind judgeVariation judgeVisibility judgeRunways judgeTemperatures judgeQnh
-observed-causes r = search (made, each-runway, weathers, weather, recent, sky, trend-causes) depth 16
+unfolding metar.judgeOf metar.judgeHead metar.judgeObservation judgeStation judgeTime judgeWind judgeVariation judgeVisibility judgeRunways judgeTemperatures judgeQnh judgeStates
+observed-causes r = search (made, each-runway, each-state, weathers, weather, recent, sky, trend-causes) depth 16
 
 -- ---- TAF
 

@@ -30,6 +30,7 @@ use Rattle.places.specs.Engine as engine
 use Rattle.places.specs.Parts as parts
 use Rattle.places.specs.Seek as seek
 use Rattle.scales.specs.Degrees as degrees
+use Rattle.scales.specs.Depth as deposit
 use Rattle.scales.specs.Metres as metres
 use Rattle.scales.specs.Rounded as rounded
 use Rattle.scales.specs.Scale as scale
@@ -50,6 +51,7 @@ use Rattle.elements.specs.Wind as wind
 use Rattle.aerodrome_groups.specs.Head as head
 use Rattle.aerodrome_groups.specs.Runway as runway
 use Rattle.aerodrome_groups.specs.Temperatures as temperatures
+use Rattle.runway_states.specs.State as state
 use Rattle.metar_row.specs.Row as metar-row
 use Rattle.trend_row.specs.Times as trend-times
 use Rattle.trend_row.specs.Row as trend-row
@@ -85,6 +87,13 @@ examples =
     ∷ refuses "METAR METAR LEMD" 6 6
     ∷ reads "METAR AUTO 011200Z 27010KT 9999 15/10 Q1013" "METAR AUTO 011200Z 27010KT 9999 15/10 Q1013="
     ∷ refuses "METAR LEMD 011200Z 27010KT 9999 15/10 Q1013 RERA RERA RERA RERA" 9 59
+    ∷ reads "METAR LEMD 011200Z 27010KT 9999 15/10 Q1013 24CLRD// 88459095 99//99// NOSIG" "METAR LEMD 011200Z 27010KT 9999 15/10 Q1013 24CLRD// 88459095 99//99// NOSIG="
+    ∷ reads "METAR LEMD 011200Z 27010KT 9999 15/10 Q1013 RESN SNOCLO" "METAR LEMD 011200Z 27010KT 9999 15/10 Q1013 RESN SNOCLO="
+    ∷ refuses "METAR LEMD 011200Z 27010KT 9999 15/10 Q1013 24459193" 5 44
+    ∷ refuses "METAR LEMD 011200Z 27010KT 9999 15/10 Q1013 SNOCLO SNOCLO" 6 51
+    ∷ refuses "METAR LEMD 011200Z 27010KT 9999 15/10 Q1013 SNOCLO 24CLRD//" 7 51
+    ∷ refuses "METAR LEMD 011200Z 27010KT 9999 15/10 Q1013 24CLRD// 24CLRD// 24CLRD// 24CLRD// SNOCLO" 7 80
+    ∷ refuses "METAR LEMD 011200Z 27010KT 9999 15/10 Q1013 24CLRD// 24CLRD// 24CLRD// 24CLRD// 00CLRD//" 9 80
     ∷ refuses "METAR LEMD 011200Z 270050KT" 5 19
     ∷ reads "METAR LEMD 011200Z 27099G100KT 9999 15/10 Q1013 TEMPO 270150GP99KT" "METAR LEMD 011200Z 27099GP99KT 9999 15/10 Q1013 TEMPO 270P99GP99KT="
     ∷ refuses "METAR LEMD 011200Z 270P099KT" 5 19
@@ -128,6 +137,7 @@ unfolding figures.figures figures.scan figures.fieldAt figures.numberText figure
     parts.runTo parts.further parts.reportOf
     seek.seek seek.anywhere seek.findOf seek.owed
     degrees.signedReading degrees.wholeDegrees degrees.degreesOf degrees.degreesReading
+    deposit.depth
     metres.land metres.sea metres.base metres.metresFigure metres.metresReading metres.visibility metres.runway metres.cloud metres.sameRange metres.rangeFigure metres.rangeReading
     rounded.rainFigure rounded.rainReading rounded.directionFigure rounded.directionReading rounded.pressureFigure rounded.pressureReading
     scale.classIn scale.readIn scale.run
@@ -148,6 +158,7 @@ unfolding figures.figures figures.scan figures.fieldAt figures.numberText figure
     head.stationOf head.readTime head.showTime head.judgeStation head.judgeTime
     runway.readRunway runway.showRunway runway.showRunways runway.judgeRunways
     temperatures.readTemperatures temperatures.readQnh temperatures.showTemperatures temperatures.showQnh temperatures.judgeTemperatures temperatures.judgeQnh
+    state.readState state.showState state.showStates state.judgeStates
     metar-row.row metar-row.isKnown metar-row.words
     trend-times.readMoment
     trend-row.row

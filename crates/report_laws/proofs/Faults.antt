@@ -57,6 +57,7 @@ use Rattle.elements.specs.Body as body
 use Rattle.aerodrome_groups.specs.Head as head
 use Rattle.aerodrome_groups.specs.Runway as runway
 use Rattle.aerodrome_groups.specs.Temperatures as temperatures
+use Rattle.runway_states.specs.State as state
 use Rattle.metar_row.specs.Row as metar-row
 use Rattle.metar.specs.Read as metar
 use Rattle.trend_row.specs.Times as times
@@ -210,6 +211,13 @@ qnh-fair : (g : Group) → Fairly (temperatures.readQnh g)
 unfolding temperatures.readQnh
 qnh-fair g = search told
 
+depth-fair : (f : Field) → Fairly (state.readDepth f)
+depth-fair f = search told depth 8
+
+state-fair : (g : Group) → Fairly (state.readState g)
+unfolding state.readState
+state-fair g = search (told, depth-fair) depth 10
+
 observation-row : FairRow metar-row.row
 unfolding metar-row.row
 observation-row =
@@ -228,6 +236,9 @@ observation-row =
     & (λ k g r. let x = temperatures-fair g in search told)
     & (λ k g r. let x = qnh-fair g in search told)
     & (λ k g r. let x = recent-fair (r .automatic) g in search told)
+    & (λ k g r. let x = state-fair g in search told)
+    & (λ k g r. search told)
+    & (λ k g r. let x = state-fair g in search told)
     & (λ k g r. six)
     & tt
 

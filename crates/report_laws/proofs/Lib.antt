@@ -10,4 +10,5 @@ pub mod Demands
 pub mod Seen
 pub mod PoorLibraries
 pub mod Examples
+pub mod StateExamples
 pub mod OneBody

@@ -13,10 +13,12 @@ use Rattle.scales.specs.declared.kinds.Rain.{Rain}
 use Rattle.scales.specs.declared.kinds.Range.{Range}
 use Rattle.scales.specs.Scale.{Scale, footOf}
 use Rattle.scales.specs.Metres as scale
+use Rattle.scales.specs.Depth as deposit
 use Rattle.scales.specs.Rounded.{roundedRain, rainRank}
 use Rattle.scales.proofs.Laws.{Lawful}
 use Rattle.scales.proofs.Down.{Down, down}
 use Rattle.scales.proofs.MetresLaws.{land-laws, sea-laws, base-laws, visibility-laws, runway-laws, cloud-laws}
+use Rattle.scales.proofs.DepthLaws.{depth-laws}
 use Rattle.scales.proofs.DegreesLaws.{degrees-order}
 use Rattle.scales.proofs.PressureLaws.{pressure-order}
 use Rattle.record.specs.declared.values.Number.{Number}
@@ -35,6 +37,11 @@ use Rattle.record.specs.declared.aerodrome.Unit.the-variants as unit
 use Rattle.record.specs.declared.aerodrome.View.{View}
 use Rattle.record.specs.declared.aerodrome.View.the-variants as view
 use Rattle.record.specs.declared.aerodrome.Runway.{Runway}
+use Rattle.record.specs.declared.aerodrome.Depth.{Depth}
+use Rattle.record.specs.declared.aerodrome.Depth.the-variants as deep
+use Rattle.record.specs.declared.aerodrome.Condition.{Condition}
+use Rattle.record.specs.declared.aerodrome.Condition.the-variants as condition
+use Rattle.record.specs.declared.aerodrome.RunwayState.{RunwayState}
 use Rattle.record.specs.declared.aerodrome.Layer.{Layer}
 use Rattle.record.specs.declared.aerodrome.Cover.{Cover}
 use Rattle.record.specs.declared.aerodrome.Cover.the-variants as cover
@@ -57,22 +64,24 @@ use Rattle.trend_row.specs.Row as trend-row
 use Rattle.trend.specs.Write as trend
 use Rattle.aerodrome_groups.specs.Runway.{classRunway}
 use Rattle.aerodrome_groups.specs.Temperatures.{classTenths, classPressure}
+use Rattle.runway_states.specs.State.{classDepth, classCondition, classState}
 use Rattle.taf_row.specs.Row.{row}
 use Rattle.taf.specs.Write.{classChange}
 use Rattle.report_record.specs.declared.kinds.Kind.{Kind}
 use Rattle.report_record.specs.declared.kinds.Kind.the-variants as kind
 use Rattle.report_record.specs.declared.kinds.Report.{Report}
 
--- ---- the six scales in metres, which round down
+-- ---- the six scales in metres and the depth of deposits, in millimetres, which round down
 
 pub data Table : Type 0 where
-  -- 4377 land and sea, 1600 h, VVVV, RVR, 1690
+  -- 4377 land and sea, 1600 h, VVVV, RVR, 1690, 1079
   land : Table
   sea : Table
   base : Table
   visibility : Table
   runway : Table
   cloud : Table
+  depth : Table
 
 -- the figures of each, when two are one, the scale and its laws
 abbrev pub Figures : Table → Type 0
@@ -82,6 +91,7 @@ Figures base = ℕ
 Figures visibility = ℕ
 Figures runway = Range
 Figures cloud = ℕ
+Figures depth = ℕ
 
 abbrev pub scaleOf : (t : Table) → Scale (Figures t)
 scaleOf land = scale.land
@@ -90,6 +100,7 @@ scaleOf base = scale.base
 scaleOf visibility = scale.visibility
 scaleOf runway = scale.runway
 scaleOf cloud = scale.cloud
+scaleOf depth = deposit.depth
 
 abbrev pub sameOf : (t : Table) → Figures t → Figures t → Bool
 sameOf land = eqb
@@ -98,6 +109,7 @@ sameOf base = eqb
 sameOf visibility = eqb
 sameOf runway = scale.sameRange
 sameOf cloud = eqb
+sameOf depth = eqb
 
 pub lawsOf : (t : Table) → Lawful (sameOf t) (scaleOf t)
 lawsOf land = land-laws
@@ -106,6 +118,7 @@ lawsOf base = base-laws
 lawsOf visibility = visibility-laws
 lawsOf runway = runway-laws
 lawsOf cloud = cloud-laws
+lawsOf depth = depth-laws
 
 -- what a value is read back as: the foot of its class
 abbrev pub footOn : Table → ℕ → ℕ
@@ -138,6 +151,7 @@ surfaceNumbers base s = s .indicators .base ∷ []
 surfaceNumbers visibility s = []
 surfaceNumbers runway s = []
 surfaceNumbers cloud s = []
+surfaceNumbers depth s = []
 
 abbrev pub verticalOf : Cover → Number
 verticalOf cover.Layers = number.Missing
@@ -158,12 +172,23 @@ bodyNumbers base b = []
 bodyNumbers visibility b = viewMetres (b .visibility .is) ∷ []
 bodyNumbers runway b = []
 bodyNumbers cloud b = skyHeights (b .sky)
+bodyNumbers depth b = []
 
 -- of one body after the other
 abbrev pub bodiesNumbers : Table → List Body → List Number
 bodiesNumbers t [] = []
 bodiesNumbers t (b ∷ bs) = bodyNumbers t b ++ bodiesNumbers t bs
 
+abbrev pub millimetres : Depth → Number
+millimetres deep.Missing = number.Missing
+millimetres deep.Closed = number.Missing
+millimetres (deep.Millimetres m) = number.Is m
+
+abbrev pub depthOf : Condition → Number
+depthOf condition.Cleared = number.Missing
+depthOf (condition.Covered d e h b) = millimetres h
+
+-- of the runways: their visual ranges, the depths of their deposits
 abbrev pub runwayNumbers : Table → Observation → List Number
 runwayNumbers land o = []
 runwayNumbers sea o = []
@@ -171,6 +196,7 @@ runwayNumbers base o = []
 runwayNumbers visibility o = []
 runwayNumbers runway o = map (λ (w : Runway). w .range) (o .runways .items)
 runwayNumbers cloud o = []
+runwayNumbers depth o = map (λ (s : RunwayState). depthOf (s .condition)) (o .states .items)
 
 -- the observation's body, then those of the trend's changes
 abbrev pub observedBodies : Metar → List Body
@@ -292,18 +318,30 @@ body-is base b = refl
 body-is visibility b = rw (view-is (b .visibility .is))
 body-is runway b = refl
 body-is cloud b = sky-is (b .sky)
+body-is depth b = refl
 
 bodies-is : (t : Table) (bs : List Body) → bodiesNumbers t (map classBody bs) ≡ map (classOn t) (bodiesNumbers t bs)
 bodies-is t [] = refl
 bodies-is t (b ∷ bs) = rw (body-is t b, bodies-is t bs) (sym (map-append (classOn t) (bodyNumbers t b) (bodiesNumbers t bs)))
 
-runway-is : (t : Table) (o q : Observation) → q .runways .items ≡ map classRunway (o .runways .items) → runwayNumbers t q ≡ map (classOn t) (runwayNumbers t o)
-runway-is land o q e = refl
-runway-is sea o q e = refl
-runway-is base o q e = refl
-runway-is visibility o q e = refl
-runway-is runway o q e = rw (e, map-square (λ (w : Runway). w .range) classRunway (classOn runway) (λ w. refl) (o .runways .items))
-runway-is cloud o q e = refl
+millimetres-is : (h : Depth) → millimetres (classDepth h) ≡ classOn depth (millimetres h)
+millimetres-is deep.Missing = refl
+millimetres-is deep.Closed = refl
+millimetres-is (deep.Millimetres m) = refl
+
+depth-is : (c : Condition) → depthOf (classCondition c) ≡ classOn depth (depthOf c)
+depth-is condition.Cleared = refl
+depth-is (condition.Covered d e h b) = millimetres-is h
+
+runway-is : (t : Table) (o q : Observation) → q .runways .items ≡ map classRunway (o .runways .items) → q .states .items ≡ map classState (o .states .items)
+    → runwayNumbers t q ≡ map (classOn t) (runwayNumbers t o)
+runway-is land o q e f = refl
+runway-is sea o q e f = refl
+runway-is base o q e f = refl
+runway-is visibility o q e f = refl
+runway-is runway o q e f = rw (e, map-square (λ (w : Runway). w .range) classRunway (classOn runway) (λ w. refl) (o .runways .items))
+runway-is cloud o q e f = refl
+runway-is depth o q e f = rw (f, map-square (λ (s : RunwayState). depthOf (s .condition)) classState (classOn depth) (λ s. depth-is (s .condition)) (o .states .items))
 
 pub surface-numbers : (t : Table) (s q : Surface) → q .indicators .sight ≡ classSight (s .indicators .sight) → q .indicators .base ≡ classBase (s .indicators .base)
     → surfaceNumbers t q ≡ map (classOn t) (surfaceNumbers t s)
@@ -313,6 +351,7 @@ surface-numbers base s q e f = rw f
 surface-numbers visibility s q e f = refl
 surface-numbers runway s q e f = refl
 surface-numbers cloud s q e f = refl
+surface-numbers depth s q e f = refl
 
 -- a body and those of the changes, each read back as its class
 with-changes : {A : Type 0} (of : A → Body) (f : A → A) → ((x : A) → of (f x) ≡ classBody (of x)) → (b c : Body) (xs ys : List A) → c ≡ classBody b → ys ≡ map f xs
@@ -333,10 +372,11 @@ forecast-bodies r q f g =
     with-changes (λ (c : Change). c .body) classChange (λ c. refl) (r .leg .body) (q .leg .body) (r .changes .items) (q .changes .items) f g
 
 pub observed-numbers : (t : Table) (r q : Metar) → q .observation .runways .items ≡ map classRunway (r .observation .runways .items)
+    → q .observation .states .items ≡ map classState (r .observation .states .items)
     → observedBodies q ≡ map classBody (observedBodies r) → observedNumbers t q ≡ map (classOn t) (observedNumbers t r)
-observed-numbers t r q e bodies =
+observed-numbers t r q e f bodies =
     let runways = runwayNumbers t (r .observation) in
-    ap (λ (l : List Number). l ++ bodiesNumbers t (observedBodies q)) (runway-is t (r .observation) (q .observation) e)
+    ap (λ (l : List Number). l ++ bodiesNumbers t (observedBodies q)) (runway-is t (r .observation) (q .observation) e f)
     ∙ ap (λ (l : List Number). map (classOn t) runways ++ l) (ap (bodiesNumbers t) bodies ∙ bodies-is t (observedBodies r))
     ∙ sym (map-append (classOn t) runways (bodiesNumbers t (observedBodies r)))
 

@@ -27,6 +27,7 @@ use Rattle.elements.specs.Visibility.{showVisibility}
 use Rattle.elements.specs.Weather.{showWeathers, showRecents}
 use Rattle.elements.specs.Sky.{showSky}
 use Rattle.aerodrome_groups.specs.Runway.{showRunways}
+use Rattle.runway_states.specs.State.{showStates}
 use Rattle.aerodrome_groups.specs.Temperatures.{showTemperatures, showQnh}
 use Rattle.aerodrome_groups.specs.Head.{showTime, judgeStation, judgeTime}
 use Rattle.metar_row.specs.Row.{row}
@@ -69,7 +70,7 @@ silent : (letters : List ℕ) → length letters ≡ 4 → MetarArrays (nilOf le
 unfolding nilOf
 silent letters four =
     let none : BodyArrays blankBody = record { weathers = refl; layers = refl } in
-    record { observation = record { letters = four; body = none; runways = refl; recents = refl }; trend = refl; each = (none, (none, (none, tt))) }
+    record { observation = record { letters = four; body = none; runways = refl; recents = refl; states = refl }; trend = refl; each = (none, (none, (none, tt))) }
 
 fair-one : Fair one
 unfolding nilOf metar.judgeOf isBlankBody noObservation metar.judgeHead judgeStation judgeTime
@@ -80,11 +81,11 @@ unfolding nilOf metar.judgeOf isBlankBody noObservation metar.judgeHead judgeSta
 fair-other = observed (nilOf (bytes "LEMG")) (silent (bytes "LEMG") refl) refl
 
 text-one : canonicalOf one ≡ oneText
-unfolding nilOf canonicalOf metar.canonicalOf metar.groupsOf showTrend row join spaced parted showTime showWind showVariation showVisibility showRunways showWeathers showSky showTemperatures showQnh showRecents numberText figures fieldText
+unfolding nilOf canonicalOf metar.canonicalOf metar.groupsOf showTrend row join spaced parted showTime showWind showVariation showVisibility showRunways showWeathers showSky showTemperatures showQnh showRecents showStates numberText figures fieldText
 text-one = refl
 
 text-other : canonicalOf other ≡ otherText
-unfolding nilOf canonicalOf metar.canonicalOf metar.groupsOf showTrend row join spaced parted showTime showWind showVariation showVisibility showRunways showWeathers showSky showTemperatures showQnh showRecents numberText figures fieldText
+unfolding nilOf canonicalOf metar.canonicalOf metar.groupsOf showTrend row join spaced parted showTime showWind showVariation showVisibility showRunways showWeathers showSky showTemperatures showQnh showRecents showStates numberText figures fieldText
 text-other = refl
 
 -- what they are read as, and what is written of them

@@ -192,7 +192,7 @@ kept (forecast t arrays e) = forecast-kept (taf-promise.promise t arrays e .1)
 pub numbers-back : (t : Table) {r : Report} → Fair r → numbersOf t (classedOf r) ≡ map (classOn t) (numbersOf t r)
 unfolding classedOf synop.classedOf metar.classedOf metar.classObservation taf.classedOf observed-row.row forecast-row.row
 numbers-back t (surface s nine e) = surface-numbers t (s .surface) (synop.classedOf s .surface) refl refl
-numbers-back t (observed m arrays e) = observed-numbers t m (metar.classedOf m) refl (observed-bodies m (metar.classedOf m) refl (metar-promise.items-classed m arrays e))
+numbers-back t (observed m arrays e) = observed-numbers t m (metar.classedOf m) refl (metar-promise.states-items m arrays e) (observed-bodies m (metar.classedOf m) refl (metar-promise.items-classed m arrays e))
 numbers-back t (forecast f arrays e) = forecast-numbers t f (taf.classedOf f) (forecast-bodies f (taf.classedOf f) refl (taf-promise.items-classed f arrays e))
 
 pub speeds-back : {r : Report} → Fair r → speedsOf (classedOf r) ≡ map classUnitSpeed (speedsOf r)

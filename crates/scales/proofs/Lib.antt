@@ -2,6 +2,7 @@ pub mod Alike
 pub mod Answers
 pub mod DegreesLaws
 pub mod DegreesNearest
+pub mod DepthLaws
 pub mod DirectionLaws
 pub mod Down
 pub mod Laws

@@ -1,5 +1,6 @@
 pub mod Scale
 pub mod Metres
+pub mod Depth
 pub mod Rounded
 pub mod Degrees
 pub mod Fields

@@ -1,4 +1,4 @@
--- What may have been seen on the six scales in metres. The laws of the loop that finds a class by its limits; that it finds the classes of each scale, by a
+-- What may have been seen on the six scales in metres and of the depth of deposits. The laws of the loop that finds a class by its limits; that it finds the classes of each scale, by a
 -- test that is computed over the whole scale; and that the values of the class are exactly those that come back as its reading.
 -- Assumes nothing.
 use mathlib.Core.Path.{_≡_, refl, sym, ap, _∙_}
@@ -16,6 +16,7 @@ use Rattle.figures.proofs.Impossible.{impossible}
 use Rattle.figures.specs.Figures.{every}
 use Rattle.scales.specs.Scale.{Class, Scale, classIn, lengthIn, lengthOf, figureOf, footOf, rising, run}
 use Rattle.scales.specs.Metres.{metresFigure, metresReading, rangeFigure, rangeReading, land, sea, base, visibility, runway, cloud}
+use Rattle.scales.specs.Depth.{depth}
 use Rattle.scales.specs.declared.kinds.Figure.{Figure}
 use Rattle.scales.specs.declared.kinds.Figure.the-variants as figure
 use Rattle.scales.specs.declared.kinds.Reading.{Reading}
@@ -173,3 +174,7 @@ runway-follows = refl
 pub cloud-follows : follows (classBy (3000 ∷ 30000 ∷ []) (29 ∷ 299 ∷ [])) (cloud .lowest) (cloud .above) ≡ true
 unfolding cloud run follows classBy
 cloud-follows = refl
+
+pub depth-follows : follows (classBy (90 ∷ 100 ∷ 400 ∷ []) (0 ∷ 9 ∷ 49 ∷ [])) (depth .lowest) (depth .above) ≡ true
+unfolding depth run follows classBy
+depth-follows = refl

@@ -1,4 +1,4 @@
--- How the code finds what may have been seen on a scale in metres: whether a number is a foot, and the class that begins there.
+-- How the code finds what may have been seen on a scale of rising feet: whether a number is a foot, and the class that begins there.
 -- Assumes nothing: these are definitions.
 use Prim.Native.Nat.{ℕ, _+_}
 use mathlib.Core.Bool.{Bool, cond}

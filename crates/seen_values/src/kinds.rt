@@ -1,7 +1,7 @@
 // The values that are read as one reading. What no value is read as stems from nothing.
 use scales::kinds::Tenths;
 
-// In metres, or in tenths of hPa or mm: from the least to the greatest, or from the least on where the class is open above.
+// In metres, in millimetres of a deposit, or in tenths of hPa or mm: from the least to the greatest, or from the least on where the class is open above.
 pub enum Seen {
     Between { least: u32, greatest: u32 },
     From { least: u32 },

@@ -1,5 +1,6 @@
-// The six scales in metres: a value may be any from the reading, which is its class's foot, up to the next foot.
+// The six scales in metres, and the depth of deposits in millimetres: a value may be any from the reading, which is its class's foot, up to the next foot.
 use crate::kinds::Seen;
+use scales::depth;
 use scales::kinds::Figure;
 use scales::kinds::RangeFigure;
 use scales::kinds::Reading;
@@ -8,6 +9,7 @@ ghost use mathlib.Core.Path.{_≡_};
 ghost use mathlib.Core.Bool.{true};
 ghost use Rattle.figures.specs.Figures.{every};
 ghost use Rattle.scales.specs.Metres.{land, sea, base, visibility, runway, cloud};
+ghost use Rattle.scales.specs.Depth.{depth};
 ghost use Rattle.seen_values.specs.Seen.{seenOn};
 ghost use Rattle.seen_values.specs.Steps.{ifFoot, classBy, isUpTo99999};
 
@@ -117,6 +119,18 @@ pub fn cloud_seen(metres: u32) -> Seen
     let class = class_by(metres, &[3000, 30000], &[29, 299]);
     match metres::cloud_figure(metres) {
         Figure::Is(figure) => if_foot(metres, metres::cloud_reading(figure), class),
+        Figure::OutOfRange => Seen::Nothing,
+    }
+}
+
+// ---- 1079, in millimetres
+
+pub fn depth_seen(millimetres: u32) -> Seen
+    ensures { λ r. ⌜ r ≡ seenOn depth millimetres ⌝ }
+{
+    let class = class_by(millimetres, &[90, 100, 400], &[0, 9, 49]);
+    match depth::depth_figure(millimetres) {
+        Figure::Is(figure) => if_foot(millimetres, depth::depth_reading(figure), class),
         Figure::OutOfRange => Seen::Nothing,
     }
 }

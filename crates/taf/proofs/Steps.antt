@@ -30,7 +30,7 @@ use Rattle.taf.specs.Said.{ontoBody, partSaid, Says}
 
 -- what has no arm of its own in the loop is of the body, and so is what a place of the body says
 abbrev elsewhere : List ℕ
-elsewhere = 0 ∷ 1 ∷ 6 ∷ 10 ∷ 12 ∷ 14 ∷ 16 ∷ 17 ∷ 18 ∷ 19 ∷ 20 ∷ 21 ∷ 22 ∷ []
+elsewhere = 0 ∷ 1 ∷ 6 ∷ 10 ∷ 12 ∷ 14 ∷ 16 ∷ 17 ∷ 18 ∷ 19 ∷ 20 ∷ 21 ∷ 22 ∷ 23 ∷ 24 ∷ []
 
 pub others : (k : ℕ) (g : Group) (r : Leg) (x : Said) → OneOf elsewhere (tagOf says.the-type x) → ontoBody k x r ≡ partSaid k g x r
 unfolding partSaid

@@ -43,6 +43,8 @@ partSaid k g (said.Recent x) r = ontoBody k (said.Recent x) r
 partSaid k g said.Nothing r = ontoBody k said.Nothing r
 partSaid k g (said.Refused f) r = ontoBody k (said.Refused f) r
 partSaid k g (said.Times x) r = ontoBody k (said.Times x) r
+partSaid k g (said.State x) r = ontoBody k (said.State x) r
+partSaid k g said.Snoclo r = ontoBody k said.Snoclo r
 
 -- A group at place i of a part's row says this: put into any part with this body it is what the place reads.
 abbrev pub Says : Part → ℕ → ℕ → Group → Body → Said → Type 0

@@ -17,7 +17,7 @@ use Rattle.places.proofs.Delivered.{joined-short, joined-back}
 use Rattle.record.specs.declared.aerodrome.Taf.{Taf}
 use Rattle.record.specs.SilentAerodrome.{isBlankChange}
 use Rattle.record.specs.Arrays.{TafArrays}
-use Rattle.body.proofs.Changes.{list-judged, list-again}
+use Rattle.elements.proofs.Lists.{list-judged, list-again}
 use Rattle.taf_row.specs.declared.kinds.Part.the-variants as part
 use Rattle.taf_row.specs.Row.{row}
 use Rattle.taf.specs.Read.{groupsRead}

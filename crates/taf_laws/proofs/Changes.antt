@@ -32,7 +32,7 @@ use Rattle.record.proofs.AerodromeBlanks.{change-blank}
 use Rattle.elements.specs.Body.{classBody}
 use Rattle.sky.proofs.RoundTrip.{sky-again}
 use Rattle.body.proofs.Bodies.{wind-both, view-both, body-classed, element-classed}
-use Rattle.body.proofs.Changes.{list-fair, one-sizes, list-sizes}
+use Rattle.elements.proofs.Lists.{list-fair, one-sizes, list-sizes}
 use Rattle.aerodrome_groups.specs.Head.{instantFits}
 use Rattle.taf_row.specs.declared.kinds.Part.{Part}
 use Rattle.taf_row.specs.declared.kinds.Part.the-variants as part

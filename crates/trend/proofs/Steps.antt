@@ -45,7 +45,7 @@ row-endless free i = endless (row free) i refl
 
 -- what says no times is of the body
 abbrev elsewhere : List ℕ
-elsewhere = 0 ∷ 1 ∷ 2 ∷ 3 ∷ 4 ∷ 5 ∷ 6 ∷ 7 ∷ 8 ∷ 9 ∷ 10 ∷ 11 ∷ 12 ∷ 13 ∷ 14 ∷ 15 ∷ 16 ∷ 17 ∷ 18 ∷ 19 ∷ 20 ∷ 21 ∷ []
+elsewhere = 0 ∷ 1 ∷ 2 ∷ 3 ∷ 4 ∷ 5 ∷ 6 ∷ 7 ∷ 8 ∷ 9 ∷ 10 ∷ 11 ∷ 12 ∷ 13 ∷ 14 ∷ 15 ∷ 16 ∷ 17 ∷ 18 ∷ 19 ∷ 20 ∷ 21 ∷ 23 ∷ 24 ∷ []
 
 pub others : (k : ℕ) (g : Group) (c : TrendChange) (x : Said) → OneOf elsewhere (tagOf says.the-type x) → ontoBody k x c ≡ changeSaid k g x c
 unfolding changeSaid

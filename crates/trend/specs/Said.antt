@@ -42,6 +42,8 @@ changeSaid k g (said.Qnh x) c = ontoBody k (said.Qnh x) c
 changeSaid k g (said.Recent x) c = ontoBody k (said.Recent x) c
 changeSaid k g said.Nothing c = ontoBody k said.Nothing c
 changeSaid k g (said.Refused f) c = ontoBody k (said.Refused f) c
+changeSaid k g (said.State x) c = ontoBody k (said.State x) c
+changeSaid k g said.Snoclo c = ontoBody k said.Snoclo c
 
 -- A group at place i says this: put into any change with these times and this body it is what the place reads.
 abbrev pub Says : Bool → ℕ → ℕ → Group → Times → Body → Said → Type 0

@@ -16,7 +16,7 @@ abbrev Inv : tie.InvT-loop
 Inv all place count g i₀ k₀ i k = fitFrom all place count (drop place (standsOf row g)) ≡ fitFrom all i k (drop i (standsOf row g))
 
 abbrev μ : tie.MeasureT-loop
-μ all place count g i₀ k₀ i k = 16 - i
+μ all place count g i₀ k₀ i k = 19 - i
 
 pub fit-from-spec : {M : Type 1} → statement M
 fit-from-spec =

@@ -11,7 +11,7 @@ pub has-at-spec : {M : Type 1} → statement M
 has-at-spec =
     tie.close
     (tie.spec
-    (λ c κs. search needs) (λ c. search needs) (λ c κs. search needs) (λ c. search needs) (λ c κs. search needs) (λ c. search needs) (λ c κs. search needs) (λ c. search needs) (λ c κs. search needs) (λ c. search needs) (λ c κs. search needs) (λ c κs. search needs) (λ c κs. search needs) (λ c κs. search needs) (λ c κs. search needs) (λ c κs. search needs) (λ c κs. search needs) (λ c κs. search needs) (λ c. search needs) (λ c κs. search needs) (λ c κs. search needs) (λ c κs. search needs)
+    (λ c κs. search needs) (λ c. search needs) (λ c κs. search needs) (λ c. search needs) (λ c κs. search needs) (λ c. search needs) (λ c κs. search needs) (λ c. search needs) (λ c κs. search needs) (λ c. search needs) (λ c κs. search needs) (λ c κs. search needs) (λ c κs. search needs) (λ c κs. search needs) (λ c κs. search needs) (λ c κs. search needs) (λ c κs. search needs) (λ c κs. search needs) (λ c. search needs) (λ c κs. search needs) (λ c κs. search needs) (λ c κs. search needs) (λ c. search needs) (λ c κs. search needs) (λ c κs. search needs) (λ c κs. search needs)
     (λ c. let a = c .before .before .before .args in has-at row (a .g .now) 0 (c .before .match .keys1) (unfold row in c .is-name .ensures))
     (λ c. let a = c .before .before .before .before .args in has-at row (a .g .now) 1 (c .before .before .match .keys2) (unfold row in c .has-pattern .ensures))
     (λ c. let a = c .before .before .before .before .args in has-at row (a .g .now) 2 (c .before .before .match .keys3) (unfold row in c .has-pattern2 .ensures))
@@ -27,5 +27,8 @@ has-at-spec =
     (λ c. let a = c .before .before .before .args in has-at row (a .g .now) 12 (c .before .match .keys13) (unfold row in c .has-temperatures .ensures))
     (λ c. let a = c .before .before .before .before .args in has-at row (a .g .now) 13 (c .before .before .match .keys14) (unfold row in c .has-pattern6 .ensures))
     (λ c. let a = c .before .before .before .args in has-at row (a .g .now) 14 (c .before .match .keys15) (unfold row in c .has-recent .ensures))
-    (λ c. let a = c .before .before .before .args in has-at row (a .g .now) 15 (c .before .match .keys16) (unfold row in c .is-time .ensures))
-    (λ c. let a = c .before .before .args in has-nowhere row (a .g .now) (a .place) (unfold row in beyond 0 16 (a .place) zero-le (c .match .rest))))
+    (λ c. let a = c .before .before .before .args in has-at row (a .g .now) 15 (c .before .match .keys16) (unfold row in c .has-state .ensures))
+    (λ c. let a = c .before .before .before .before .args in has-at row (a .g .now) 16 (c .before .before .match .keys17) (unfold row in c .has-pattern7 .ensures))
+    (λ c. let a = c .before .before .before .args in has-at row (a .g .now) 17 (c .before .match .keys18) (unfold row in c .has-state2 .ensures))
+    (λ c. let a = c .before .before .before .args in has-at row (a .g .now) 18 (c .before .match .keys19) (unfold row in c .is-time .ensures))
+    (λ c. let a = c .before .before .args in has-nowhere row (a .g .now) (a .place) (unfold row in beyond 0 19 (a .place) zero-le (c .match .rest))))

@@ -1,12 +1,12 @@
 -- `metar::read::meet` meets its contract: the group that was cut, by its turn and by what it says.
 -- Assumes nothing.
 use borrow.Author.Needs.{needs}
-use mathlib.Core.Path.{_≡_, sym, _∙_}
+use mathlib.Core.Path.{sym, _∙_}
 use Rattle.text.proofs.Groups.{Follows, when-group, when-end}
 use Rattle.shapes.specs.Pattern.{hasAny}
 use Rattle.record.specs.declared.aerodrome.Observation.{Observation}
 use Rattle.metar_row.specs.Row.{row, words}
-use Rattle.metar.specs.Said.{reportSaid}
+use Rattle.metar.specs.Said.{Seen, reportSaid}
 use Rattle.body.proofs.Meets.{meets-halt, meets-fault, meets-said}
 use Rattle.metar.proofs.Steps.{row-few}
 use Rattle.metar.proofs.read.meet.Statement.{statement}
@@ -18,7 +18,7 @@ module _ (c : tie.After-known-told) where
   follows = when-group _ _ _ _ (sym (c .before .start .given .1) ∙ c .before .before .before .next-group .ensures)
 
   abbrev seen : Observation → Type 0
-  seen r = (r .automatic ≡ c .before .before .before .before .before .args .automatic) × (r .body ≡ c .before .before .before .before .before .args .body)
+  seen = let a = c .before .before .before .before .before .args in Seen (a .automatic) (a .body) (a .states)
 
 pub meet-spec : {M : Type 1} → statement M
 meet-spec =

@@ -51,7 +51,7 @@ module _ (c : tie.After-struct-known Inv μ) where
   report = c .before .before .before .before .before .before .loop .report
 
   ahead : (c .before .before .before .before .before .before .loop .from < next .end) × (next .end ≤ length text) × (next .count < 4)
-  ahead = group-ahead (c .before .before .before .before .before .before .loop .inv) reportSaid _ (c .before .before .before .before .before .meet .ensures) (refl, refl) (c .before .before .before .met3 .given .1)
+  ahead = group-ahead (c .before .before .before .before .before .before .loop .inv) reportSaid _ (c .before .before .before .before .before .meet .ensures) (refl, refl, refl) (c .before .before .before .met3 .given .1)
 
   less : length text - next .end < length text - c .before .before .before .before .before .before .loop .from
   less = omega (arith, ahead)
@@ -59,7 +59,7 @@ module _ (c : tie.After-struct-known Inv μ) where
   -- reading goes on with the record that has what the group says
   again : {y : Said} {a : Observation} → next .said ≡ y → a ≡ reportSaid (next .count) (partOf text (next .start) (next .end)) y report
       → Reached parts text whole row (hasAny words) 3 1 (setSpecial (c .before .before .before .before .before .before .before .before .before .args .special) blankObservation) (c .before .before .before .before .before .before .before .before .before .args .at) (c .before .go-past .result) (next .count + 1) a (next .end)
-  again tells put = reads-on (c .before .before .before .before .before .before .loop .inv) reportSaid _ (c .before .before .before .before .before .meet .ensures) (refl, refl) (c .before .before .before .met3 .given .1) (c .before .go-past .ensures) tells put
+  again tells put = reads-on (c .before .before .before .before .before .before .loop .inv) reportSaid _ (c .before .before .before .before .before .meet .ensures) (refl, refl, refl) (c .before .before .before .met3 .given .1) (c .before .go-past .ensures) tells put
 
 pub read-from-spec : {M : Type 1} → statement M
 read-from-spec =
@@ -73,17 +73,17 @@ read-from-spec =
     let o = c .before .before .before .before .before .loop .report in
     unfold behindName within comes in
     c .conclude .ensures
-    ∙ ap answer (sym (reads-over (c .before .before .before .before .before .loop .inv) reportSaid _ (c .before .before .before .before .meet .ensures) (refl, refl) (c .before .before .enum-told .given .1) tt
+    ∙ ap answer (sym (reads-over (c .before .before .before .before .before .loop .inv) reportSaid _ (c .before .before .before .before .meet .ensures) (refl, refl, refl) (c .before .before .enum-told .given .1) tt
     ∙ ap (afterPart (a .text .now) 0 (alone o)) (sym (c .before .after-groups .ensures o)))))
     (λ c. search needs) (λ c κs. search needs) (λ c κs. search needs)
     (λ c.
     unfold behindName within comes in
     c .conclude2 .ensures
-    ∙ ap answer (sym (reads-word (c .before .before .before .before .before .before .loop .inv) reportSaid _ (c .before .before .before .before .before .meet .ensures) (refl, refl) (c .before .before .before .met .given .1) tt ∙ c .before .after-word .ensures _)))
+    ∙ ap answer (sym (reads-word (c .before .before .before .before .before .before .loop .inv) reportSaid _ (c .before .before .before .before .before .meet .ensures) (refl, refl, refl) (c .before .before .before .met .given .1) tt ∙ c .before .after-word .ensures _)))
     (λ c. search needs) (λ c κs. search needs)
     (λ c.
     unfold behindName within comes in
-    c .refuse .ensures ∙ ap answer (sym (reads-fault (c .before .before .before .before .before .loop .inv) reportSaid _ (c .before .before .before .before .meet .ensures) (refl, refl) (c .before .before .met2 .given .1) tt)))
+    c .refuse .ensures ∙ ap answer (sym (reads-fault (c .before .before .before .before .before .loop .inv) reportSaid _ (c .before .before .before .before .meet .ensures) (refl, refl, refl) (c .before .before .met2 .given .1) tt)))
     (λ c. search needs) (λ c κs. search needs)
     (λ c. omega (arith, ahead c))
     (λ c. search needs) (λ c. less (c .before .before .before)) (λ c. again (c .before .before .before) (c .before .said .given .1) (unfold reportSaid in refl))
@@ -97,4 +97,6 @@ read-from-spec =
     (λ c. search needs) (λ c. less (c .before .before .before)) (λ c. again (c .before .before .before) (c .before .said5 .given .1) (unfold reportSaid in refl))
     (λ c. search needs) (λ c. less (c .before .before .before)) (λ c. again (c .before .before .before) (c .before .said6 .given .1) (unfold reportSaid in refl))
     (λ c. search needs) (λ c κs. search needs) (λ c. less (c .before .before .before .before)) (λ c. again (c .before .before .before .before) (c .before .before .said7 .given .1) (unfold reportSaid in rw (c .add-weather .ensures)))
-    (λ c κs. search needs) (λ c. less (c .before .before)) (λ c. again (c .before .before) refl (rw (c .put .ensures) (others _ _ _ _ (c .before .match2 .keys12)))))
+    (λ c. search needs) (λ c κs. search needs) (λ c. less (c .before .before .before .before)) (λ c. again (c .before .before .before .before) (c .before .before .said8 .given .1) (unfold reportSaid in rw (c .add-state .ensures)))
+    (λ c. search needs) (λ c κs. search needs) (λ c. less (c .before .before .before)) (λ c. again (c .before .before .before) (c .before .enum-told6 .given .1) (unfold reportSaid in rw (c .close .ensures)))
+    (λ c κs. search needs) (λ c. less (c .before .before)) (λ c. again (c .before .before) refl (rw (c .put .ensures) (others _ _ _ _ (c .before .match2 .keys14)))))

@@ -10,8 +10,8 @@ judge-observation-spec =
     tie.close
     (tie.spec
     (λ c κs. tt) (λ c κs. tt) (λ c κs. tt) (λ c κs. tt) (λ c κs. tt) (λ c κs. tt) (λ c κs. tt) (λ c κs. tt) (λ c κs. tt) (λ c κs. tt) (λ c κs. tt)
-    (λ c κs. tt) (λ c κs. tt) (λ c κs. tt) (λ c κs. tt) (λ c κs. tt) (λ c κs. tt)
+    (λ c κs. tt) (λ c κs. tt) (λ c κs. tt) (λ c κs. tt) (λ c κs. tt) (λ c κs. tt) (λ c κs. tt) (λ c κs. tt)
     (λ c.
     unfold judgeObservation in
-    let r = c .before .before .before .before .before .before .before .before .before .before .before .before .before .before .before .before .before .before .before .before .before .before .before .args .r in
-    rw (c .and-then8 .ensures, c .before .wind-judged .ensures false (r .automatic) (r .nil), c .before .before .and-then7 .ensures, c .before .before .before .judge-variation .ensures, c .before .before .before .before .and-then6 .ensures, c .before .before .before .before .before .visibility-judged .ensures false (r .automatic) (r .nil), c .before .before .before .before .before .before .and-then5 .ensures, c .before .before .before .before .before .before .before .judge-runways .ensures, c .before .before .before .before .before .before .before .before .and-then4 .ensures, c .before .before .before .before .before .before .before .before .before .weather-judged .ensures true (r .nil), c .before .before .before .before .before .before .before .before .before .before .and-then3 .ensures, c .before .before .before .before .before .before .before .before .before .before .before .sky-judged .ensures true false (r .automatic) (r .nil), c .before .before .before .before .before .before .before .before .before .before .before .before .and-then2 .ensures, c .before .before .before .before .before .before .before .before .before .before .before .before .before .judge-temperatures .ensures, c .before .before .before .before .before .before .before .before .before .before .before .before .before .before .and-then .ensures, c .before .before .before .before .before .before .before .before .before .before .before .before .before .before .before .judge-recents .ensures, c .before .before .before .before .before .before .before .before .before .before .before .before .before .before .before .before .judge-qnh .ensures)))
+    let r = c .before .before .before .before .before .before .before .before .before .before .before .before .before .before .before .before .before .before .before .before .before .before .before .before .before .before .args .r in
+    rw (c .and-then9 .ensures, c .before .wind-judged .ensures false (r .automatic) (r .nil), c .before .before .and-then8 .ensures, c .before .before .before .judge-variation .ensures, c .before .before .before .before .and-then7 .ensures, c .before .before .before .before .before .visibility-judged .ensures false (r .automatic) (r .nil), c .before .before .before .before .before .before .and-then6 .ensures, c .before .before .before .before .before .before .before .judge-runways .ensures, c .before .before .before .before .before .before .before .before .and-then5 .ensures, c .before .before .before .before .before .before .before .before .before .weather-judged .ensures true (r .nil), c .before .before .before .before .before .before .before .before .before .before .and-then4 .ensures, c .before .before .before .before .before .before .before .before .before .before .before .sky-judged .ensures true false (r .automatic) (r .nil), c .before .before .before .before .before .before .before .before .before .before .before .before .and-then3 .ensures, c .before .before .before .before .before .before .before .before .before .before .before .before .before .judge-temperatures .ensures, c .before .before .before .before .before .before .before .before .before .before .before .before .before .before .and-then2 .ensures, c .before .before .before .before .before .before .before .before .before .before .before .before .before .before .before .judge-qnh .ensures, c .before .before .before .before .before .before .before .before .before .before .before .before .before .before .before .before .and-then .ensures, c .before .before .before .before .before .before .before .before .before .before .before .before .before .before .before .before .before .judge-states .ensures, c .before .before .before .before .before .before .before .before .before .before .before .before .before .before .before .before .before .before .judge-recents .ensures)))

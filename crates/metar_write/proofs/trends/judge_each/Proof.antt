@@ -5,7 +5,7 @@ use Prim.Native.Nat.{_≤_, _-_}
 use native.Mathlib.Omega.{arith}
 use lib.ListN.{length, take, drop, length-map}
 use borrow.Author.Needs.{needs}
-use Rattle.body.proofs.Changes.{each-next, each-stop, each-end}
+use Rattle.elements.proofs.Lists.{each-next, each-stop, each-end}
 use Rattle.trend.specs.Write.{judgeChange, judgeEach}
 use Rattle.metar_write.proofs.trends.judge_each.Statement.{statement}
 use Rattle.metar_write.proofs.trends.judge_each.Tie as tie

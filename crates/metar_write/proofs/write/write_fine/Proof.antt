@@ -15,7 +15,7 @@ use Rattle.places.proofs.Delivered.{made, delivered}
 use Rattle.record.specs.declared.aerodrome.TrendChange.{TrendChange}
 use Rattle.record.proofs.aerodrome.TrendChange.{the-type}
 use Rattle.record.specs.Arrays.{BodyArrays, MetarArrays}
-use Rattle.body.proofs.Changes.{body-arrays, each-owned}
+use Rattle.body.proofs.Arrays.{body-arrays, each-owned}
 use Rattle.metar.specs.Write.{groupsOf, canonicalOf, writtenOf, bufferOf}
 use Rattle.metar_laws.proofs.Canonical.{trend-listed, groups-sizes, length-canonical}
 use Rattle.metar_write.proofs.write.write_fine.Statement.{statement}
@@ -35,16 +35,17 @@ arrays c =
             body = body-arrays (r .observation .body) _ (observation .1 .1 .1 .1 .1 .1 .0);
             runways = simp length-map at (runways .0 .1 .1 .0 .1 .0 .1);
             recents = simp length-map at (runways .1 .1 .1 .0 .1 .1 .0 .1 .0 .1);
+            states = simp length-map at (runways .1 .1 .1 .1 .0 .1 .1 .0 .1 .0 .1);
           };
       trend = simp length-map at (items .1 .0 .1);
       each = each-owned (Struct (shape the-type)) (the-type .to) (λ (x : TrendChange). BodyArrays (x .body)) (λ x us s. body-arrays (x .body) _ (s .1 .1 .1 .1 .0)) (r .trend .items) _ (items .1 .1);
     }
 
 -- the report as it is made over the array, which has room for the longest
-report : (c : tie.Start) {end : ℕ} {e : List ℕ} → Put (replicate 640 0) 0 (written 0 (groupsOf (c .args .r)) ++ (61 ∷ [])) end e
+report : (c : tie.Start) {end : ℕ} {e : List ℕ} → Put (replicate 704 0) 0 (written 0 (groupsOf (c .args .r)) ++ (61 ∷ [])) end e
     → (end ≤ length e) × (take end e ≡ join (groupsOf (c .args .r)))
 unfolding canonicalOf
-report c = made {n = 640} (groupsOf (c .args .r)) (groups-sizes (c .args .r) (arrays c) (c .pre)) (omega (arith, length-canonical (c .args .r) (arrays c) (c .pre)))
+report c = made {n = 704} (groupsOf (c .args .r)) (groups-sizes (c .args .r) (arrays c) (c .pre)) (omega (arith, length-canonical (c .args .r) (arrays c) (c .pre)))
 
 pub write-fine-spec : {M : Type 1} → statement M
 write-fine-spec =

@@ -4,4 +4,4 @@ use Rattle.record.proofs.blank_aerodrome.blank_observation.Statement.{s
 use Rattle.record.proofs.blank_aerodrome.blank_observation.Tie as tie
 
 pub blank-observation-spec : {M : Type 1} → statement M
-blank-observation-spec = tie.close (tie.spec (λ c κs. tt) (λ c κs. tt) (λ c κs. tt) (λ c κs. tt) (λ c κs. tt) (λ c. rw (c .blank-weathers .ensures, c .before .blank-runways .ensures, c .before .before .blank-body .ensures, c .before .before .before .blank-instant .ensures, c .before .before .before .before .blank-station .ensures)))
+blank-observation-spec = tie.close (tie.spec (λ c κs. tt) (λ c κs. tt) (λ c κs. tt) (λ c κs. tt) (λ c κs. tt) (λ c κs. tt) (λ c. rw (c .blank-states .ensures, c .before .blank-weathers .ensures, c .before .before .blank-runways .ensures, c .before .before .before .blank-body .ensures, c .before .before .before .before .blank-instant .ensures, c .before .before .before .before .before .blank-station .ensures)))

@@ -5,7 +5,7 @@ use Prim.Native.Nat.{_≤_, _-_}
 use native.Mathlib.Omega.{arith}
 use lib.ListN.{length, take, drop}
 use borrow.Author.Needs.{needs}
-use Rattle.body.proofs.Changes.{each-next, each-stop, each-end}
+use Rattle.elements.proofs.Lists.{each-next, each-stop, each-end}
 use Rattle.taf.specs.Write.{judgeChange, judgeEach}
 use Rattle.taf_write.proofs.judge.judge_each.Statement.{statement}
 use Rattle.taf_write.proofs.judge.judge_each.Tie as tie

@@ -15,7 +15,7 @@ use Rattle.places.proofs.Delivered.{made, delivered}
 use Rattle.record.specs.declared.aerodrome.Change.{Change}
 use Rattle.record.proofs.aerodrome.Change.{the-type}
 use Rattle.record.specs.Arrays.{BodyArrays, TafArrays}
-use Rattle.body.proofs.Changes.{body-arrays, each-owned}
+use Rattle.body.proofs.Arrays.{body-arrays, each-owned}
 use Rattle.taf.specs.Write.{groupsOf, canonicalOf, writtenOf, bufferOf}
 use Rattle.taf_laws.proofs.Canonical.{groups-sizes, length-canonical}
 use Rattle.taf_write.proofs.write.write_fine.Statement.{statement}

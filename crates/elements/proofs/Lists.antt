@@ -1,23 +1,17 @@
--- The changes of a forecast, of a TAF or of a trend: judged one by one, written one after the other, what is read back of them, and the arrays that each
--- has.
+-- Lists of which the first ones count, as the changes of a forecast or the states of runways: judged one by one, written one after the other, read back one
+-- after the other, and what is read back of them.
 -- Assumes nothing.
-use Prim.Native.Nat.{ℕ, suc, _+_, _*_, _≤_, _<_}
+use Prim.Native.Nat.{ℕ, zero, suc, _+_, _-_, _*_, _≤_, _<_}
 use native.Mathlib.Numerals.{add-one}
-use native.Mathlib.Nat.{mul-suc, mul-le-mul-left}
+use native.Mathlib.Nat.{mul-suc, mul-le-mul-left, add-zero, zero-add, suc-add}
 use native.Mathlib.Omega.{arith}
-use mathlib.Core.Path.{_≡_, sym, ap, _∙_}
+use mathlib.Core.Path.{_≡_, refl, sym, ap, _∙_}
 use mathlib.Core.Bool.{Bool, true, _&&_}
-use mathlib.Core.List.{List, [], _∷_, _++_, map}
-use lib.ListN.{length, getD, take, drop, drop-of-length-le, length-map}
-use lib.Seq.{drop-cons, getD-take, length-take-le}
+use mathlib.Core.List.{List, [], _∷_, _++_, map, append-assoc}
+use lib.ListN.{length, getD, take, drop, set, replicate, drop-of-length-le, length-append}
+use lib.Seq.{drop-cons, getD-take, length-take-le, set-at}
 use lib.Dec.{leb}
 use borrow.Author.Tests.{leb-true, le-leb}
-use mir.Val.{Val}
-use denote.RattleType.{RattleType}
-use denote.Array.{each as owned}
-use denote.Shadow.{shadow}
-use denote.Struct.Struct.{Struct}
-use denote.Struct.Declared.{shape}
 use Rattle.figures.specs.Figures.{every}
 use Rattle.text.specs.declared.kinds.Judged.{Judged}
 use Rattle.text.specs.declared.kinds.Judged.the-variants as judged
@@ -26,12 +20,10 @@ use Rattle.text.specs.Judge.{judge, andThen}
 use Rattle.text.proofs.Judging.{fine, and-then}
 use Rattle.shapes.specs.Pattern.{Pattern, hasPattern}
 use Rattle.shapes.proofs.Patterns.{both}
-use Rattle.places.specs.Engine.{Group}
-use Rattle.places.proofs.ReadBack.{one-pattern}
+use Rattle.places.specs.Engine.{Group, Good, Place}
+use Rattle.places.proofs.ReadBack.{one-pattern, fill}
 use Rattle.places.proofs.Sizes.{measured, sized-any, Sizes, sizes-none, sizes-cons, sizes-append, sizes-more}
-use Rattle.record.specs.declared.aerodrome.Body.{Body}
-use Rattle.record.proofs.aerodrome.Body.{the-type}
-use Rattle.record.specs.Arrays.{BodyArrays, Each}
+use Rattle.record.specs.Arrays.{Each}
 use Rattle.record.proofs.Counted.{Listed, each-take, listed-of, taken, dropped}
 
 -- ---- judged one by one: the first n decide, those that are left after i as all of them
@@ -81,7 +73,7 @@ module _ {A : Type 0} (one : A → Judged) (each : List A → Judged) (none : ea
     abbrev pub judgeListed : List A → Judged
     judgeListed ys = andThen (judge (within ys) true) (each (take n ys))
 
-    -- THE CHANGES OF A LIST THAT IS JUDGED FINE: few enough, each judged fine, and blank past them.
+    -- WHAT A LIST HOLDS THAT IS JUDGED FINE: few enough, each judged fine, and blank past them.
     pub list-fair : {P F : A → Type 0} {blank : A} → ((x : A) → one x ≡ judged.Fine → F x) → ((x : A) → P x → isBlank x ≡ true → x ≡ blank) → length xs ≡ most → Each P xs
         → judgeListed xs ≡ judged.Fine → Listed (λ x. P x × F x) isBlank blank most n xs
     list-fair {P} fair is all arrays e =
@@ -113,7 +105,7 @@ module _ {A : Type 0} (one : A → List Group) (each : List A → List Group) (n
       rw (more x xs)
       (sizes-more (omega (arith, mul-suc size (length xs))) (sizes-append (one x) (each xs) (sized x (a .0)) (each-sizes size sized xs (a .1))))
 
-  -- THE ROOM THAT THE CHANGES OF A LIST TAKE, AND THAT THOSE READ BACK ARE WRITTEN AS THEY WERE.
+  -- THE ROOM THAT WHAT COUNTS TAKES, AND THAT THOSE READ BACK ARE WRITTEN AS THEY WERE.
   module _ {P : A → Type 0} {isBlank : A → Bool} {blank : A} {most n : ℕ} {xs : List A} (l : Listed P isBlank blank most n xs) where
     pub list-sizes : (size : ℕ) → ((x : A) → P x → Sizes size (one x)) → Sizes (size * most) (each (take n xs))
     list-sizes size sized =
@@ -123,18 +115,32 @@ module _ {A : Type 0} (one : A → List Group) (each : List A → List Group) (n
     pub list-again : (f : A → A) → ((x : A) → P x → one (f x) ≡ one x) → each (take n (map f (take n xs) ++ drop n xs)) ≡ each (take n xs)
     list-again f again = rw (taken f n xs (l .many)) (each-again f again (take n xs) (l .each))
 
--- ---- an array's length is part of its type: what owning a body tells of its arrays, and owning a list of each
+-- ---- read back one after the other
 
-abbrev body : RattleType
-body = Struct (shape the-type)
+drop-blanks : {A : Type 0} (blank : A) (n k : ℕ) → drop n (replicate k blank) ≡ replicate (k - n) blank
+drop-blanks blank zero k = let e : k - 0 ≡ k = omega arith in rw e
+drop-blanks blank (suc n) zero = let e : 0 - suc n ≡ 0 = omega arith in rw e
+drop-blanks blank (suc n) (suc k) = let e : suc k - suc n ≡ k - n = omega arith in rw e (drop-blanks blank n k)
 
-pub body-arrays : (b : Body) (us : List Val) → shadow (body .own (the-type .to b) us) → BodyArrays b
-body-arrays b us s =
-    let s = s .1 .1 .1 .1 in
-    record { weathers = simp length-map at (s .0 .1 .1 .0 .1 .0 .1); layers = simp length-map at (s .1 .1 .0 .1 .1 .1 .0 .1 .0 .1) }
+-- A place reads what one shows into the next slot, as its class; `holding` is the record with these slots and this count.
+module _ {R A : Type 0} (p : Place R) (holding : List A → ℕ → R) (show : A → Group) (class : A → A) (blank : A) (most : ℕ) (P : A → Type 0)
+    (reads : (k : ℕ) (xs : List A) (x : A) → k < most → P x → p .read k (show x) (holding xs k) ≡ Good (holding (set xs k (class x)) (k + 1))) where
+  -- read where n are done and the rest is blank
+  fill-each : (ws done : List A) (n rest : ℕ) → Each P ws → length done ≡ n → n + (length ws + rest) ≡ most
+      → fill p n (map show ws) (holding (done ++ replicate (length ws + rest) blank) n)
+      ≡ Good (holding (done ++ (map class ws ++ replicate rest blank)) (n + length ws))
+  fill-each [] done n rest f len sum = rw (add-zero n, zero-add rest)
+  fill-each (w ∷ ws) done n rest f len sum =
+      let x = class w in
+      let next : length (done ++ (x ∷ [])) ≡ n + 1 = simp length-append (omega arith) in
+      let count : n + 1 + length ws ≡ n + suc (length ws) = omega arith in
+      rw (suc-add (length ws) rest, reads n (done ++ (blank ∷ replicate (length ws + rest) blank)) w (omega arith) (f .0), set-at done blank (replicate (length ws + rest) blank) x n len)
+      (rw count at (simp append-assoc at (fill-each ws (done ++ (x ∷ [])) (n + 1) rest (f .1) next (omega arith))))
 
-pub each-owned : {A : Type 0} (T : RattleType) (to : A → T .Denot) (P : A → Type 0) → ((x : A) (us : List Val) → shadow (T .own (to x) us) → P x)
-    → (xs : List A) (us : List Val) → shadow (owned (T .Denot) (T .own) (map to xs) us) → Each P xs
-each-owned T to P tells [] us s = tt
-each-owned T to P tells (x ∷ xs) [] s = absurd s
-each-owned T to P tells (x ∷ xs) (u ∷ us) s = (tells x (u ∷ []) (s .0), each-owned T to P tells xs us (s .1))
+  -- WHAT IS SHOWN OF A LIST IS READ BACK, into blank slots: each that counts as its class, and blank past them.
+  pub fill-listed : {isBlank : A → Bool} {n : ℕ} {xs : List A} → Listed P isBlank blank most n xs
+      → fill p 0 (map show (take n xs)) (holding (replicate most blank) 0) ≡ Good (holding (map class (take n xs) ++ drop n xs) n)
+  fill-listed {n = n} {xs} l =
+      let past : replicate (most - n) blank ≡ drop n xs = sym (drop-blanks blank n most) ∙ l .rest in
+      let sum : n + (most - n) ≡ most = omega (arith, l .few) in
+      rw (← past) (rw (l .many, sum, zero-add n) at (fill-each (take n xs) [] 0 (most - n) (l .each) refl (omega (arith, l .many, l .few))))
