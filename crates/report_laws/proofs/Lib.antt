@@ -1,5 +1,5 @@
--- The three demands on the library for every kind of report, what may have been seen where a number is read, the poor libraries that the demands shut out,
--- worked examples, and that TAF and trend have one body.
+-- The three demands on the library for every kind of report, what a reading depends on, what may have been seen where a number is read, the poor libraries
+-- that the demands shut out, worked examples, and that TAF and trend have one body.
 pub mod ByName
 pub mod Causes
 pub mod Placed
@@ -7,6 +7,7 @@ pub mod Faults
 pub mod Numbers
 pub mod RoundTrip
 pub mod Demands
+pub mod SameGroups
 pub mod Seen
 pub mod PoorLibraries
 pub mod Examples
