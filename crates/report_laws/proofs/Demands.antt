@@ -1,19 +1,20 @@
 -- THE THREE DEMANDS on the library, for every kind of report. What the calls do is `readOf`, `restOf`, `writtenOf` and `bufferOf`: the contracts of
--- `report::read` and `write` are equations with them, and the part that `rest` hands back has the bytes `restOf`. A record's arrays have their lengths, as
--- every record of the code has (`Arrays`).
+-- `report::read` and `write` are equations with them, and the part that `rest` hands back has the bytes `restOf`. Demand 3 is of records whose arrays have
+-- their lengths (`Arrays`), as those of every record of the code have by its type: `round_trip::read_back`, which writes and reads, ensures it of any record.
 -- Assumes nothing.
 use Prim.Native.Nat.{ℕ, _≤_, _<_, _+_, _-_, _%_}
 use native.Mathlib.Omega.{arith}
 use mathlib.Core.Path.{_≡_, refl, sym, ap, subst, _∙_}
 use mathlib.Core.Bool.{Bool, true, false, cond, _||_}
-use mathlib.Core.List.{List, [], map, _∷_, _++_}
+use mathlib.Core.List.{List, [], map, _++_}
 use lib.ListN.{length, take, drop}
+use lib.Seq.{take-at, drop-at}
 use lib.IntN.{ℤ}
 use lib.Dec.{leb, eqb}
 use borrow.Author.Tests.{leb-true, leb-false, le-leb, lt-leb}
 use Rattle.figures.proofs.Impossible.{impossible}
 use Rattle.figures.specs.Put.{splice}
-use Rattle.figures.proofs.Puts.{splice-eq}
+use Rattle.figures.proofs.Puts.{length-splice, splice-eq}
 use Rattle.scales.specs.declared.kinds.Rain.the-variants as rain
 use Rattle.scales.specs.Rounded.{roundedRain, roundedPressure, rainRank, roundedDirection}
 use Rattle.scales.specs.Degrees.{roundedDegrees}
@@ -39,6 +40,9 @@ use Rattle.places.specs.Engine.{Outcome, Done, Fault}
 use Rattle.record.specs.declared.values.Number.the-variants as number
 use Rattle.record.specs.declared.values.Tenths.the-variants as tenths
 use Rattle.record.specs.declared.values.Speed.the-variants as speed
+use Rattle.record.specs.Classes.{classDirection}
+use Rattle.record.proofs.Near.{DirectionNear}
+use Rattle.record.proofs.Counted.{EachRead}
 use Rattle.record.specs.declared.surface.Synop.{Synop}
 use Rattle.record.specs.declared.aerodrome.Unit.{Unit}
 use Rattle.record.specs.declared.aerodrome.Metar.{Metar}
@@ -56,8 +60,8 @@ use Rattle.report_laws.proofs.ByName.{surfaceWord, observedWord, foreca
 use Rattle.report_laws.proofs.Causes.{Caused, fine, bad-value, disagreeing, causes}
 use Rattle.report_laws.proofs.Placed.{one-or-more, Placed, At, at-place, Within, groups-within, tail-within}
 use Rattle.report_laws.proofs.Faults.{surface-placed, observed-placed, forecast-placed, NamePlaced, name-placed}
-use Rattle.report_laws.proofs.Numbers.{Table, footOn, classOn, numbersOf, temperaturesOf, pressuresOf, classUnitSpeed, noUnitSpeed, speedsOf, rainsOf, DownOn, down-on, NumberOrder, TenthsOrder, SpeedOrder, RainOrder, InOrder, in-order, class-order, temperature-order, qnh-order, class-speed-order}
-use Rattle.report_laws.proofs.RoundTrip.{Arrays, fair, comes-back, fine-again, text-again, Kept, kept, numbers-back, temperatures-back, pressures-back, speeds-back, rains-back}
+use Rattle.report_laws.proofs.Numbers.{Table, footOn, classOn, numbersOf, temperaturesOf, pressuresOf, classUnitSpeed, noUnitSpeed, speedsOf, directionsOf, rainsOf, DownOn, down-on, NumberOrder, TenthsOrder, SpeedOrder, RainOrder, InOrder, in-order, class-order, temperature-order, qnh-order, class-speed-order}
+use Rattle.report_laws.proofs.RoundTrip.{Arrays, fair, comes-back, fine-again, text-again, Kept, kept, numbers-back, temperatures-back, pressures-back, speeds-back, directions-back, directions-near as near-back, rains-back}
 
 -- ==== DEMAND 1. Every text and every record gets an answer.
 
@@ -238,14 +242,53 @@ pub one-text : (r : Report) (b : List ℕ) → judgeOf r ≡ judged.Fine → len
 unfolding writtenOf bufferOf judgeOf canonicalOf
 one-text r b e h = (rw (e, le-leb (length (canonicalOf r)) (length b) h), rw (e, le-leb (length (canonicalOf r)) (length b) h))
 
--- so that the bytes counted are that text
-front : {A : Type 0} (xs ys : List A) → take (length xs) (xs ++ ys) ≡ xs
-front [] ys = refl
-front (x ∷ xs) ys = ap (λ (l : List _). x ∷ l) (front xs ys)
+-- so that the bytes counted are that text, and those past it are as they were
+left : (r : Report) (b : List ℕ) → judgeOf r ≡ judged.Fine → length (canonicalOf r) ≤ length b → bufferOf r b ≡ canonicalOf r ++ drop (length (canonicalOf r)) b
+left r b e h =
+    let none : 0 + length (canonicalOf r) ≡ length (canonicalOf r) = omega arith in
+    one-text r b e h .1 ∙ rw none at (splice-eq b 0 (canonicalOf r) (omega arith))
 
 pub text-left : (r : Report) (b : List ℕ) → judgeOf r ≡ judged.Fine → length (canonicalOf r) ≤ length b → take (length (canonicalOf r)) (bufferOf r b) ≡ canonicalOf r
-text-left r b e h =
-    ap (take (length (canonicalOf r))) (one-text r b e h .1 ∙ splice-eq b 0 (canonicalOf r) (omega arith)) ∙ front (canonicalOf r) (drop (0 + length (canonicalOf r)) b)
+text-left r b e h = ap (take (length (canonicalOf r))) (left r b e h) ∙ take-at (canonicalOf r) (drop (length (canonicalOf r)) b) (length (canonicalOf r)) refl
+
+-- The same of what `write` answered: where it is a count, the record is judged fine, its text has room, and the count is the text's length.
+pub record Counted (r : Report) (b : List ℕ) (n : ℕ) : Type 0 where
+  pub fine : judgeOf r ≡ judged.Fine
+  pub room : length (canonicalOf r) ≤ length b
+  pub count : n ≡ length (canonicalOf r)
+
+pub counted : (r : Report) (b : List ℕ) (n : ℕ) → writtenOf r (length b) ≡ answer.Count n → Counted r b n
+counted r b n e = go (writtenOf r (length b)) e (bufferOf r b) (every-record r b)
+  where
+    go : (w : Written) → w ≡ answer.Count n → (l : List ℕ) → Settled r b w l → Counted r b n
+    go _ e _ (done j h) = record { fine = j; room = h; count = cc }
+    go _ e _ (unchanged f) = impossible (cc)
+
+pub counted-text : (r : Report) (b : List ℕ) (n : ℕ) → writtenOf r (length b) ≡ answer.Count n → take n (bufferOf r b) ≡ canonicalOf r
+counted-text r b n e = let k = counted r b n e in rw (k .count) (text-left r b (k .fine) (k .room))
+
+-- "success leaves the bytes past the text as they were"
+pub past-text : (r : Report) (b : List ℕ) (n : ℕ) → writtenOf r (length b) ≡ answer.Count n → drop n (bufferOf r b) ≡ drop n b
+past-text r b n e =
+    let k = counted r b n e in
+    let text = canonicalOf r in
+    rw (k .count) (ap (drop (length text)) (left r b (k .fine) (k .room)) ∙ drop-at text (drop (length text) b) (length text) refl)
+
+-- "A refusal writes nothing"
+pub refused-unchanged : (r : Report) (b : List ℕ) (f : Refusal) → writtenOf r (length b) ≡ answer.Refused f → bufferOf r b ≡ b
+refused-unchanged r b f e = go (writtenOf r (length b)) e (bufferOf r b) (every-record r b)
+  where
+    go : (w : Written) → w ≡ answer.Refused f → (l : List ℕ) → Settled r b w l → l ≡ b
+    go _ e _ (done j h) = impossible (cc)
+    go _ e _ (unchanged g) = refl
+
+-- whatever is answered, the buffer is as long as it was
+pub same-length : (r : Report) (b : List ℕ) → length (bufferOf r b) ≡ length b
+same-length r b = go (writtenOf r (length b)) (bufferOf r b) (every-record r b)
+  where
+    go : (w : Written) (l : List ℕ) → Settled r b w l → length l ≡ length b
+    go _ _ (done j h) = length-splice b 0 (canonicalOf r)
+    go _ _ (unchanged f) = refl
 
 -- ==== DEMAND 3. What the writer writes, the reader accepts whole; exact fields come back equal, each rounded number as the reading of its class, within the
 -- stated distance, never greater where a scale rounds down, order kept; written again, the same bytes.
@@ -253,6 +296,24 @@ text-left r b e h =
 -- the record that the canonical text is read as
 abbrev pub back : Report → Report
 back r = readOf (canonicalOf r) .report
+
+-- All that the demand says of a record q that comes back of a record r. (How far off a number is follows from its class: `how-far` and those after it; the
+-- order of two, from two records that come back: `order-kept`.)
+pub record ComesBack (r q : Report) : Type 0 where
+  -- field by field: all that the code carries exactly is equal, what is rounded is near (`RecordRead` of each kind)
+  pub fields : Kept r q
+  -- each rounded number is the reading of its own class
+  pub numbers : (t : Table) → numbersOf t q ≡ map (classOn t) (numbersOf t r)
+  pub temperatures : temperaturesOf q ≡ map classTenths (temperaturesOf r)
+  pub pressures : pressuresOf q ≡ map classPressure (pressuresOf r)
+  pub speeds : speedsOf q ≡ map classUnitSpeed (speedsOf r)
+  pub rains : rainsOf q ≡ map roundedRain (rainsOf r)
+  pub directions : directionsOf q ≡ map classDirection (directionsOf r)
+  pub directions-near : EachRead DirectionNear (directionsOf r) (directionsOf q)
+  -- written once more into any buffer that has room for those bytes, the same bytes; and read once more, the same record
+  pub bytes : (b : List ℕ) → length (canonicalOf r) ≤ length b
+      → (writtenOf q (length b) ≡ answer.Count (length (canonicalOf r))) × (bufferOf q b ≡ splice b 0 (canonicalOf r))
+  pub again : back q ≡ q
 
 module _ (r : Report) (arrays : Arrays r) (fine : judgeOf r ≡ judged.Fine) where
   whole : readOf (canonicalOf r) ≡ accepted (length (canonicalOf r)) (classedOf r)
@@ -287,6 +348,14 @@ module _ (r : Report) (arrays : Arrays r) (fine : judgeOf r ≡ judged.Fine) whe
   pub rains-read : rainsOf (back r) ≡ map roundedRain (rainsOf r)
   rains-read = ap rainsOf back-is ∙ rains-back (fair r arrays fine)
 
+  -- On a circle no direction is greater than another: of directions no order is claimed.
+  pub directions-read : directionsOf (back r) ≡ map classDirection (directionsOf r)
+  directions-read = ap directionsOf back-is ∙ directions-back (fair r arrays fine)
+
+  -- missing, calm and variable are carried exactly, and degrees are "on the circle, -5 to 4 degrees" off (`Near`)
+  pub directions-near : EachRead DirectionNear (directionsOf r) (directionsOf (back r))
+  directions-near = subst (λ (q : Report). EachRead DirectionNear (directionsOf r) (directionsOf q)) (sym back-is) (near-back (fair r arrays fine))
+
   -- written once more into any buffer that has room for those bytes, the same bytes
   pub same-bytes : (b : List ℕ) → length (canonicalOf r) ≤ length b
       → (writtenOf (back r) (length b) ≡ answer.Count (length (canonicalOf r))) × (bufferOf (back r) b ≡ splice b 0 (canonicalOf r))
@@ -302,6 +371,42 @@ module _ (r : Report) (arrays : Arrays r) (fine : judgeOf r ≡ judged.Fine) whe
   pub same-record : back (back r) ≡ back r
   same-record =
       ap (λ (q : Report). readOf (canonicalOf q) .report) back-is ∙ ap (λ (t : List ℕ). readOf t .report) (text-again (fair r arrays fine))
+
+  -- so all of it
+  pub all-back : ComesBack r (back r)
+  all-back =
+      record {
+        fields = fields-kept;
+        numbers = classes-read;
+        temperatures = temperatures-read;
+        pressures = pressures-read;
+        speeds = speeds-read;
+        rains = rains-read;
+        directions = directions-read;
+        directions-near = directions-near;
+        bytes = same-bytes;
+        again = same-record;
+      }
+
+-- The reader accepts a text t of n bytes, which was written of a record r, whole and with no unread rest, as the classed record; and all of that is said of the
+-- record that it gives.
+pub record ReadWhole (r : Report) (n : ℕ) (t : List ℕ) : Type 0 where
+  pub reading : readOf t ≡ accepted n (classedOf r)
+  pub rest : restOf t ≡ []
+  pub comes-back : ComesBack r (readOf t .report)
+
+-- Where `write` answered the count n, the first n bytes of the buffer are such a text.
+module _ (r : Report) (b : List ℕ) (n : ℕ) (arrays : Arrays r) (wrote : writtenOf r (length b) ≡ answer.Count n) where
+  pub written-read : readOf (take n (bufferOf r b)) ≡ accepted n (classedOf r)
+  written-read =
+      let k = counted r b n wrote in
+      ap readOf (counted-text r b n wrote) ∙ rw (k .count) (whole r arrays (k .fine))
+
+  pub written-whole : ReadWhole r n (take n (bufferOf r b))
+  written-whole =
+      let fine = counted r b n wrote .fine in
+      let text = counted-text r b n wrote in
+      record { reading = written-read; rest = ap restOf text ∙ accepted-whole r arrays fine .1; comes-back = rw text (all-back r arrays fine) }
 
 -- no further off than document 01 states for the class, never greater, the last class open above; on the six scales in metres
 pub how-far : (t : Table) (v : ℕ) → DownOn t v (footOn t v)
@@ -336,24 +441,40 @@ speed-over = speeds.speed-over
 pub speed-above : (u : Unit) → classSpeed u (speed.Above (lastExact u)) ≡ speed.Above (lastExact u)
 speed-above = speeds.speed-above
 
--- Of any two values in one scale, from one accepted record or from two, the greater never comes back smaller.
+-- Of any two values in one scale, from one accepted record or from two, the greater never comes back smaller: of records r and q, and r′ and q′ that come
+-- back of them.
+pub record OrderKept (r q r′ q′ : Report) : Type 0 where
+  pub numbers : (t : Table) → InOrder NumberOrder number.Missing (numbersOf t r) (numbersOf t q) (numbersOf t r′) (numbersOf t q′)
+  pub temperatures : InOrder TenthsOrder tenths.Missing (temperaturesOf r) (temperaturesOf q) (temperaturesOf r′) (temperaturesOf q′)
+  pub pressures : InOrder NumberOrder number.Missing (pressuresOf r) (pressuresOf q) (pressuresOf r′) (pressuresOf q′)
+  pub speeds : InOrder SpeedOrder noUnitSpeed (speedsOf r) (speedsOf q) (speedsOf r′) (speedsOf q′)
+  pub rains : InOrder RainOrder rain.Trace (rainsOf r) (rainsOf q) (rainsOf r′) (rainsOf q′)
+
+pub order-kept : {r q r′ q′ : Report} → ComesBack r r′ → ComesBack q q′ → OrderKept r q r′ q′
+order-kept {r} {q} a b =
+    record {
+      numbers = λ t. rw (a .numbers t, b .numbers t) (in-order NumberOrder number.Missing (classOn t) refl (class-order t) (numbersOf t r) (numbersOf t q));
+      temperatures = rw (a .temperatures, b .temperatures) (in-order TenthsOrder tenths.Missing classTenths refl temperature-order (temperaturesOf r) (temperaturesOf q));
+      pressures = rw (a .pressures, b .pressures) (in-order NumberOrder number.Missing classPressure refl qnh-order (pressuresOf r) (pressuresOf q));
+      speeds = rw (a .speeds, b .speeds) (in-order SpeedOrder noUnitSpeed classUnitSpeed refl class-speed-order (speedsOf r) (speedsOf q));
+      rains = rw (a .rains, b .rains) (in-order RainOrder rain.Trace roundedRain trace-exact rain-order (rainsOf r) (rainsOf q));
+    }
+
 module _ (r q : Report) (arrays : Arrays r) (arrays′ : Arrays q) (fine : judgeOf r ≡ judged.Fine) (fine′ : judgeOf q ≡ judged.Fine) where
+  orders : OrderKept r q (back r) (back q)
+  orders = order-kept (all-back r arrays fine) (all-back q arrays′ fine′)
+
   pub order : (t : Table) → InOrder NumberOrder number.Missing (numbersOf t r) (numbersOf t q) (numbersOf t (back r)) (numbersOf t (back q))
-  order t = rw (classes-read r arrays fine t, classes-read q arrays′ fine′ t) (in-order NumberOrder number.Missing (classOn t) refl (class-order t) (numbersOf t r) (numbersOf t q))
+  order = orders .numbers
 
   pub temperatures-order : InOrder TenthsOrder tenths.Missing (temperaturesOf r) (temperaturesOf q) (temperaturesOf (back r)) (temperaturesOf (back q))
-  temperatures-order =
-      rw (temperatures-read r arrays fine, temperatures-read q arrays′ fine′)
-      (in-order TenthsOrder tenths.Missing classTenths refl temperature-order (temperaturesOf r) (temperaturesOf q))
+  temperatures-order = orders .temperatures
 
   pub pressures-order : InOrder NumberOrder number.Missing (pressuresOf r) (pressuresOf q) (pressuresOf (back r)) (pressuresOf (back q))
-  pressures-order =
-      rw (pressures-read r arrays fine, pressures-read q arrays′ fine′) (in-order NumberOrder number.Missing classPressure refl qnh-order (pressuresOf r) (pressuresOf q))
+  pressures-order = orders .pressures
 
   pub speeds-order : InOrder SpeedOrder noUnitSpeed (speedsOf r) (speedsOf q) (speedsOf (back r)) (speedsOf (back q))
-  speeds-order =
-      rw (speeds-read r arrays fine, speeds-read q arrays′ fine′) (in-order SpeedOrder noUnitSpeed classUnitSpeed refl class-speed-order (speedsOf r) (speedsOf q))
+  speeds-order = orders .speeds
 
   pub rains-order : InOrder RainOrder rain.Trace (rainsOf r) (rainsOf q) (rainsOf (back r)) (rainsOf (back q))
-  rains-order =
-      rw (rains-read r arrays fine, rains-read q arrays′ fine′) (in-order RainOrder rain.Trace roundedRain trace-exact rain-order (rainsOf r) (rainsOf q))
+  rains-order = orders .rains

@@ -25,6 +25,8 @@ use Rattle.record.specs.declared.values.Number.{Number}
 use Rattle.record.specs.declared.values.Number.the-variants as number
 use Rattle.record.specs.declared.values.Tenths.{Tenths}
 use Rattle.record.specs.declared.values.Tenths.the-variants as tenths
+use Rattle.record.specs.declared.values.Direction.{Direction}
+use Rattle.record.specs.declared.values.Direction.the-variants as direction
 use Rattle.record.specs.declared.values.Speed.{Speed}
 use Rattle.record.specs.declared.values.Speed.the-variants as speed
 use Rattle.record.specs.declared.surface.Sight.{Sight}
@@ -32,6 +34,8 @@ use Rattle.record.specs.declared.surface.Sight.the-variants as sight
 use Rattle.record.specs.declared.surface.Fall.{Fall}
 use Rattle.record.specs.declared.surface.Fall.the-variants as fall
 use Rattle.record.specs.declared.surface.Surface.{Surface}
+use Rattle.record.specs.declared.aerodrome.Extremes.{Extremes}
+use Rattle.record.specs.declared.aerodrome.Extremes.the-variants as extremes
 use Rattle.record.specs.declared.aerodrome.Unit.{Unit}
 use Rattle.record.specs.declared.aerodrome.Unit.the-variants as unit
 use Rattle.record.specs.declared.aerodrome.View.{View}
@@ -55,7 +59,7 @@ use Rattle.record.specs.declared.aerodrome.Taf.{Taf}
 use Rattle.record.specs.Classes as classes
 use Rattle.record.specs.Missing.{noSpeed}
 use Rattle.synop_groups.specs.Classes.{classBase, classSight, classFall}
-use Rattle.elements.specs.Wind.{classSpeed, speedRank}
+use Rattle.elements.specs.Wind.{classSpeed, speedRank, classExtremes}
 use Rattle.elements.specs.Visibility.{classView}
 use Rattle.elements.specs.Sky.{classLayer, classCover, classSky}
 use Rattle.elements.specs.Body.{classBody}
@@ -262,6 +266,33 @@ speedsBy kind.Forecast r = bodiesSpeeds (forecastBodies (r .forecast))
 abbrev pub speedsOf : Report → List UnitSpeed
 speedsOf r = speedsBy (r .kind) r
 
+-- the directions: of a SYNOP or SHIP dd; of METAR, SPECI and TAF that of each body's wind, with the extremes between which an observed one varies. On a circle
+-- none is greater than another, so that no order is claimed of them.
+abbrev pub extremeDirections : Extremes → List Direction
+extremeDirections extremes.Missing = []
+extremeDirections (extremes.Between a b) = direction.Degrees a ∷ direction.Degrees b ∷ []
+
+abbrev pub trendDirection : TrendChange → Direction
+trendDirection c = c .body .wind .direction
+
+abbrev pub observedDirections : Metar → List Direction
+observedDirections r = r .observation .body .wind .direction ∷ extremeDirections (r .observation .variation .is) ++ map trendDirection (r .trend .items)
+
+abbrev pub changeDirection : Change → Direction
+changeDirection c = c .body .wind .direction
+
+abbrev pub forecastDirections : Taf → List Direction
+forecastDirections t = t .leg .body .wind .direction ∷ map changeDirection (t .changes .items)
+
+abbrev pub directionsBy : Kind → Report → List Direction
+directionsBy kind.Missing r = []
+directionsBy kind.Surface r = r .surface .surface .wind .direction ∷ []
+directionsBy kind.Observed r = observedDirections (r .observed)
+directionsBy kind.Forecast r = forecastDirections (r .forecast)
+
+abbrev pub directionsOf : Report → List Direction
+directionsOf r = directionsBy (r .kind) r
+
 abbrev pub amountOf : Fall → List Rain
 amountOf fall.Missing = []
 amountOf (fall.Is a t) = a ∷ []
@@ -389,6 +420,32 @@ each-speed (b ∷ bs) = rw (each-speed bs)
 
 pub bodies-speeds : (bs cs : List Body) → cs ≡ map classBody bs → bodiesSpeeds cs ≡ map classUnitSpeed (bodiesSpeeds bs)
 bodies-speeds bs cs e = ap bodiesSpeeds e ∙ each-speed bs
+
+extremes-is : (x : Extremes) → extremeDirections (classExtremes x) ≡ map classes.classDirection (extremeDirections x)
+extremes-is extremes.Missing = refl
+extremes-is (extremes.Between a b) = refl
+
+-- the direction of a change's wind is read back as its class
+pub trend-direction : (c : TrendChange) → trendDirection (trend.classChange c) ≡ classes.classDirection (trendDirection c)
+unfolding trend.classChange trend-row.row
+trend-direction c = refl
+
+pub change-direction : (c : Change) → changeDirection (classChange c) ≡ classes.classDirection (changeDirection c)
+unfolding classChange row
+change-direction c = refl
+
+pub observed-directions : (r q : Metar) → q .observation .body .wind .direction ≡ classes.classDirection (r .observation .body .wind .direction)
+    → q .observation .variation .is ≡ classExtremes (r .observation .variation .is) → q .trend .items ≡ map trend.classChange (r .trend .items)
+    → observedDirections q ≡ map classes.classDirection (observedDirections r)
+observed-directions r q e f g =
+    rw (e, f, g, extremes-is (r .observation .variation .is), map-square trendDirection trend.classChange classes.classDirection trend-direction (r .trend .items))
+    (ap (λ (l : List Direction). classes.classDirection (r .observation .body .wind .direction) ∷ l)
+    (sym (map-append classes.classDirection (extremeDirections (r .observation .variation .is)) (map trendDirection (r .trend .items)))))
+
+pub forecast-directions : (r q : Taf) → q .leg .body .wind .direction ≡ classes.classDirection (r .leg .body .wind .direction)
+    → q .changes .items ≡ map classChange (r .changes .items) → forecastDirections q ≡ map classes.classDirection (forecastDirections r)
+forecast-directions r q e g =
+    rw (e, g, map-square changeDirection classChange classes.classDirection change-direction (r .changes .items))
 
 pub amount-is : (f : Fall) → amountOf (classFall f) ≡ map roundedRain (amountOf f)
 amount-is fall.Missing = refl

@@ -1,11 +1,12 @@
 -- The round trip of a record of any kind: what is judged fine is one kind's part with the others blank, and what is written of it is read back.
 -- Assumes nothing.
-use Prim.Native.Nat.{ℕ, _+_, _≤_}
+use Prim.Native.Nat.{ℕ, zero, suc, _+_, _≤_}
 use native.Mathlib.Omega.{arith}
-use mathlib.Core.Path.{_≡_, refl}
+use mathlib.Core.Path.{_≡_, refl, sym, ap, _∙_}
 use mathlib.Core.Bool.{Bool, true, false, _&&_}
-use mathlib.Core.List.{List, _∷_, map}
-use lib.ListN.{length}
+use mathlib.Core.List.{List, [], _∷_, _++_, map}
+use lib.ListN.{length, take, drop}
+use borrow.Author.Tests.{le-leb}
 use Rattle.figures.proofs.Impossible.{impossible}
 use Rattle.text.specs.declared.kinds.Judged.the-variants as judged
 use Rattle.text.specs.Judge.{judge}
@@ -16,14 +17,20 @@ use Rattle.shapes.specs.Pattern.{low, high, fits, hasPattern}
 use Rattle.shapes.proofs.Patterns.{both}
 use Rattle.places.specs.Engine.{Group, Done}
 use Rattle.places.proofs.Sizes.{Sizes}
-use Rattle.scales.specs.Rounded.{roundedRain}
+use Rattle.scales.specs.Rounded.{roundedRain, roundedDirection}
+use Rattle.scales.proofs.DirectionLaws.{rounded-below}
+use Rattle.record.specs.declared.values.Direction.{Direction}
+use Rattle.record.specs.declared.values.Direction.the-variants as direction
 use Rattle.record.specs.declared.surface.Synop.{Synop}
+use Rattle.record.specs.declared.aerodrome.Extremes.{Extremes}
 use Rattle.record.specs.declared.aerodrome.Metar.{Metar}
 use Rattle.record.specs.declared.aerodrome.Taf.{Taf}
 use Rattle.record.specs.Blank.{blankSynop}
 use Rattle.record.specs.Trend.{blankMetar}
 use Rattle.record.specs.Taf.{blankTaf}
 use Rattle.aerodrome_groups.specs.Temperatures.{classTenths, classPressure}
+use Rattle.wind.proofs.Promises.{ExtremesNear, no-extremes, between}
+use Rattle.trend.specs.Write as trend
 use Rattle.metar_row.specs.Row as observed-row
 use Rattle.taf_row.specs.Row as forecast-row
 use Rattle.synop.specs.Write as synop
@@ -40,14 +47,17 @@ use Rattle.report_record.specs.declared.kinds.Kind.the-variants as kind
 use Rattle.report_record.specs.declared.kinds.Report.{Report}
 use Rattle.report_record.specs.Record.{surfaceReport, observedReport, forecastReport, accepted}
 use Rattle.record.specs.Arrays.{MetarArrays, TafArrays}
+use Rattle.record.specs.Classes.{classDirection}
 use Rattle.record.specs.SilentSurface.{noSurface, isBlankSynop}
 use Rattle.record.specs.SilentAerodrome.{isBlankBody, noObservation, isBlankObservation, isBlankMetar, isBlankTaf}
+use Rattle.record.proofs.Near.{DirectionNear, degrees, directionFits, direction-near}
+use Rattle.record.proofs.Counted.{EachRead, none, more}
 use Rattle.record.proofs.SurfaceBlanks.{synop-blank}
 use Rattle.record.proofs.AerodromeBlanks.{metar-blank, taf-blank}
 use Rattle.report.specs.Read.{readOf}
 use Rattle.report.specs.Write.{judgeBy, judgeOf, canonicalOf, classedOf}
 use Rattle.report_laws.proofs.ByName.{surfaceWord, observedWord, forecastWord, Named, SurfaceText, ObservedText, ForecastText, read-surface, read-observed, read-forecast}
-use Rattle.report_laws.proofs.Numbers.{Table, classOn, numbersOf, temperaturesOf, pressuresOf, observedBodies, forecastBodies, classUnitSpeed, speedsOf, rainsOf, surface-numbers, observed-bodies, forecast-bodies, observed-numbers, forecast-numbers, bodies-speeds, amount-is}
+use Rattle.report_laws.proofs.Numbers.{Table, classOn, numbersOf, temperaturesOf, pressuresOf, observedBodies, forecastBodies, classUnitSpeed, speedsOf, extremeDirections, trendDirection, changeDirection, directionsOf, rainsOf, surface-numbers, observed-bodies, forecast-bodies, observed-numbers, forecast-numbers, bodies-speeds, trend-direction, change-direction, observed-directions, forecast-directions, amount-is}
 
 -- The record's arrays have the lengths of the code's arrays.
 pub record Arrays (r : Report) : Type 0 where
@@ -203,6 +213,12 @@ speeds-back (observed m arrays e) =
 speeds-back (forecast f arrays e) =
     bodies-speeds (forecastBodies f) (forecastBodies (taf.classedOf f)) (forecast-bodies f (taf.classedOf f) refl (taf-promise.items-classed f arrays e))
 
+pub directions-back : {r : Report} → Fair r → directionsOf (classedOf r) ≡ map classDirection (directionsOf r)
+unfolding classedOf synop.classedOf metar.classedOf metar.classObservation taf.classedOf observed-row.row forecast-row.row
+directions-back (surface s nine e) = refl
+directions-back (observed m arrays e) = observed-directions m (metar.classedOf m) refl refl (metar-promise.items-classed m arrays e)
+directions-back (forecast f arrays e) = forecast-directions f (taf.classedOf f) refl (taf-promise.items-classed f arrays e)
+
 pub temperatures-back : {r : Report} → Fair r → temperaturesOf (classedOf r) ≡ map classTenths (temperaturesOf r)
 unfolding classedOf metar.classedOf metar.classObservation observed-row.row
 temperatures-back (surface s nine e) = refl
@@ -220,3 +236,53 @@ unfolding classedOf synop.classedOf
 rains-back (surface s nine e) = amount-is (s .surface .rainfall .is)
 rains-back (observed m arrays e) = refl
 rains-back (forecast f arrays e) = refl
+
+-- ---- each direction is near the one that is read back
+
+-- one that is its own class is in range
+still-fits : (d : Direction) → classDirection d ≡ d → directionFits d ≡ true
+still-fits direction.Missing e = refl
+still-fits direction.Calm e = refl
+still-fits direction.Variable e = refl
+still-fits (direction.Degrees d) e =
+    let same : roundedDirection d ≡ d = cc in
+    le-leb d 359 (omega (arith, rounded-below d))
+
+-- of each change that counts it is near, and those past the count are as they were
+module _ {A : Type 0} (of : A → Direction) (f : A → A) (class : (x : A) → of (f x) ≡ classDirection (of x)) where
+  still-near : (xs : List A) → map f xs ≡ xs → EachRead DirectionNear (map of xs) (map of (map f xs))
+  still-near [] e = none
+  still-near (x ∷ xs) e =
+      let first : f x ≡ x = cc in
+      let others : map f xs ≡ xs = cc in
+      let near : DirectionNear (of x) (of (f x)) = rw (class x) (direction-near (of x) (still-fits (of x) (sym (class x) ∙ ap of first))) in
+      more near (still-near xs others)
+
+  module _ {R : A → A → Type 0} (near : (x y : A) → R x y → DirectionNear (of x) (of y)) where
+    counted-near : (n : ℕ) (xs : List A) → EachRead R (take n xs) (take n (map f xs)) → drop n (map f xs) ≡ drop n xs → EachRead DirectionNear (map of xs) (map of (map f xs))
+    counted-near zero xs reads past = still-near xs past
+    counted-near (suc n) [] reads past = none
+    counted-near (suc n) (x ∷ xs) (more first others) past = more (near x (f x) first) (counted-near n xs others past)
+
+    items-near : (n : ℕ) (xs ys : List A) → ys ≡ map f xs → EachRead R (take n xs) (take n ys) → drop n ys ≡ drop n xs → EachRead DirectionNear (map of xs) (map of ys)
+    items-near n xs ys is reads past = rw is (counted-near n xs (rw is at reads) (rw is at past))
+
+extremes-near : {x y : Extremes} → ExtremesNear x y → EachRead DirectionNear (extremeDirections x) (extremeDirections y)
+extremes-near no-extremes = none
+extremes-near (between a b) = more (degrees a) (more (degrees b) none)
+
+append-near : {A : Type 0} {R : A → A → Type 0} {xs ys us vs : List A} → EachRead R xs ys → EachRead R us vs → EachRead R (xs ++ us) (ys ++ vs)
+append-near none b = b
+append-near (more x a) b = more x (append-near a b)
+
+pub directions-near : {r : Report} → Fair r → EachRead DirectionNear (directionsOf r) (directionsOf (classedOf r))
+unfolding classedOf
+directions-near (surface s nine e) = more (synop-promise.promise s nine e .1 .surface .direction) none
+directions-near (observed m arrays e) =
+    let p = metar-promise.promise m arrays e .1 in
+    let changes = items-near trendDirection trend.classChange trend-direction (λ c d r. r .body .wind .direction) (m .trend .count) (m .trend .items) (metar.classedOf m .trend .items) (metar-promise.items-classed m arrays e) (p .changes) (p .past) in
+    more (p .observation .body .wind .direction) (append-near (extremes-near (p .observation .variation)) changes)
+directions-near (forecast f arrays e) =
+    let p = taf-promise.promise f arrays e .1 in
+    let changes = items-near changeDirection taf.classChange change-direction (λ c d r. r .body .wind .direction) (f .changes .count) (f .changes .items) (taf.classedOf f .changes .items) (taf-promise.items-classed f arrays e) (p .changes) (p .past) in
+    more (p .body .wind .direction) changes

@@ -1,0 +1,2 @@
+-- What the proof of the round trip shares.
+pub mod Backs
