@@ -6,6 +6,8 @@ use mathlib.Core.Path.{_≡_, refl}
 use mathlib.Core.List.{List, [], _∷_, map}
 use lib.IntN.{ℤ}
 use Rattle.scales.specs.Metres.{runway}
+use Rattle.scales.specs.Degrees.{roundedDegrees}
+use Rattle.scales.specs.Rounded.{roundedPressure}
 use Rattle.scales.proofs.MetresLaws.{runway-laws}
 use Rattle.scales.proofs.DegreesLaws.{DegreesNear, degrees-near}
 use Rattle.scales.proofs.PressureLaws.{PressureNear, pressure-near}
@@ -21,29 +23,29 @@ use Rattle.record.proofs.Near.{NumberDown, number-down}
 use Rattle.aerodrome_groups.specs.Runway.{classRange, classRunway, classRunways}
 use Rattle.aerodrome_groups.specs.Temperatures.{classTenths, classTemperatures, classPressure, classQnh}
 
--- ---- how far off
+-- ---- which number comes back, and how far off
 
 -- a runway range and its reading
 pub range-kept : (x : Number) → NumberDown runway x (classRange x)
 range-kept = number-down runway-laws
 
--- a temperature and its reading
+-- a temperature and its reading, which is that of its class
 pub data TenthsKept : Tenths → Tenths → Type 0 where
   no-tenths : TenthsKept tenths.Missing tenths.Missing
-  near-tenths : {t u : ℤ} → DegreesNear t u → TenthsKept (tenths.Is t) (tenths.Is u)
+  near-tenths : {t u : ℤ} → u ≡ roundedDegrees t → DegreesNear t u → TenthsKept (tenths.Is t) (tenths.Is u)
 
 pub tenths-kept : (x : Tenths) → TenthsKept x (classTenths x)
 tenths-kept tenths.Missing = no-tenths
-tenths-kept (tenths.Is t) = near-tenths (degrees-near t)
+tenths-kept (tenths.Is t) = near-tenths refl (degrees-near t)
 
--- Q and its reading
+-- Q and its reading, which is that of its class
 pub data PressureKept : Number → Number → Type 0 where
   no-pressure : PressureKept number.Missing number.Missing
-  near-pressure : {p q : ℕ} → PressureNear p q → PressureKept (number.Is p) (number.Is q)
+  near-pressure : {p q : ℕ} → q ≡ roundedPressure p → PressureNear p q → PressureKept (number.Is p) (number.Is q)
 
 pub pressure-kept : (x : Number) → PressureKept x (classPressure x)
 pressure-kept number.Missing = no-pressure
-pressure-kept (number.Is p) = near-pressure (pressure-near p)
+pressure-kept (number.Is p) = near-pressure refl (pressure-near p)
 
 -- ---- the parts of a record that are read back
 

@@ -1,5 +1,5 @@
--- How far off a rounded value of the record is read back, for every kind of report: a number on a scale that rounds down is not above its value and
--- within its class; a direction is near on the circle.
+-- How a rounded value of the record is read back, for every kind of report: as the reading of its class, a number on a scale that rounds down not above its
+-- value and within its class, a direction near on the circle.
 -- Assumes nothing.
 use Prim.Native.Nat.{ℕ, _+_, _-_, _%_, _≤_, _<_}
 use mathlib.Core.Path.{_≡_, refl}

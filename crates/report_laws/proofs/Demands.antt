@@ -300,7 +300,7 @@ back r = readOf (canonicalOf r) .report
 -- All that the demand says of a record q that comes back of a record r. (How far off a number is follows from its class: `how-far` and those after it; the
 -- order of two, from two records that come back: `order-kept`.)
 pub record ComesBack (r q : Report) : Type 0 where
-  -- field by field: all that the code carries exactly is equal, what is rounded is near (`RecordRead` of each kind)
+  -- field by field: all that the code carries exactly is equal, what is rounded is the reading of its class, and near (`RecordRead` of each kind)
   pub fields : Kept r q
   -- each rounded number is the reading of its own class
   pub numbers : (t : Table) → numbersOf t q ≡ map (classOn t) (numbersOf t r)
@@ -327,8 +327,8 @@ module _ (r : Report) (arrays : Arrays r) (fine : judgeOf r ≡ judged.Fine) whe
   unfolding restOf restPlace
   accepted-whole = (rw whole, rw (whole, part-nothing (canonicalOf r) (length (canonicalOf r))))
 
-  -- field by field: all that the code carries exactly is equal, what is rounded is near, and an aerodrome's wind speed over its unit's
-  -- figure is "above" it (`RecordRead` of each kind)
+  -- field by field: all that the code carries exactly is equal, what is rounded is the reading of its class, of an open one too, and near, and an aerodrome's
+  -- wind speed over its unit's figure is "above" it (`RecordRead` of each kind)
   pub fields-kept : Kept r (back r)
   fields-kept = subst (Kept r) (sym back-is) (kept (fair r arrays fine))
 

@@ -37,7 +37,7 @@ use Rattle.synop.specs.Write.{judgeOf, canonicalOf, classedOf}
 use Rattle.synop_laws.proofs.Canonical.{wind-fits, read-canonical}
 use Rattle.synop_laws.proofs.Sections.{classedSurface}
 
--- ---- how far off
+-- ---- which number comes back, and how far off
 
 -- h and its reading
 pub base-read : (b : Number) → NumberDown base b (classBase b)
@@ -54,14 +54,18 @@ sight-read sight.Missing = no-sight
 sight-read (sight.Land m) = land-metres (down eqb land land-laws m)
 sight-read (sight.Sea m) = sea-metres (down eqb sea sea-laws m)
 
--- an amount of rain and its reading
-pub rain-read : (r : Rain) → RainNear r (roundedRain r)
-rain-read = rain-kept
+-- an amount of rain and its reading, which is that of its class
+pub record RainRead (r q : Rain) : Type 0 where
+  pub class : q ≡ roundedRain r
+  pub near : RainNear r q
+
+pub rain-read : (r : Rain) → RainRead r (roundedRain r)
+rain-read r = record { class = refl; near = rain-kept r }
 
 -- RRRt and its reading: the period is exact
 pub data FallRead : Fall → Fall → Type 0 where
   no-fall : FallRead fall.Missing fall.Missing
-  fell : {r q : Rain} {t : Number} → RainNear r q → FallRead (fall.Is r t) (fall.Is q t)
+  fell : {r q : Rain} {t : Number} → RainRead r q → FallRead (fall.Is r t) (fall.Is q t)
 
 pub fall-read : (f : Fall) → FallRead f (classFall f)
 fall-read fall.Missing = no-fall
