@@ -42,7 +42,7 @@ use Rattle.body.specs.Said.{unlessRefused, isOfBody, Says as BodySays}
 use Rattle.body.proofs.Variants.{each, by-tag, never}
 use Rattle.body.proofs.Says.{value-says, body-says, past-says}
 use Rattle.metar_row.specs.Row.{isName, observed, row, words}
-use Rattle.metar.specs.Said.{ontoBody, reportSaid, Seen, Says}
+use Rattle.metar.specs.Said.{ontoBody, reportSaid, DependsOn, Says}
 use Rattle.trend.specs.declared.kinds.Next.{Next}
 use Rattle.trend.specs.Step.{afterPart, MetWord}
 use Rattle.metar.specs.Read.{mainPart, groupsRead, behindName}
@@ -76,7 +76,7 @@ set-back (Bad n) f set = refl
 -- in a record that has the body that was seen and as many runway states, AUTO or not
 module _ (k : ℕ) (g : Group) (automatic : Bool) (b : Body) (states : ℕ) where
   abbrev seen : Observation → Type 0
-  seen = Seen automatic b states
+  seen = DependsOn automatic b states
 
   -- what is of the body, by its place there
   pub says-body : (i j : ℕ) {x : Said} → BodySays false false automatic j k g b x

@@ -49,9 +49,9 @@ reportSaid k g (said.Refused f) r = ontoBody k (said.Refused f) r
 reportSaid k g (said.Times x) r = ontoBody k (said.Times x) r
 
 -- What of a record a reading depends on: AUTO or not, the body, and how many runway states stand.
-abbrev pub Seen : Bool → Body → ℕ → Observation → Type 0
-Seen automatic b states r = (r .automatic ≡ automatic) × (r .body ≡ b) × (r .states .count ≡ states)
+abbrev pub DependsOn : Bool → Body → ℕ → Observation → Type 0
+DependsOn automatic b states r = (r .automatic ≡ automatic) × (r .body ≡ b) × (r .states .count ≡ states)
 
 -- A group at place i says this: put into any such record, it is what the place reads.
 abbrev pub Says : ℕ → ℕ → Group → Bool → Body → ℕ → Said → Type 0
-Says i k g automatic b states x = SaysAt row reportSaid (Seen automatic b states) i k g x
+Says i k g automatic b states x = SaysAt row reportSaid (DependsOn automatic b states) i k g x

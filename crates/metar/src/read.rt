@@ -1,6 +1,7 @@
 // Reading a METAR or SPECI: one group after the other, from behind its name on.
 use crate::answer;
 use crate::kinds::Reading;
+use crate::kinds::Standing;
 use crate::step::decide;
 use crate::step::say_at;
 use aerodrome_groups::read::add_runway;
@@ -38,7 +39,7 @@ ghost use Rattle.record.specs.declared.aerodrome.Observation.{Observation};
 ghost use Rattle.body.specs.Met.{Meets};
 ghost use Rattle.metar_row.specs.Row.{row, words};
 ghost use Rattle.places.specs.Answer.{outcomeOf, endVerdict};
-ghost use Rattle.metar.specs.Said.{Seen, reportSaid};
+ghost use Rattle.metar.specs.Said.{DependsOn, reportSaid};
 ghost use Rattle.trend.specs.Step.{afterPart};
 ghost use Rattle.trend.specs.declared.kinds.Next.the-variants as next;
 ghost use Rattle.metar.specs.Step.{alone, wordAt};
@@ -69,27 +70,27 @@ fn answer_alone(verdict: Verdict, observation: Observation) -> Reading
 }
 
 // A required group is absent from the observation.
-fn owes(place: usize, count: usize) -> bool
-    ensures { λ r. ⌜ ((o : Observation) → r ≡ owes mainPart place count o) ⌝ }
+fn owes(here: Standing) -> bool
+    ensures { λ r. ⌜ ((o : Observation) → r ≡ owes mainPart (here .place) (here .count) o) ⌝ }
 {
     let must = musts();
-    places::is_owed(&must, place, count)
+    places::is_owed(&must, here.place, here.count)
 }
 
 // What follows the observation where the groups are over.
-fn after_groups(text: &[u8], place: usize, count: usize) -> Next
-    ensures { λ r. ⌜ ((o : Observation) → r ≡ next.End (endVerdict (tailOf (now (text .entry))) (length (now (text .entry))) (owes mainPart place count o))) ⌝ }
+fn after_groups(text: &[u8], here: Standing) -> Next
+    ensures { λ r. ⌜ ((o : Observation) → r ≡ next.End (endVerdict (tailOf (now (text .entry))) (length (now (text .entry))) (owes mainPart (here .place) (here .count) o))) ⌝ }
 {
-    let verdict = end_verdict(text, owes(place, count));
+    let verdict = end_verdict(text, owes(here));
     Next::End(verdict)
 }
 
 // What follows it at a word from start up to end.
-fn after_word(text: &[u8], start: usize, end: usize, place: usize, count: usize) -> Next
-    ensures { λ r. ⌜ ((o : Observation) → wordAt (now (text .entry)) start end place count o ≡ afterPart (now (text .entry)) 0 (alone o) r) ⌝ }
+fn after_word(text: &[u8], start: usize, end: usize, here: Standing) -> Next
+    ensures { λ r. ⌜ ((o : Observation) → wordAt (now (text .entry)) start end (here .place) (here .count) o ≡ afterPart (now (text .entry)) 0 (alone o) r) ⌝ }
 {
     let g = part(text, start, end);
-    meet_word(g, start, end, 0, false, owes(place, count))
+    meet_word(g, start, end, 0, false, owes(here))
 }
 
 // The report, by what follows its observation: the end, or the trend.
@@ -108,33 +109,28 @@ fn conclude(text: &[u8], next: Next, observation: Observation) -> Reading
 }
 
 // The next group of the text: where it goes in the row, and what it says there. Of the record it sees what a reading depends on.
-fn meet(
-    text: &[u8],
-    from: usize,
-    place: usize,
-    count: usize,
-    automatic: bool,
-    body: Body,
-    states: usize,
-) -> Met
-    ensures { λ m. ⌜ Meets row (hasAny words) reportSaid place count (Seen automatic body states) (now (text .entry)) from m ⌝ }
+fn meet(text: &[u8], here: Standing, automatic: bool, body: Body, states: usize) -> Met
+    ensures { λ m. ⌜ Meets row (hasAny words) reportSaid (here .place) (here .count) (DependsOn automatic body states) (now (text .entry)) (here .from) m ⌝ }
 {
-    let Cut::Group { start, end } = text::next_group(text, from) else {
+    let Cut::Group { start, end } = text::next_group(text, here.from) else {
         return Met::Over;
     };
     let g = part(text, start, end);
-    let turn = decide(place, count, g);
+    let turn = decide(here.place, here.count, g);
     match turn {
         Turn::Halt => Met::Halt { start, end },
         Turn::Refused(refusal) => Met::Refused { refusal, start },
-        Turn::At {
-            place: there,
-            count: standing,
-        } => {
-            let said = say_at(there, standing, g, automatic, body, states);
-            meet_said(said, there, standing, start, end)
+        Turn::At { place, count } => {
+            let said = say_at(place, count, g, automatic, body, states);
+            meet_said(said, place, count, start, end)
         }
     }
+}
+
+fn stand_at(place: usize, count: usize, from: usize) -> Standing
+    ensures { λ r. ⌜ r ≡ record { place = place; count = count; from = from } ⌝ }
+{
+    Standing { place, count, from }
 }
 
 // What the groups come to, from a position behind METAR or SPECI on, which has stood at the row's first place. The record is the loop's own: what each
@@ -144,31 +140,20 @@ pub fn read_from(text: &[u8], at: usize, special: bool) -> Reading
 {
     let mut report = blank_observation();
     report.special = special;
-    let mut place = 0;
-    let mut count = 1;
-    let mut from = at;
+    let mut here = stand_at(0, 1, at);
     loop {
-        let met = meet(
-            text,
-            from,
-            place,
-            count,
-            report.automatic,
-            report.body,
-            report.states.count,
-        );
+        let states = report.states.count;
+        let met = meet(text, here, report.automatic, report.body, states);
         match met {
-            Met::Over => return conclude(text, after_groups(text, place, count), report),
+            Met::Over => return conclude(text, after_groups(text, here), report),
             Met::Halt { start, end } => {
-                let next = after_word(text, start, end, place, count);
+                let next = after_word(text, start, end, here);
                 return conclude(text, next, report);
             }
             Met::Refused { refusal, start } => return answer::refuse(refusal, start),
             Met::Says(next) => {
                 let said = next.said;
-                place = go_past(next.place);
-                count = next.count + 1;
-                from = next.end;
+                here = stand_at(go_past(next.place), next.count + 1, next.end);
                 match said {
                     Said::Special(x) => report.special = x,
                     Said::Corrected => report.corrected = true,

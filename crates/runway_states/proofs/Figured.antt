@@ -16,7 +16,7 @@ use Rattle.record.specs.Missing.{optional}
 use Rattle.aerodrome_groups.specs.Head.{fieldOf}
 use Rattle.runway_states.specs.declared.tables.Table.{Table}
 use Rattle.runway_states.specs.Tables.{Entry, Only, UpTo, From, lists, has, tableOf, holds}
-use Rattle.runway_states.specs.State.{numberOf}
+use Rattle.runway_states.specs.State.{numberIn}
 
 -- ---- how great a figure may be
 
@@ -52,7 +52,7 @@ pub holds-field : (t : Table) (n : Number) → optional (has (tableOf t)) n ≡ 
 holds-field t number.Missing h = refl
 holds-field t (number.Is n) h = h
 
-pub number-back : (n : Number) → numberOf (fieldOf n) ≡ n
+pub number-back : (n : Number) → numberIn (fieldOf n) ≡ n
 number-back number.Missing = refl
 number-back (number.Is n) = refl
 

@@ -51,11 +51,11 @@ snocloShape = bytes "SNOCLO"
 -- ---- reading
 
 -- a field that holds figures of its table or is missing, as a number
-abbrev pub numberOf : Field → Number
-numberOf (field.Number n) = number.Is n
-numberOf field.Missing = number.Missing
-numberOf field.Mixed = number.Missing
-numberOf field.Other = number.Missing
+abbrev pub numberIn : Field → Number
+numberIn (field.Number n) = number.Is n
+numberIn field.Missing = number.Missing
+numberIn field.Mixed = number.Missing
+numberIn field.Other = number.Missing
 
 -- "Depth is read in mm ..; 99 closed"
 abbrev pub depthBy : ℕ → Read Depth
@@ -69,7 +69,7 @@ abbrev pub areListed : Field → Field → Field → Bool
 areListed d e b = holds table.Deposits true d && holds table.Extents true e && holds table.Brakings true b
 
 abbrev pub readCovered : Field → Field → Field → Field → Read Condition
-readCovered d e h b = provided (areListed d e b) (then (readDepth h) (λ x. Good (condition.Covered (numberOf d) (numberOf e) x (numberOf b))))
+readCovered d e h b = provided (areListed d e b) (then (readDepth h) (λ x. Good (condition.Covered (numberIn d) (numberIn e) x (numberIn b))))
 
 abbrev pub readCondition : Group → Read Condition
 readCondition g =
@@ -78,7 +78,7 @@ readCondition g =
 unfoldable pub readState : Group → Read RunwayState
 readState g =
     provided (holds table.Runways false (fieldAt g 0 2))
-    (then (readCondition g) (λ c. Good (record { runway = numberOf (fieldAt g 0 2); condition = c })))
+    (then (readCondition g) (λ c. Good (record { runway = numberIn (fieldAt g 0 2); condition = c })))
 
 -- one more where k stand; past the fourth there is no room
 abbrev pub withState : ℕ → RunwayStates → RunwayState → RunwayStates

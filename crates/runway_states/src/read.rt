@@ -21,7 +21,7 @@ ghost use Rattle.elements.specs.declared.kinds.Said.the-variants as said;
 ghost use Rattle.elements.specs.Answers.{asState};
 ghost use Rattle.elements.specs.Parts.{disagrees, then};
 ghost use Rattle.runway_states.specs.Answers.{asDepth, asRead};
-ghost use Rattle.runway_states.specs.State.{stateShapes, numberOf, depthBy, readDepth, areListed, readState, withState, withSnoclo};
+ghost use Rattle.runway_states.specs.State.{stateShapes, numberIn, depthBy, readDepth, areListed, readState, withState, withSnoclo};
 
 pub fn has_state(g: &[u8]) -> bool
     ensures { λ r. ⌜ r ≡ hasAny stateShapes (now (g .entry)) ⌝ }
@@ -31,8 +31,8 @@ pub fn has_state(g: &[u8]) -> bool
     figures | cleared
 }
 
-fn number_of(f: Field) -> Number
-    ensures { λ r. ⌜ r ≡ numberOf f ⌝ }
+fn number_in(f: Field) -> Number
+    ensures { λ r. ⌜ r ≡ numberIn f ⌝ }
 {
     match f {
         Field::Number(n) => Number::Is(n),
@@ -93,7 +93,7 @@ fn state_of(g: &[u8]) -> StateRead
     let runways = Table::Runways;
     let runway = field(g, 0, 2);
     if runways.holds(runway, false) {
-        let runway = number_of(runway);
+        let runway = number_in(runway);
         if has_pattern(g, b"##CLRD//") {
             let condition = Condition::Cleared;
             return StateRead::Good(RunwayState { runway, condition });
@@ -107,10 +107,10 @@ fn state_of(g: &[u8]) -> StateRead
             match read {
                 DepthRead::Good(depth) => {
                     let condition = Condition::Covered {
-                        deposit: number_of(deposit),
-                        extent: number_of(extent),
+                        deposit: number_in(deposit),
+                        extent: number_in(extent),
                         depth,
-                        braking: number_of(braking),
+                        braking: number_in(braking),
                     };
                     StateRead::Good(RunwayState { runway, condition })
                 }

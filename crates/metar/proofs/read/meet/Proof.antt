@@ -6,7 +6,7 @@ use Rattle.text.proofs.Groups.{Follows, when-group, when-end}
 use Rattle.shapes.specs.Pattern.{hasAny}
 use Rattle.record.specs.declared.aerodrome.Observation.{Observation}
 use Rattle.metar_row.specs.Row.{row, words}
-use Rattle.metar.specs.Said.{Seen, reportSaid}
+use Rattle.metar.specs.Said.{DependsOn, reportSaid}
 use Rattle.body.proofs.Meets.{meets-halt, meets-fault, meets-said}
 use Rattle.metar.proofs.Steps.{row-few}
 use Rattle.metar.proofs.read.meet.Statement.{statement}
@@ -14,11 +14,11 @@ use Rattle.metar.proofs.read.meet.Tie as tie
 
 -- past the next group's cut, in a record that is as the loop sees it
 module _ (c : tie.After-known-told) where
-  follows : Follows (c .before .before .before .before .before .args .text .now) (c .before .before .before .before .before .args .from) (c .before .start .given .0 .0) (c .before .start .given .0 .1 .0)
+  follows : Follows (c .before .before .before .before .before .args .text .now) (c .before .before .before .before .before .args .here .from) (c .before .start .given .0 .0) (c .before .start .given .0 .1 .0)
   follows = when-group _ _ _ _ (sym (c .before .start .given .1) ∙ c .before .before .before .next-group .ensures)
 
   abbrev seen : Observation → Type 0
-  seen = let a = c .before .before .before .before .before .args in Seen (a .automatic) (a .body) (a .states)
+  seen = let a = c .before .before .before .before .before .args in DependsOn (a .automatic) (a .body) (a .states)
 
 pub meet-spec : {M : Type 1} → statement M
 meet-spec =

@@ -33,43 +33,43 @@ abbrev whole : Unit {0} → Part Metar TrendChange Word Observation
 whole u = mainPart
 
 abbrev Inv : tie.InvT-loop
-Inv text at special report₀ place₀ count₀ from₀ report place count from =
-    Reached parts text whole row (hasAny words) 3 1 (setSpecial special blankObservation) at place count report from
+Inv text at special report₀ here₀ report here =
+    Reached parts text whole row (hasAny words) 3 1 (setSpecial special blankObservation) at (here .place) (here .count) report (here .from)
 
 abbrev μ : tie.MeasureT-loop
-μ text at special report₀ place₀ count₀ from₀ report place count from = length text - from
+μ text at special report₀ here₀ report here = length text - here .from
 
--- where a group is taken, before what it says is stored
+-- a group is taken: it lies ahead
 module _ (c : tie.After-struct-known Inv μ) where
   abbrev text : List ℕ
-  text = c .before .before .before .before .before .before .before .before .before .args .text .now
+  text = c .before .before .before .before .before .before .before .before .before .before .args .text .now
 
   abbrev next : Saying
   next = c .before .before .before .met3 .given .0 .0
 
-  abbrev report : Observation
-  report = c .before .before .before .before .before .before .loop .report
-
-  ahead : (c .before .before .before .before .before .before .loop .from < next .end) × (next .end ≤ length text) × (next .count < 4)
+  ahead : (c .before .before .before .before .before .before .loop .here .from < next .end) × (next .end ≤ length text) × (next .count < 4)
   ahead = group-ahead (c .before .before .before .before .before .before .loop .inv) reportSaid _ (c .before .before .before .before .before .meet .ensures) (refl, refl, refl) (c .before .before .before .met3 .given .1)
 
-  less : length text - next .end < length text - c .before .before .before .before .before .before .loop .from
-  less = omega (arith, ahead)
+-- and reading stands behind it, before what it says is stored
+module _ (c : tie.After-stand-at2 Inv μ) where
+  less : length (text (c .before)) - c .stand-at2 .result .from < length (text (c .before)) - c .before .before .before .before .before .before .before .loop .here .from
+  less = rw (c .stand-at2 .ensures) (omega (arith, ahead (c .before)))
 
   -- reading goes on with the record that has what the group says
-  again : {y : Said} {a : Observation} → next .said ≡ y → a ≡ reportSaid (next .count) (partOf text (next .start) (next .end)) y report
-      → Reached parts text whole row (hasAny words) 3 1 (setSpecial (c .before .before .before .before .before .before .before .before .before .args .special) blankObservation) (c .before .before .before .before .before .before .before .before .before .args .at) (c .before .go-past .result) (next .count + 1) a (next .end)
-  again tells put = reads-on (c .before .before .before .before .before .before .loop .inv) reportSaid _ (c .before .before .before .before .before .meet .ensures) (refl, refl, refl) (c .before .before .before .met3 .given .1) (c .before .go-past .ensures) tells put
+  again : {y : Said} {a : Observation} → next (c .before) .said ≡ y
+      → a ≡ reportSaid (next (c .before) .count) (partOf (text (c .before)) (next (c .before) .start) (next (c .before) .end)) y (c .before .before .before .before .before .before .before .loop .report)
+      → Reached parts (text (c .before)) whole row (hasAny words) 3 1 (setSpecial (c .before .before .before .before .before .before .before .before .before .before .before .args .special) blankObservation) (c .before .before .before .before .before .before .before .before .before .before .before .args .at) (c .stand-at2 .result .place) (c .stand-at2 .result .count) a (c .stand-at2 .result .from)
+  again tells put = rw (c .stand-at2 .ensures) (reads-on (c .before .before .before .before .before .before .before .loop .inv) reportSaid _ (c .before .before .before .before .before .before .meet .ensures) (refl, refl, refl) (c .before .before .before .before .met3 .given .1) (c .before .before .go-past .ensures) tells put)
 
 pub read-from-spec : {M : Type 1} → statement M
 read-from-spec =
     tie.close
     (tie.spec Inv μ
-    (λ c κs. search needs)
-    (λ c. let a = c .before .before .args in rw (c .blank-observation .ensures) (starts parts (a .text .now) whole 3 1 _ (a .at) (λ u. (refl, refl))))
+    (λ c κs. search needs) (λ c κs. search needs)
+    (λ c. let a = c .before .before .before .args in rw (c .stand-at .ensures, c .before .blank-observation .ensures) (starts parts (a .text .now) whole 3 1 _ (a .at) (λ u. (refl, refl))))
     (λ c κs. search needs) (λ c. search needs) (λ c κs. search needs) (λ c κs. search needs)
     (λ c.
-    let a = c .before .before .before .before .before .before .before .before .args in
+    let a = c .before .before .before .before .before .before .before .before .before .args in
     let o = c .before .before .before .before .before .loop .report in
     unfold behindName within comes in
     c .conclude .ensures
@@ -85,7 +85,7 @@ read-from-spec =
     unfold behindName within comes in
     c .refuse .ensures ∙ ap answer (sym (reads-fault (c .before .before .before .before .before .loop .inv) reportSaid _ (c .before .before .before .before .meet .ensures) (refl, refl, refl) (c .before .before .met2 .given .1) tt)))
     (λ c. search needs) (λ c κs. search needs)
-    (λ c. omega (arith, ahead c))
+    (λ c. omega (arith, ahead c)) (λ c κs. search needs)
     (λ c. search needs) (λ c. less (c .before .before .before)) (λ c. again (c .before .before .before) (c .before .said .given .1) (unfold reportSaid in refl))
     (λ c. search needs) (λ c. less (c .before .before)) (λ c. again (c .before .before) (c .enum-told2 .given .1) (unfold reportSaid in refl))
     (λ c. search needs) (λ c κs. search needs) (λ c κs. search needs) (λ c. less (c .before .before .before .before)) (λ c. again (c .before .before .before .before) (c .before .before .enum-told3 .given .1) (unfold reportSaid in rw (c .station-of .ensures, c .before .part .ensures)))

@@ -13,9 +13,9 @@ state-of-spec =
     tie.close
     (tie.spec
     (λ c κs. search needs) (λ c κs. tt) (λ c κs. tt) (λ c. search needs) (λ c κs. search needs)
-    (λ c. rw (← c .before .before .before .before .before .before .field .ensures, ← c .before .before .before .before .before .holds .ensures, c .before .before .before .before .if1 .taken, ← c .before .has-pattern .ensures, c .if2 .taken, c .before .before .before .number-of .ensures))
+    (λ c. rw (← c .before .before .before .before .before .before .field .ensures, ← c .before .before .before .before .before .holds .ensures, c .before .before .before .before .if1 .taken, ← c .before .has-pattern .ensures, c .if2 .taken, c .before .before .before .number-in .ensures))
     (λ c κs. search needs) (λ c κs. search needs) (λ c κs. search needs) (λ c κs. search needs) (λ c κs. tt) (λ c κs. search needs) (λ c. search needs) (λ c κs. tt) (λ c κs. tt) (λ c κs. tt) (λ c. search needs)
-    (λ c. rw (← c .before .before .before .before .before .before .before .before .before .before .before .before .before .before .before .before .before .before .before .field .ensures, ← c .before .before .before .before .before .before .before .before .before .before .before .before .before .before .before .before .before .before .holds .ensures, c .before .before .before .before .before .before .before .before .before .before .before .before .before .before .before .before .before .if1 .taken, ← c .before .before .before .before .before .before .before .before .before .before .before .before .before .before .has-pattern .ensures, c .before .before .before .before .before .before .before .before .before .before .before .before .before .if2 .left, ← c .before .before .before .before .before .before .before .before .before .before .before .before .field2 .ensures, ← c .before .before .before .before .before .before .before .before .before .before .before .field3 .ensures, ← c .before .before .before .before .before .before .before .before .before .before .field4 .ensures, ← c .before .before .before .before .before .before .before .before .before .field5 .ensures, ← c .before .before .before .before .before .before .before .before .are-listed .ensures, c .before .before .before .before .before .before .before .if3 .taken, depth-is (readDepth (c .before .before .before .before .before .before .before .before .before .before .field4 .result)) (sym (c .before .before .before .before .read .given .1) ∙ c .before .before .before .before .before .before .read-depth .ensures), c .number-of4 .ensures, c .before .number-of3 .ensures, c .before .before .number-of2 .ensures, c .before .before .before .before .before .before .before .before .before .before .before .before .before .before .before .before .number-of .ensures))
+    (λ c. rw (← c .before .before .before .before .before .before .before .before .before .before .before .before .before .before .before .before .before .before .before .field .ensures, ← c .before .before .before .before .before .before .before .before .before .before .before .before .before .before .before .before .before .before .holds .ensures, c .before .before .before .before .before .before .before .before .before .before .before .before .before .before .before .before .before .if1 .taken, ← c .before .before .before .before .before .before .before .before .before .before .before .before .before .before .has-pattern .ensures, c .before .before .before .before .before .before .before .before .before .before .before .before .before .if2 .left, ← c .before .before .before .before .before .before .before .before .before .before .before .before .field2 .ensures, ← c .before .before .before .before .before .before .before .before .before .before .before .field3 .ensures, ← c .before .before .before .before .before .before .before .before .before .before .field4 .ensures, ← c .before .before .before .before .before .before .before .before .before .field5 .ensures, ← c .before .before .before .before .before .before .before .before .are-listed .ensures, c .before .before .before .before .before .before .before .if3 .taken, depth-is (readDepth (c .before .before .before .before .before .before .before .before .before .before .field4 .result)) (sym (c .before .before .before .before .read .given .1) ∙ c .before .before .before .before .before .before .read-depth .ensures), c .number-in4 .ensures, c .before .number-in3 .ensures, c .before .before .number-in2 .ensures, c .before .before .before .before .before .before .before .before .before .before .before .before .before .before .before .before .number-in .ensures))
     (λ c. rw (← c .before .before .before .before .before .before .before .before .before .before .before .before .before .before .before .before .field .ensures, ← c .before .before .before .before .before .before .before .before .before .before .before .before .before .before .before .holds .ensures, c .before .before .before .before .before .before .before .before .before .before .before .before .before .before .if1 .taken, ← c .before .before .before .before .before .before .before .before .before .before .before .has-pattern .ensures, c .before .before .before .before .before .before .before .before .before .before .if2 .left, ← c .before .before .before .before .before .before .before .before .before .field2 .ensures, ← c .before .before .before .before .before .before .before .before .field3 .ensures, ← c .before .before .before .before .before .before .before .field4 .ensures, ← c .before .before .before .before .before .before .field5 .ensures, ← c .before .before .before .before .before .are-listed .ensures, c .before .before .before .before .if3 .taken, depth-is (readDepth (c .before .before .before .before .before .before .before .field4 .result)) (sym (c .before .read2 .given .1) ∙ c .before .before .before .read-depth .ensures)))
     (λ c. rw (← c .before .before .before .before .before .before .before .before .before .before .before .before .field .ensures, ← c .before .before .before .before .before .before .before .before .before .before .before .holds .ensures, c .before .before .before .before .before .before .before .before .before .before .if1 .taken, ← c .before .before .before .before .before .before .before .has-pattern .ensures, c .before .before .before .before .before .before .if2 .left, ← c .before .before .before .before .before .field2 .ensures, ← c .before .before .before .before .field3 .ensures, ← c .before .before .before .field4 .ensures, ← c .before .before .field5 .ensures, ← c .before .are-listed .ensures, c .if3 .left))
     (λ c. rw (← c .before .before .field .ensures, ← c .before .holds .ensures, c .if1 .left)))

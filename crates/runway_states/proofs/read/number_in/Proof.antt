@@ -1,11 +1,11 @@
--- `runway_states::read::number_of` meets its contract, case by case.
+-- `runway_states::read::number_in` meets its contract, case by case.
 -- Assumes nothing.
 use borrow.Author.Needs.{needs}
-use Rattle.runway_states.proofs.read.number_of.Statement.{statement}
-use Rattle.runway_states.proofs.read.number_of.Tie as tie
+use Rattle.runway_states.proofs.read.number_in.Statement.{statement}
+use Rattle.runway_states.proofs.read.number_in.Tie as tie
 
-pub number-of-spec : {M : Type 1} → statement M
-number-of-spec =
+pub number-in-spec : {M : Type 1} → statement M
+number-in-spec =
     tie.close
     (tie.spec
     (λ c. search needs) (λ c. search needs) (λ c. search needs) (λ c. search needs)
