@@ -153,6 +153,14 @@ pub struct Observation {
     pub trend: Trend,
 }
 
+/// The edition of the TAF code form: "chosen by the caller (the present one if none is named)".
+#[derive(Debug, Clone, Copy, Default, PartialEq)]
+pub enum Edition {
+    #[default]
+    Present,
+    Of2005,
+}
+
 /// TAF.
 #[derive(Debug, Clone, Default, PartialEq)]
 pub struct Forecast {
@@ -176,12 +184,13 @@ pub struct Time {
     pub minute: u32,
 }
 
-/// YYGG/YYGG.
+/// YYGG/YYGG; of 2005 Y1Y1G1G1G2G2 or GGGeGe, with one day or none. "In a record G2 is kept as
+/// written, so 62 is 62" (ruling 9.5).
 #[derive(Debug, Clone, Copy, Default, PartialEq)]
 pub struct Period {
-    pub from_day: u32,
+    pub from_day: Option<u32>,
     pub from_hour: u32,
-    pub to_day: u32,
+    pub to_day: Option<u32>,
     pub to_hour: u32,
 }
 
@@ -317,7 +326,8 @@ pub enum Opening {
         temporary: bool,
         period: Period,
     },
-    From(Time),
+    /// FMYYGGgg, or FMGGgg without a day.
+    From(Option<u32>, Clock),
 }
 
 /// The trend of an observation: "NOSIG alone, or up to three of BECMG and TEMPO", or nothing.
@@ -432,8 +442,14 @@ fn cut(text: &[u8]) -> Cut<'_> {
     }
 }
 
-/// Reads a text into its record, or refuses it.
+/// Reads a text into its record, or refuses it; a TAF in the present edition.
 pub fn read(text: &[u8]) -> Result<Report, Refusal> {
+    read_in(Edition::Present, text)
+}
+
+/// Reads a text, a TAF in an edition; "a caller who names 2005 for" other kinds "reads and writes
+/// them as ever" (ruling 9.1).
+pub fn read_in(edition: Edition, text: &[u8]) -> Result<Report, Refusal> {
     judge_bytes(text)?;
     let cut = cut(text);
     // Refusal 3: "its place, 0 if no group stands before an "=" or the end".
@@ -443,7 +459,7 @@ pub fn read(text: &[u8]) -> Result<Report, Refusal> {
         b"BBXX" => read_ship(&cut),
         b"METAR" => read_observation(&cut, false),
         b"SPECI" => read_observation(&cut, true),
-        b"TAF" => read_forecast(&cut),
+        b"TAF" => read_forecast(&cut, edition),
         _ => Err((3, name.at)),
     }
 }
@@ -663,9 +679,30 @@ fn is_trend_word(group: &[u8]) -> bool {
     word_of(&TREND_WORDS, group).is_some()
 }
 
-/// PROB is fixed and figures follow (ruling 42).
-fn is_change(group: &[u8]) -> bool {
-    is_trend_word(group) || fits("PROB##", group) || fits("FM######", group)
+/// PROB is fixed and figures follow (ruling 42). "The other edition's forms" of FM have no shape
+/// (ruling 9.2).
+fn is_change(edition: Edition, group: &[u8]) -> bool {
+    let from = match edition {
+        Edition::Present => "FM######",
+        Edition::Of2005 => "FM####",
+    };
+    is_trend_word(group) || fits("PROB##", group) || fits(from, group)
+}
+
+/// YYGG/YYGG; "the period as Y1Y1G1G1G2G2"; "change periods as GGGeGe".
+#[derive(Clone, Copy, PartialEq)]
+enum PeriodForm {
+    TwoDays,
+    OneDay,
+    NoDay,
+}
+
+/// The form of the report's own period, and that of a change group's.
+fn period_forms(edition: Edition) -> [PeriodForm; 2] {
+    match edition {
+        Edition::Present => [PeriodForm::TwoDays, PeriodForm::TwoDays],
+        Edition::Of2005 => [PeriodForm::OneDay, PeriodForm::NoDay],
+    }
 }
 
 // ---------------------------------------------------------------------------------------------
@@ -704,9 +741,9 @@ enum Slot {
     At,
     From,
     Until,
-    Period,
+    Period(PeriodForm),
     Cancelled,
-    Change,
+    Change(Edition),
     Temporary,
 }
 
@@ -745,9 +782,11 @@ fn has_shape(slot: Slot, group: &[u8]) -> bool {
         Slot::At => fits("AT####", group),
         Slot::From => fits("FM####", group),
         Slot::Until => fits("TL####", group),
-        Slot::Period => fits("####/####", group),
+        Slot::Period(PeriodForm::TwoDays) => fits("####/####", group),
+        Slot::Period(PeriodForm::OneDay) => fits("######", group),
+        Slot::Period(PeriodForm::NoDay) => fits("####", group),
         Slot::Cancelled => group == b"CNL",
-        Slot::Change => is_change(group),
+        Slot::Change(edition) => is_change(edition, group),
         Slot::Temporary => group == b"TEMPO",
     }
 }
@@ -833,7 +872,7 @@ impl Walk {
             Slot::Wind | Slot::Visibility | Slot::Weather | Slot::Cloud => {
                 self.element_due = false;
             }
-            Slot::Change => self.open_change(index, group),
+            Slot::Change(edition) => self.open_change(index, edition, group),
             // After a group SNOCLO has a place, at which it is 7 (ruling 13.5); a second one
             // has none (ruling 13.4).
             Slot::StateOfRunway if self.places[index].taken == 1 => {
@@ -847,13 +886,14 @@ impl Walk {
     }
 
     /// "A change group opens a body and a body runs to the next change group."
-    fn open_change(&mut self, index: usize, word: &[u8]) {
+    fn open_change(&mut self, index: usize, edition: Edition, word: &[u8]) {
         let from = word.starts_with(b"FM");
         if word.starts_with(b"PROB") {
             self.places.push(one(Slot::Temporary, false));
         }
         if !from {
-            self.places.push(one(Slot::Period, true));
+            // In 2005 four figures are the period first (ruling 9.3).
+            self.places.push(one(Slot::Period(period_forms(edition)[1]), true));
         }
         self.open_body(index, from);
         self.places.push(self.places[index]);
@@ -895,7 +935,7 @@ impl Walk {
 /// Where a change body without an element is refused: at the next change word (ruling 45), in
 /// a trend at NOSIG too (ruling 1.5).
 fn ends_body(slot: Slot) -> bool {
-    matches!(slot, Slot::Change | Slot::TrendWord | Slot::Nosig)
+    matches!(slot, Slot::Change(_) | Slot::TrendWord | Slot::Nosig)
 }
 
 /// "METAR or SPECI, [COR], CCCC, YYGGggZ, then NIL (end) or [AUTO], wind, [dddVddd], visibility,
@@ -929,20 +969,20 @@ fn observation_places() -> Vec<Place> {
 
 /// "TAF, [AMD or COR], CCCC, YYGGggZ, NIL (end) or YYGG/YYGG, CNL (end) or wind, visibility or
 /// CAVOK, up to 3 weather, 4 cloud and 16 change groups".
-fn forecast_places() -> Vec<Place> {
+fn forecast_places(edition: Edition) -> Vec<Place> {
     vec![
         one(Slot::ForecastName, true),
         one(Slot::AmendedOrCorrected, false),
         one(Slot::Location, true),
         one(Slot::IssueTime, true),
         one(Slot::Nil, false),
-        one(Slot::Period, true),
+        one(Slot::Period(period_forms(edition)[0]), true),
         one(Slot::Cancelled, false),
         one(Slot::Wind, true),
         one(Slot::Visibility, true),
         up_to(3, Slot::Weather),
         up_to(4, Slot::Cloud),
-        up_to(16, Slot::Change),
+        up_to(16, Slot::Change(edition)),
     ]
 }
 
@@ -1728,14 +1768,29 @@ fn read_time(figures: &[u8]) -> Result<Time, u8> {
     })
 }
 
-/// YYGG/YYGG; its two times need not fit each other (ruling 47).
-fn read_period(group: &[u8]) -> Result<Period, u8> {
-    Ok(Period {
-        from_day: within(&group[..2], 1, 31)?,
-        from_hour: within(&group[2..4], 0, 23)?,
-        to_day: within(&group[5..7], 1, 31)?,
-        to_hour: within(&group[7..], 0, 24)?,
-    })
+/// A period; its two times need not fit each other (ruling 47). "G2 01 to 24, or 51 to 74"; "GG
+/// 00 to 23 and Ge 01 to 24".
+fn read_period(form: PeriodForm, group: &[u8]) -> Result<Period, u8> {
+    match form {
+        PeriodForm::TwoDays => Ok(Period {
+            from_day: Some(within(&group[..2], 1, 31)?),
+            from_hour: within(&group[2..4], 0, 23)?,
+            to_day: Some(within(&group[5..7], 1, 31)?),
+            to_hour: within(&group[7..], 0, 24)?,
+        }),
+        PeriodForm::OneDay => Ok(Period {
+            from_day: Some(within(&group[..2], 1, 31)?),
+            from_hour: within(&group[2..4], 0, 23)?,
+            to_day: None,
+            to_hour: within(&group[4..], 1, 24).or_else(|_| within(&group[4..], 51, 74))?,
+        }),
+        PeriodForm::NoDay => Ok(Period {
+            from_day: None,
+            from_hour: within(&group[..2], 0, 23)?,
+            to_day: None,
+            to_hour: within(&group[2..], 1, 24)?,
+        }),
+    }
 }
 
 // ---------------------------------------------------------------------------------------------
@@ -1949,10 +2004,10 @@ fn read_recent(observation: &Observation, group: &[u8]) -> Result<Weather, u8> {
 // TAF
 // ---------------------------------------------------------------------------------------------
 
-fn read_forecast(cut: &Cut) -> Result<Report, Refusal> {
+fn read_forecast(cut: &Cut, edition: Edition) -> Result<Report, Refusal> {
     let mut forecast = Forecast::default();
     // The name has stood: its place is closed.
-    let mut walk = Walk::over(forecast_places(), 1);
+    let mut walk = Walk::over(forecast_places(edition), 1);
     let mut take = |slot, group: &[u8]| take_in_forecast(&mut forecast, slot, group);
     let rest = walk_groups(cut, 1, &mut walk, never_stops, &mut take)?;
     let content = Content::Forecast(forecast);
@@ -1966,12 +2021,12 @@ fn take_in_forecast(forecast: &mut Forecast, slot: Slot, group: &[u8]) -> Result
         Slot::IssueTime => forecast.time = read_time(group)?,
         Slot::Nil => forecast.nil = true,
         Slot::Cancelled => forecast.cancelled = true,
-        Slot::Change => forecast.changes.push(Change {
+        Slot::Change(_) => forecast.changes.push(Change {
             opening: read_opening(group)?,
             elements: Elements::default(),
         }),
         Slot::Temporary => set_temporary(forecast),
-        Slot::Period => set_period(forecast, read_period(group)?),
+        Slot::Period(form) => set_period(forecast, read_period(form, group)?),
         _ => match forecast.changes.last_mut() {
             Some(change) => take_element(&mut change.elements, &CHANGE_BODY, slot, group)?,
             None => {
@@ -1992,7 +2047,11 @@ fn read_opening(group: &[u8]) -> Result<Opening, u8> {
     match group {
         b"BECMG" => Ok(Opening::Becoming(period)),
         b"TEMPO" => Ok(Opening::Temporary(period)),
-        [b'F', b'M', figures @ ..] => read_time(figures).map(Opening::From),
+        [b'F', b'M', figures @ ..] if figures.len() == 6 => {
+            let Time { day, hour, minute } = read_time(figures)?;
+            Ok(Opening::From(Some(day), Clock { hour, minute }))
+        }
+        [b'F', b'M', ..] => Ok(Opening::From(None, read_clock(group)?)),
         _ => match required(&group[4..])? {
             percent @ (30 | 40) => Ok(Opening::Probable {
                 percent,
@@ -2023,7 +2082,7 @@ fn set_period(forecast: &mut Forecast, read: Period) {
         None => forecast.period = read,
         Some(Opening::Becoming(period) | Opening::Temporary(period)) => *period = read,
         Some(Opening::Probable { period, .. }) => *period = read,
-        Some(Opening::From(_)) => {}
+        Some(Opening::From(..)) => {}
     }
 }
 
@@ -2191,11 +2250,16 @@ fn write_time(time: Time) -> String {
     format!("{:02}{:02}{:02}", time.day, time.hour, time.minute)
 }
 
+/// A day where the form has one.
+fn write_day(day: Option<u32>) -> String {
+    day.map(|day| format!("{day:02}")).unwrap_or_default()
+}
+
 fn write_period(period: Period) -> String {
-    format!(
-        "{:02}{:02}/{:02}{:02}",
-        period.from_day, period.from_hour, period.to_day, period.to_hour
-    )
+    let parted = if period.to_day.is_some() { "/" } else { "" };
+    let from = format!("{}{:02}", write_day(period.from_day), period.from_hour);
+    let to = format!("{}{:02}", write_day(period.to_day), period.to_hour);
+    format!("{from}{parted}{to}")
 }
 
 fn write_observation(groups: &mut Vec<String>, observation: &Observation) {
@@ -2426,7 +2490,10 @@ fn write_opening(groups: &mut Vec<String>, opening: &Opening) {
             groups.extend(temporary.then(|| "TEMPO".to_string()));
             groups.push(write_period(*period));
         }
-        Opening::From(time) => groups.push(format!("FM{}", write_time(*time))),
+        Opening::From(day, time) => {
+            let clock = format!("{:02}{:02}", time.hour, time.minute);
+            groups.push(format!("FM{}{clock}", write_day(*day)));
+        }
     }
 }
 
@@ -2434,10 +2501,10 @@ fn write_opening(groups: &mut Vec<String>, opening: &Opening) {
 // The program
 // ---------------------------------------------------------------------------------------------
 
-/// What the program prints for a text, without the line end: "its canonical text or "refused N
-/// at P"".
-pub fn answer(text: &[u8]) -> Vec<u8> {
-    match read(text) {
+/// What the program prints for a text, a TAF in an edition, without the line end: "its canonical
+/// text or "refused N at P"".
+pub fn answer(edition: Edition, text: &[u8]) -> Vec<u8> {
+    match read_in(edition, text) {
         Ok(report) => write(&report),
         Err((number, place)) => format!("refused {number} at {place}").into_bytes(),
     }
@@ -2453,14 +2520,19 @@ fn bytes_of_line(line: &[u8]) -> Option<Vec<u8>> {
     line.chunks(2).map(pair).collect()
 }
 
-/// The answers to lines of hexadecimal bytes, one a line.
+/// The answers to lines of hexadecimal bytes, one a line; one that begins with "2005 " asks for
+/// that edition.
 fn answer_lines(input: &[u8]) -> Vec<u8> {
     let mut output = Vec::new();
     for line in input.split_inclusive(|&byte| byte == b'\n') {
         let line = line.strip_suffix(b"\n").unwrap_or(line);
         let line = line.strip_suffix(b"\r").unwrap_or(line);
+        let (edition, line) = match line.strip_prefix(b"2005 ") {
+            Some(rest) => (Edition::Of2005, rest),
+            None => (Edition::Present, line),
+        };
         match bytes_of_line(line) {
-            Some(text) => output.extend(answer(&text)),
+            Some(text) => output.extend(answer(edition, &text)),
             None => output.extend(b"not a line of hexadecimal bytes"),
         }
         output.push(b'\n');
@@ -2469,15 +2541,17 @@ fn answer_lines(input: &[u8]) -> Vec<u8> {
 }
 
 fn main() -> std::io::Result<()> {
-    let lines = std::env::args()
-        .nth(1)
-        .is_some_and(|argument| argument == "--lines");
+    let argument = std::env::args().nth(1).unwrap_or_default();
+    let edition = match argument.as_str() {
+        "2005" => Edition::Of2005,
+        _ => Edition::Present,
+    };
     let mut input = Vec::new();
     std::io::stdin().lock().read_to_end(&mut input)?;
-    let output = if lines {
+    let output = if argument == "--lines" {
         answer_lines(&input)
     } else {
-        let mut line = answer(&input);
+        let mut line = answer(edition, &input);
         line.push(b'\n');
         line
     };

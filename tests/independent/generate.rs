@@ -1,6 +1,7 @@
 //! A generator of test texts: valid reports, damaged ones and random ones, a third of each, the
-//! five kinds in turn. Arguments: a seed and a count. It prints one text a line in hexadecimal;
-//! the same seed gives the same texts.
+//! five kinds in turn. Arguments: a seed and a count; with a third one, 2005, TAFs have the form
+//! of the 2005 edition, and every second report is a TAF. It prints one text a line in
+//! hexadecimal; the same seed gives the same texts.
 
 use std::io::Write;
 
@@ -8,8 +9,8 @@ use std::io::Write;
 // Random numbers
 // ---------------------------------------------------------------------------------------------
 
-/// The splitmix64 generator.
-struct Random(u64);
+/// The splitmix64 generator, and whether TAFs are those of 2005.
+struct Random(u64, bool);
 
 impl Random {
     fn next(&mut self) -> u64 {
@@ -277,6 +278,25 @@ fn time_figures(random: &mut Random) -> String {
     let day = random.figures(1, 31, 2);
     let hour = random.figures(0, 23, 2);
     format!("{}{}{}", day, hour, random.figures(0, 59, 2))
+}
+
+/// The report's own period.
+fn own_period(random: &mut Random) -> String {
+    if random.1 {
+        let from = (random.figures(1, 31, 2), random.figures(0, 23, 2));
+        let (least, most) = random.pick(&[(1, 24), (1, 24), (51, 74)]);
+        return format!("{}{}{}", from.0, from.1, random.figures(least, most, 2));
+    }
+    period_group(random)
+}
+
+/// A change group's period.
+fn change_period(random: &mut Random) -> String {
+    if random.1 {
+        let from = random.figures(0, 23, 2);
+        return format!("{}{}", from, random.figures(1, 24, 2));
+    }
+    period_group(random)
 }
 
 fn period_group(random: &mut Random) -> String {
@@ -660,7 +680,7 @@ fn forecast_groups(random: &mut Random, extent: Extent) -> Vec<String> {
         groups.push("NIL".to_string());
         return groups;
     }
-    groups.push(period_group(random));
+    groups.push(own_period(random));
     if extent == Extent::Shortest && random.one_in(2) {
         groups.push("CNL".to_string());
         return groups;
@@ -719,12 +739,14 @@ fn push_change(random: &mut Random, extent: Extent, groups: &mut Vec<String>) {
         2 => groups.push(probable.to_string()),
         3 => groups.extend([probable.to_string(), "TEMPO".to_string()].iter().cloned()),
         _ => {
-            groups.push(format!("FM{}", time_figures(random)));
+            let time = time_figures(random);
+            let figures = if random.1 { &time[2..] } else { &time };
+            groups.push(format!("FM{}", figures));
             push_body(random, extent, [true, true], true, groups);
             return;
         }
     }
-    groups.push(period_group(random));
+    groups.push(change_period(random));
     push_change_body(random, extent, groups);
 }
 
@@ -1016,7 +1038,12 @@ fn near_miss(random: &mut Random, at: usize, groups: &[String]) -> String {
         "AAXX" => 3,
         "BBXX" => 5,
         _ => {
-            let misses = aerodrome_misses(&groups[at]);
+            let old = random.1 && random.one_in(2);
+            let misses = if old {
+                old_misses(&groups[at])
+            } else {
+                aerodrome_misses(&groups[at])
+            };
             return random.pick(misses).to_string();
         }
     };
@@ -1078,6 +1105,23 @@ fn section_misses(figure: u8) -> &'static [&'static str] {
         b'7' => &["7/123", "71/23", "7////", "7//1/"],
         b'8' => &["8////", "8///1", "8123", "812345"],
         _ => &["92400", "90060", "9////", "9//00", "900//", "9000/"],
+    }
+}
+
+/// Near misses of a period of 2005 and of FMGGgg by its look, and the present forms.
+fn old_misses(group: &str) -> &'static [&'static str] {
+    let figures = group.bytes().all(|byte| byte.is_ascii_digit());
+    match group.len() {
+        6 if figures => &[
+            "001206", "321206", "012406", "011200", "011225", "011250", "011275", "0112//",
+            "//////", "01/206", "0112/0206", "1206", "01120", "0112060",
+        ],
+        4 if figures => &[
+            "2412", "1200", "1225", "1250", "1251", "0000", "////", "12//", "1/14", "9999",
+            "0112/0114", "121", "12145", "011206",
+        ],
+        6 if group.starts_with("FM") => &["FM2400", "FM1260", "FM12//", "FM011230", "FM1230Z", "TL1230"],
+        _ => aerodrome_misses(group),
     }
 }
 
@@ -1404,8 +1448,9 @@ const SYNOPTIC_SHAPES: [&str; 22] = [
 ];
 
 /// The shapes of METAR, SPECI and TAF: # is a figure or slash, @ a letter.
-const AERODROME_SHAPES: [&str; 42] = [
+const AERODROME_SHAPES: [&str; 43] = [
     "######Z",
+    "######",
     "####/####",
     "###V###",
     "####",
@@ -1574,10 +1619,14 @@ fn main() -> std::io::Result<()> {
         None => default,
     };
     let (seed, count) = (number(1), number(1000) as usize);
-    let mut random = Random(seed);
+    let old = arguments.next().is_some_and(|argument| argument == "2005");
+    let mut random = Random(seed, old);
     let mut output = std::io::BufWriter::new(std::io::stdout().lock());
     for index in 0..count {
-        let kind = index / 3 % NAMES.len();
+        let kind = match index / 3 {
+            report if old && report % 2 == 0 => NAMES.len() - 1,
+            report => report % NAMES.len(),
+        };
         let text = match index % 3 {
             0 => {
                 let groups = valid_groups(&mut random, kind);

@@ -1,19 +1,20 @@
 // What the programs say of a text: its canonical text or "refused N at P".
 use libc::STDOUT_FILENO;
+use record::aerodrome::Edition;
 use report_record::kinds::Report;
 use text::kinds::Refusal;
 use text::kinds::Verdict;
 use text::kinds::Written;
 
-fn say(s: &[u8]) {
+pub fn say(s: &[u8]) {
     io::write_all(STDOUT_FILENO, s);
 }
 
-fn say_number(n: usize) {
+pub fn say_number(n: usize) {
     io::print_decimal(STDOUT_FILENO, n as u64);
 }
 
-fn say_refusal(r: Refusal, place: usize) {
+pub fn say_refusal(r: Refusal, place: usize) {
     say(b"refused ");
     say_number(text::refusal_number(r) as usize);
     say(b" at ");
@@ -32,19 +33,24 @@ fn say_written(written: Written, out: &[u8]) {
     }
 }
 
-fn say_report(r: Report) {
+pub fn say_report(edition: Edition, r: Report) {
     let mut out = [0u8; 2048];
-    let written = report::write(r, &mut out);
+    let written = report::write_in(edition, r, &mut out);
     say_written(written, &out);
 }
 
-// The answer to a text, and a line end. Of a refused text nothing is said but the number and the place.
-pub fn say_answer(text: &[u8]) {
-    let reading = report::read(text);
+// The answer to a text, a TAF in the edition that is named, and a line end. Of a refused text nothing is said but the number and the place.
+pub fn say_answer_in(edition: Edition, text: &[u8]) {
+    let reading = report::read_in(edition, text);
     let verdict = reading.verdict;
     match verdict {
-        Verdict::Accepted { rest: _ } => say_report(reading.report),
+        Verdict::Accepted { rest: _ } => say_report(edition, reading.report),
         Verdict::Refused { refusal, place } => say_refusal(refusal, place),
     }
     say(b"\n");
+}
+
+// The same with a TAF in the present edition.
+pub fn say_answer(text: &[u8]) {
+    say_answer_in(Edition::Present, text);
 }

@@ -60,6 +60,8 @@ use Rattle.record.specs.declared.aerodrome.Tendency.the-variants as tend
 use Rattle.record.specs.declared.aerodrome.TrendChange.{TrendChange}
 use Rattle.record.specs.declared.aerodrome.Trend.{Trend}
 use Rattle.record.specs.declared.aerodrome.Metar.{Metar}
+use Rattle.record.specs.declared.aerodrome.Edition.{Edition}
+use Rattle.record.specs.declared.aerodrome.Edition.the-variants as edition
 use Rattle.record.specs.declared.aerodrome.Taf.{Taf}
 use Rattle.record.specs.Body.{blankWeather, blankWeathers, blankLayer, blankSky, blankWind, blankVisibility, blankBody}
 use Rattle.record.specs.Observation.{blankRunway, blankRunways, blankState, blankStates, blankObservation}
@@ -69,7 +71,7 @@ use Rattle.record.proofs.Counted.{blank-each}
 use Rattle.record.specs.Arrays.{BodyArrays, ObservationArrays, TrendArrays, MetarArrays, TafArrays}
 use Rattle.record.specs.SilentAerodrome.{noUnit, isBlankWind, noExtremes, noView, noSide, noCourse, isBlankRunway, noRunways, noDepth, noCondition, isBlankState, noStates, noPhenomena, isBlankWeather, noWeathers}
 use Rattle.record.specs.SilentAerodrome.{noAmount, noConvective, isBlankLayer, isLayers, noSky, noTemperatures, noStation, noInstant, noPeriod, noCorrection, noOpening}
-use Rattle.record.specs.SilentAerodrome.{isBlankBody, noHead, isBlankChange, noObservation, isBlankObservation, noHours, noTendency, isBlankTrendChange, noTrend, isBlankMetar, isBlankTaf}
+use Rattle.record.specs.SilentAerodrome.{isBlankBody, noHead, isBlankChange, noObservation, isBlankObservation, noHours, noTendency, isBlankTrendChange, noTrend, isBlankMetar, isPresent, isSameEdition, isBlankTaf}
 use Rattle.record.proofs.Blanks.{number-blank, tenths-blank, direction-blank, speed-blank, letters-blank}
 
 -- ---- wind, visibility, runways
@@ -318,6 +320,20 @@ metar-blank r arrays e =
 
 -- ---- TAF
 
+edition-present : (e : Edition) → isPresent e ≡ true → e ≡ edition.Present
+edition-present edition.Present p = refl
+edition-present edition.Of2005 p = absurd (false≢true p)
+
+pub edition-same : (e f : Edition) → isSameEdition e f ≡ true → e ≡ f
+edition-same edition.Present edition.Present p = refl
+edition-same edition.Present edition.Of2005 p = absurd (false≢true p)
+edition-same edition.Of2005 edition.Present p = absurd (false≢true p)
+edition-same edition.Of2005 edition.Of2005 p = refl
+
+pub same-edition : (e : Edition) → isSameEdition e e ≡ true
+same-edition edition.Present = refl
+same-edition edition.Of2005 = refl
+
 pub change-blank : (c : Change) → BodyArrays (c .body) → isBlankChange c ≡ true → c ≡ blankChange
 change-blank c arrays e =
     let b = both _ _ e in
@@ -338,5 +354,6 @@ unfolding isBlankTaf
 taf-blank t arrays e =
     let changes = both _ _ e in
     let part = both _ _ (changes .0) in
+    let head = both _ _ (part .0) in
     let items = both _ _ (changes .1) in
-    λ i. record { leg = leg-blank (t .leg) (arrays .letters) (arrays .body) (part .0) (part .1) i; changes = record { items = (rw (arrays .changes) at (blank-each (λ (c : Change). BodyArrays (c .body)) isBlankChange blankChange change-blank (t .changes .items) (arrays .each) (items .1))) i; count = eqb-true (t .changes .count) 0 (items .0) i } }
+    λ i. record { edition = edition-present (t .edition) (head .0) i; leg = leg-blank (t .leg) (arrays .letters) (arrays .body) (head .1) (part .1) i; changes = record { items = (rw (arrays .changes) at (blank-each (λ (c : Change). BodyArrays (c .body)) isBlankChange blankChange change-blank (t .changes .items) (arrays .each) (items .1))) i; count = eqb-true (t .changes .count) 0 (items .0) i } }

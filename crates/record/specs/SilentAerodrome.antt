@@ -55,6 +55,8 @@ use Rattle.record.specs.declared.aerodrome.Tendency.the-variants as tend
 use Rattle.record.specs.declared.aerodrome.TrendChange.{TrendChange}
 use Rattle.record.specs.declared.aerodrome.Trend.{Trend}
 use Rattle.record.specs.declared.aerodrome.Metar.{Metar}
+use Rattle.record.specs.declared.aerodrome.Edition.{Edition}
+use Rattle.record.specs.declared.aerodrome.Edition.the-variants as edition
 use Rattle.record.specs.declared.aerodrome.Taf.{Taf}
 use Rattle.record.specs.Missing.{isMissing, noTenths, noDirection, noSpeed, noLetters}
 
@@ -222,6 +224,17 @@ isBlankMetar r = isBlankObservation (r .observation) && noTrend (r .trend)
 
 -- ---- TAF
 
+-- the edition that a blank record names, in every other kind's report too
+abbrev pub isPresent : Edition → Bool
+isPresent edition.Present = true
+isPresent edition.Of2005 = false
+
+abbrev pub isSameEdition : Edition → Edition → Bool
+isSameEdition edition.Present edition.Present = true
+isSameEdition edition.Present edition.Of2005 = false
+isSameEdition edition.Of2005 edition.Present = false
+isSameEdition edition.Of2005 edition.Of2005 = true
+
 abbrev pub noHead : Leg → Bool
 noHead r = noCorrection (r .correction) && noStation (r .station) && noInstant (r .time) && not (r .nil) && noPeriod (r .period) && not (r .cancelled)
 
@@ -232,4 +245,4 @@ abbrev pub noChanges : Changes → Bool
 noChanges cs = eqb (cs .count) 0 && every isBlankChange (cs .items)
 
 unfoldable pub isBlankTaf : Taf → Bool
-isBlankTaf t = noHead (t .leg) && isBlankBody (t .leg .body) && noChanges (t .changes)
+isBlankTaf t = isPresent (t .edition) && noHead (t .leg) && isBlankBody (t .leg .body) && noChanges (t .changes)

@@ -13,6 +13,7 @@ use Rattle.record.specs.declared.aerodrome.Changes.{Changes}
 use Rattle.record.specs.declared.aerodrome.Taf.{Taf}
 use Rattle.record.specs.declared.aerodrome.Correction.the-variants as correction
 use Rattle.record.specs.declared.aerodrome.Opening.the-variants as opening
+use Rattle.record.specs.declared.aerodrome.Edition.the-variants as edition
 use Rattle.record.specs.declared.values.Number.the-variants as number
 use Rattle.record.specs.Body.{blankBody}
 
@@ -59,4 +60,4 @@ abbrev pub blankChange : Change
 blankChange = record { opening = opening.None; period = blankPeriod; body = blankBody }
 
 abbrev pub blankTaf : Taf
-blankTaf = record { leg = blankLeg; changes = record { items = replicate 16 blankChange; count = 0 } }
+blankTaf = record { edition = edition.Present; leg = blankLeg; changes = record { items = replicate 16 blankChange; count = 0 } }

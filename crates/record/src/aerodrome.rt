@@ -275,7 +275,8 @@ pub enum Correction {
     Corrected,
 }
 
-// A period, YYGG/YYGG, without minutes; under FM the beginning alone, with its minute.
+// A period without minutes, YYGG/YYGG; under FM the beginning alone, with its minute. In the 2005 edition the end has no day and may be 51 to 74, as
+// written, and a change's beginning has no day either.
 pub struct Period {
     pub from: Instant,
     pub to: Instant,
@@ -314,7 +315,14 @@ pub struct Changes {
     pub count: usize,
 }
 
+// The edition of the code form that a TAF is written in: the present one, or that of 2005, which held until November 2008.
+pub enum Edition {
+    Present,
+    Of2005,
+}
+
 pub struct Taf {
+    pub edition: Edition,
     pub leg: Leg,
     pub changes: Changes,
 }

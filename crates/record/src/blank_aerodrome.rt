@@ -9,6 +9,7 @@ use crate::aerodrome::Correction;
 use crate::aerodrome::Course;
 use crate::aerodrome::Cover;
 use crate::aerodrome::Depth;
+use crate::aerodrome::Edition;
 use crate::aerodrome::Extremes;
 use crate::aerodrome::Hours;
 use crate::aerodrome::Instant;
@@ -268,6 +269,7 @@ pub fn blank_taf() -> Taf
     let change = blank_change();
     let items = [change; 16];
     Taf {
+        edition: Edition::Present,
         leg,
         changes: Changes { items, count: 0 },
     }

@@ -10,6 +10,7 @@ use crate::aerodrome::Correction;
 use crate::aerodrome::Course;
 use crate::aerodrome::Cover;
 use crate::aerodrome::Depth;
+use crate::aerodrome::Edition;
 use crate::aerodrome::Extremes;
 use crate::aerodrome::Hours;
 use crate::aerodrome::Instant;
@@ -44,7 +45,7 @@ ghost use Rattle.figures.specs.Figures.{every};
 ghost use Rattle.record.specs.SilentAerodrome.{noUnit, isBlankWind, noExtremes, noView, noSide, noCourse, isBlankRunway, noRunways, noDepth, noCondition, isBlankState, noStates};
 ghost use Rattle.record.specs.SilentAerodrome.{noPhenomena, isBlankWeather, noWeathers};
 ghost use Rattle.record.specs.SilentAerodrome.{noAmount, noConvective, isBlankLayer, isLayers, noSky, noTemperatures, noStation, noInstant, noPeriod, noCorrection, noOpening};
-ghost use Rattle.record.specs.SilentAerodrome.{isBlankBody, isBlankChange, noChanges, noObservation, isBlankObservation, noHours, noTendency, isBlankTrendChange, noTrend, isBlankMetar, noHead, isBlankTaf};
+ghost use Rattle.record.specs.SilentAerodrome.{isBlankBody, isBlankChange, noChanges, noObservation, isBlankObservation, noHours, noTendency, isBlankTrendChange, noTrend, isBlankMetar, isPresent, isSameEdition, noHead, isBlankTaf};
 
 // ---- wind, visibility, runways
 
@@ -596,13 +597,40 @@ impl Leg {
     }
 }
 
+impl Edition {
+    fn is_present(self) -> bool
+        ensures { λ r. ⌜ r ≡ isPresent self ⌝ }
+    {
+        match self {
+            Edition::Present => true,
+            Edition::Of2005 => false,
+        }
+    }
+
+    pub fn is_same(self, other: Edition) -> bool
+        ensures { λ r. ⌜ r ≡ isSameEdition self other ⌝ }
+    {
+        match self {
+            Edition::Present => match other {
+                Edition::Present => true,
+                Edition::Of2005 => false,
+            },
+            Edition::Of2005 => match other {
+                Edition::Present => false,
+                Edition::Of2005 => true,
+            },
+        }
+    }
+}
+
 impl Taf {
     pub fn is_blank(self) -> bool
         ensures { λ r. ⌜ r ≡ isBlankTaf self ⌝ }
     {
+        let edition = self.edition;
         let leg = self.leg;
         let body = leg.body;
         let changes = self.changes;
-        leg.has_no_head() & body.is_blank() & changes.is_blank()
+        edition.is_present() & leg.has_no_head() & body.is_blank() & changes.is_blank()
     }
 }

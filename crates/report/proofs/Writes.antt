@@ -10,10 +10,11 @@ use Rattle.text.specs.declared.kinds.Judged.{Judged}
 use Rattle.text.specs.declared.kinds.Written.{Written}
 use Rattle.text.specs.declared.kinds.Written.the-variants as answer
 use Rattle.text.specs.Write.{answerBy, bufferBy}
+use Rattle.record.specs.declared.aerodrome.Edition.{Edition}
 use Rattle.report_record.specs.declared.kinds.Kind.{Kind}
 use Rattle.report_record.specs.declared.kinds.Kind.the-variants as kind
 use Rattle.report_record.specs.declared.kinds.Report.{Report}
-use Rattle.report.specs.Write.{afterForeign, writtenBy, bufferAfter, writtenOf, bufferOf}
+use Rattle.report.specs.Write.{afterForeign, writtenBy, bufferAfter, writtenIn, bufferIn}
 
 module _ (own : Judged) (text b : List ℕ) {x y : Bool} (m n : Bool) (p : x ≡ m) (q : y ≡ n) where
   pub own-written : (x && y) ≡ true → {w : Written} {e : List ℕ} → (w ≡ answerBy own text (length b)) × (e ≡ bufferBy own text b)
@@ -25,11 +26,11 @@ module _ (own : Judged) (text b : List ℕ) {x y : Bool} (m n : Bool) (p : x ≡
   foreign-refused t = rw (← p, ← q, t) (refl, refl)
 
 -- a record is written by its kind; without one it is refused
-module _ (r : Report) (b : List ℕ) where
-  pub by-kind : (k : Kind) → r .kind ≡ k → {w : Written} {e : List ℕ} → (w ≡ writtenBy k r (length b)) × (e ≡ bufferAfter k r b)
-      → (w ≡ writtenOf r (length b)) × (e ≡ bufferOf r b)
-  unfolding writtenOf bufferOf
-  by-kind k is (p, q) = (p ∙ ap (λ (j : Kind). writtenBy j r (length b)) (sym is), q ∙ ap (λ (j : Kind). bufferAfter j r b) (sym is))
+module _ (e : Edition) (r : Report) (b : List ℕ) where
+  pub by-kind : (k : Kind) → r .kind ≡ k → {w : Written} {l : List ℕ} → (w ≡ writtenBy e k r (length b)) × (l ≡ bufferAfter e k r b)
+      → (w ≡ writtenIn e r (length b)) × (l ≡ bufferIn e r b)
+  unfolding writtenIn bufferIn
+  by-kind k is (p, q) = (p ∙ ap (λ (j : Kind). writtenBy e j r (length b)) (sym is), q ∙ ap (λ (j : Kind). bufferAfter e j r b) (sym is))
 
-  pub no-kind : r .kind ≡ kind.Missing → (answer.Refused refusal.Value ≡ writtenOf r (length b)) × (b ≡ bufferOf r b)
+  pub no-kind : r .kind ≡ kind.Missing → (answer.Refused refusal.Value ≡ writtenIn e r (length b)) × (b ≡ bufferIn e r b)
   no-kind is = by-kind kind.Missing is (refl, refl)

@@ -15,6 +15,8 @@ use Rattle.text.specs.Groups.{Piece, groupsFrom, partOf}
 use Rattle.text.specs.Text.{bytesOf, tailOf}
 use Rattle.shapes.specs.Pattern.{hasPattern}
 use Rattle.places.specs.Engine.{Group, Outcome, Done, Fault}
+use Rattle.record.specs.declared.aerodrome.Edition.{Edition}
+use Rattle.record.specs.declared.aerodrome.Edition.the-variants as edition
 use Rattle.report_record.specs.declared.kinds.Name.{Name}
 use Rattle.report_record.specs.declared.kinds.Name.the-variants as name
 use Rattle.report_record.specs.declared.kinds.Report.{Report}
@@ -59,15 +61,19 @@ abbrev pub answered : {R : Type 0} → (R → Report) → Outcome R → Reading
 answered within (Done rest r) = accepted rest (within r)
 answered within (Fault f at) = refused f at
 
-abbrev pub readAs : List ℕ → Name → Reading
-readAs text (name.Surface ship at) = answered surfaceReport (synop.groupsRead ship (tailOf text) (length text) (groupsFrom text at))
-readAs text (name.Observed special at) = answered observedReport (metar.groupsRead (tailOf text) (length text) (groupsFrom text 0))
-readAs text (name.Forecast at) = answered forecastReport (taf.groupsRead (tailOf text) (length text) (groupsFrom text 0))
-readAs text (name.Refused f at) = refused f at
+-- by the edition of TAF that the caller chose; the other kinds have one
+abbrev pub readAs : Edition → List ℕ → Name → Reading
+readAs e text (name.Surface ship at) = answered surfaceReport (synop.groupsRead ship (tailOf text) (length text) (groupsFrom text at))
+readAs e text (name.Observed special at) = answered observedReport (metar.groupsRead (tailOf text) (length text) (groupsFrom text 0))
+readAs e text (name.Forecast at) = answered forecastReport (taf.groupsRead e (tailOf text) (length text) (groupsFrom text 0))
+readAs e text (name.Refused f at) = refused f at
 
--- WHAT A TEXT IS READ AS: the kind that its first group names.
-unfoldable pub readOf : List ℕ → Reading
-readOf text = readAs text (nameOf text)
+-- WHAT A TEXT IS READ AS: the kind that its first group names. A TAF is read in the edition "chosen by the caller (the present one if none is named)".
+unfoldable pub readIn : Edition → List ℕ → Reading
+readIn e text = readAs e text (nameOf text)
+
+abbrev pub readOf : List ℕ → Reading
+readOf text = readIn edition.Present text
 
 -- ---- "The rest, from that group to the text's end, is .. handed back as a part of the caller's text; where there is none, or the text is refused, it
 -- is the empty part at the end."
@@ -76,8 +82,14 @@ abbrev pub restAt : ℕ → Verdict → ℕ
 restAt end (verdict.Accepted rest) = rest
 restAt end (verdict.Refused f at) = end
 
-unfoldable pub restPlace : List ℕ → ℕ
-restPlace text = restAt (length text) (readOf text .verdict)
+unfoldable pub restPlaceIn : Edition → List ℕ → ℕ
+restPlaceIn e text = restAt (length text) (readIn e text .verdict)
 
-unfoldable pub restOf : List ℕ → List ℕ
-restOf text = partOf text (restPlace text) (length text)
+unfoldable pub restIn : Edition → List ℕ → List ℕ
+restIn e text = partOf text (restPlaceIn e text) (length text)
+
+abbrev pub restPlace : List ℕ → ℕ
+restPlace text = restPlaceIn edition.Present text
+
+abbrev pub restOf : List ℕ → List ℕ
+restOf text = restIn edition.Present text

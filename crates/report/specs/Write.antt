@@ -1,14 +1,18 @@
 -- Writing a record of any kind: what the writer judges, the canonical text, and the record that it is read back as.
 -- Assumes nothing: these are definitions.
 use Prim.Native.Nat.{ℕ}
+use mathlib.Core.Path.{_≡_}
 use mathlib.Core.Bool.{Bool, true, _&&_}
 use mathlib.Core.List.{List, []}
+use lib.ListN.{length}
 use Rattle.text.specs.declared.kinds.Refusal.the-variants as refusal
 use Rattle.text.specs.declared.kinds.Judged.{Judged}
 use Rattle.text.specs.declared.kinds.Judged.the-variants as judged
 use Rattle.text.specs.declared.kinds.Written.{Written}
 use Rattle.text.specs.Judge.{judge, andThen}
 use Rattle.text.specs.Write.{answerBy, bufferBy}
+use Rattle.record.specs.declared.aerodrome.Edition.{Edition}
+use Rattle.record.specs.declared.aerodrome.Edition.the-variants as edition
 use Rattle.report_record.specs.declared.kinds.Kind.{Kind}
 use Rattle.report_record.specs.declared.kinds.Kind.the-variants as kind
 use Rattle.report_record.specs.declared.kinds.Report.{Report}
@@ -22,16 +26,20 @@ use Rattle.taf.specs.Write as taf
 abbrev pub afterForeign : Bool → Judged → Judged
 afterForeign blank own = andThen (judge blank true) own
 
-abbrev pub judgeBy : Kind → Report → Judged
-judgeBy kind.Missing r = judged.Refused refusal.Value
-judgeBy kind.Surface r = afterForeign (isBlankMetar (r .observed) && isBlankTaf (r .forecast)) (synop.judgeOf (r .surface))
-judgeBy kind.Observed r = afterForeign (isBlankSynop (r .surface) && isBlankTaf (r .forecast)) (metar.judgeOf (r .observed))
-judgeBy kind.Forecast r = afterForeign (isBlankSynop (r .surface) && isBlankMetar (r .observed)) (taf.judgeOf (r .forecast))
+abbrev pub judgeBy : Edition → Kind → Report → Judged
+judgeBy e kind.Missing r = judged.Refused refusal.Value
+judgeBy e kind.Surface r = afterForeign (isBlankMetar (r .observed) && isBlankTaf (r .forecast)) (synop.judgeOf (r .surface))
+judgeBy e kind.Observed r = afterForeign (isBlankSynop (r .surface) && isBlankTaf (r .forecast)) (metar.judgeOf (r .observed))
+judgeBy e kind.Forecast r = afterForeign (isBlankSynop (r .surface) && isBlankMetar (r .observed)) (taf.judgeIn e (r .forecast))
 
-unfoldable pub judgeOf : Report → Judged
-judgeOf r = judgeBy (r .kind) r
+-- a TAF in the edition "chosen by the caller (the present one if none is named)"
+unfoldable pub judgeIn : Edition → Report → Judged
+judgeIn e r = judgeBy e (r .kind) r
 
--- THE CANONICAL TEXT
+abbrev pub judgeOf : Report → Judged
+judgeOf r = judgeIn edition.Present r
+
+-- THE CANONICAL TEXT, a TAF's in the edition that its record names
 abbrev pub canonicalBy : Kind → Report → List ℕ
 canonicalBy kind.Missing r = []
 canonicalBy kind.Surface r = synop.canonicalOf (r .surface)
@@ -53,14 +61,24 @@ classedOf r = classedBy (r .kind) r
 
 -- ---- the writer's answer, and the lent buffer afterwards
 
-abbrev pub writtenBy : Kind → Report → ℕ → Written
-writtenBy k r room = answerBy (judgeBy k r) (canonicalBy k r) room
+abbrev pub writtenBy : Edition → Kind → Report → ℕ → Written
+writtenBy e k r room = answerBy (judgeBy e k r) (canonicalBy k r) room
 
-abbrev pub bufferAfter : Kind → Report → List ℕ → List ℕ
-bufferAfter k r b = bufferBy (judgeBy k r) (canonicalBy k r) b
+abbrev pub bufferAfter : Edition → Kind → Report → List ℕ → List ℕ
+bufferAfter e k r b = bufferBy (judgeBy e k r) (canonicalBy k r) b
 
-unfoldable pub writtenOf : Report → ℕ → Written
-writtenOf r room = writtenBy (r .kind) r room
+-- of a kind that has one edition, whatever edition is named: the answer w, and the buffer b afterwards, l
+abbrev pub WrittenAnyway : Kind → Report → List ℕ → Written → List ℕ → Type 0
+WrittenAnyway k r b w l = (e : Edition) → (w ≡ writtenBy e k r (length b)) × (l ≡ bufferAfter e k r b)
 
-unfoldable pub bufferOf : Report → List ℕ → List ℕ
-bufferOf r b = bufferAfter (r .kind) r b
+unfoldable pub writtenIn : Edition → Report → ℕ → Written
+writtenIn e r room = writtenBy e (r .kind) r room
+
+unfoldable pub bufferIn : Edition → Report → List ℕ → List ℕ
+bufferIn e r b = bufferAfter e (r .kind) r b
+
+abbrev pub writtenOf : Report → ℕ → Written
+writtenOf r room = writtenIn edition.Present r room
+
+abbrev pub bufferOf : Report → List ℕ → List ℕ
+bufferOf r b = bufferIn edition.Present r b

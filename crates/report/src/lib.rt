@@ -1,5 +1,6 @@
 // The library's face: the public calls. `name` says which kind of report a text is, `read` what it says, `rest` hands back its unread part, `write` writes
 // a record into a lent buffer, `standing` hands back the one of two texts that stands.
+use record::aerodrome::Edition;
 use report_record::answer;
 use report_record::kinds::Kind;
 use report_record::kinds::Name;
@@ -18,8 +19,8 @@ ghost use lib.ListN.{length};
 ghost use Rattle.report_record.specs.declared.kinds.Kind.the-variants as kind;
 ghost use Rattle.text.specs.Groups.{groupsFrom};
 ghost use Rattle.text.specs.Part.{PartAt};
-ghost use Rattle.report.specs.Read.{nameBy, firstName, nameOf, readOf, restPlace};
-ghost use Rattle.report.specs.Write.{writtenBy, bufferAfter, writtenOf, bufferOf};
+ghost use Rattle.report.specs.Read.{nameBy, firstName, nameOf, readIn, readOf, restPlaceIn, restPlace};
+ghost use Rattle.report.specs.Write.{writtenBy, bufferAfter, WrittenAnyway, writtenIn, bufferIn, writtenOf, bufferOf};
 ghost use Rattle.report.specs.Standing.{standsOf, PartStanding};
 
 // ---- reading
@@ -81,9 +82,9 @@ pub fn name(text: &[u8]) -> Name
     }
 }
 
-// What a text says, or the first fault and its place with a blank record.
-pub fn read(text: &[u8]) -> Reading
-    ensures { λ r. ⌜ r ≡ readOf (now (text .entry)) ⌝ }
+// What a text says, a TAF in the edition that is named, or the first fault and its place with a blank record.
+pub fn read_in(edition: Edition, text: &[u8]) -> Reading
+    ensures { λ r. ⌜ r ≡ readIn edition (now (text .entry)) ⌝ }
 {
     let named = name(text);
     match named {
@@ -98,7 +99,7 @@ pub fn read(text: &[u8]) -> Reading
             answer::of_observed(verdict, reading.report)
         }
         Name::Forecast { at } => {
-            let reading = taf::read::read_from(text, at);
+            let reading = taf::read::read_from_in(edition, text, at);
             let verdict = reading.verdict;
             answer::of_forecast(verdict, reading.report)
         }
@@ -106,9 +107,16 @@ pub fn read(text: &[u8]) -> Reading
     }
 }
 
-// Whether a text is accepted, and where its unread rest begins, or its refusal and place: what `read` answers, without the record.
-pub fn verdict_of(text: &[u8]) -> Verdict
-    ensures { λ r. ⌜ r ≡ readOf (now (text .entry)) .verdict ⌝ }
+// The same with a TAF in the present edition; so in every call that names none.
+pub fn read(text: &[u8]) -> Reading
+    ensures { λ r. ⌜ r ≡ readOf (now (text .entry)) ⌝ }
+{
+    read_in(Edition::Present, text)
+}
+
+// Whether a text is accepted, and where its unread rest begins, or its refusal and place: what `read_in` answers, without the record.
+pub fn verdict_in(edition: Edition, text: &[u8]) -> Verdict
+    ensures { λ r. ⌜ r ≡ readIn edition (now (text .entry)) .verdict ⌝ }
 {
     let named = name(text);
     match named {
@@ -121,18 +129,24 @@ pub fn verdict_of(text: &[u8]) -> Verdict
             reading.verdict
         }
         Name::Forecast { at } => {
-            let reading = taf::read::read_from(text, at);
+            let reading = taf::read::read_from_in(edition, text, at);
             reading.verdict
         }
         Name::Refused { refusal, place } => Verdict::Refused { refusal, place },
     }
 }
 
-// Where the unread rest begins: at the text's end where there is none, or the text is refused.
-pub fn rest_place(text: &[u8]) -> usize
-    ensures { λ r. ⌜ r ≡ restPlace (now (text .entry)) ⌝ }
+pub fn verdict_of(text: &[u8]) -> Verdict
+    ensures { λ r. ⌜ r ≡ readOf (now (text .entry)) .verdict ⌝ }
 {
-    let verdict = verdict_of(text);
+    verdict_in(Edition::Present, text)
+}
+
+// Where the unread rest begins: at the text's end where there is none, or the text is refused.
+pub fn rest_place_in(edition: Edition, text: &[u8]) -> usize
+    ensures { λ r. ⌜ r ≡ restPlaceIn edition (now (text .entry)) ⌝ }
+{
+    let verdict = verdict_in(edition, text);
     match verdict {
         Verdict::Accepted { rest } => rest,
         Verdict::Refused {
@@ -142,19 +156,31 @@ pub fn rest_place(text: &[u8]) -> usize
     }
 }
 
+pub fn rest_place(text: &[u8]) -> usize
+    ensures { λ r. ⌜ r ≡ restPlace (now (text .entry)) ⌝ }
+{
+    rest_place_in(Edition::Present, text)
+}
+
 // The unread rest, where it lies in the caller's text: from its place to the text's end.
+pub fn rest_in(edition: Edition, text: &[u8]) -> &[u8]
+    ensures { λ r. ⌜ PartAt (text .entry) r (restPlaceIn edition (now (text .entry))) (length (now (text .entry))) ⌝ }
+{
+    let place = rest_place_in(edition, text);
+    let end = text.len();
+    text::part_at(text, place, end)
+}
+
 pub fn rest(text: &[u8]) -> &[u8]
     ensures { λ r. ⌜ PartAt (text .entry) r (restPlace (now (text .entry))) (length (now (text .entry))) ⌝ }
 {
-    let place = rest_place(text);
-    let end = text.len();
-    text::part_at(text, place, end)
+    rest_in(Edition::Present, text)
 }
 
 // ---- writing: the parts of the other kinds are judged first
 
 fn write_surface(report: Report, out: &mut [u8]) -> Written
-    ensures { λ w. ⌜ (w ≡ writtenBy kind.Surface report (length (now (out .entry)))) × (now (out .exit) ≡ bufferAfter kind.Surface report (now (out .entry))) ⌝ }
+    ensures { λ w. ⌜ WrittenAnyway kind.Surface report (now (out .entry)) w (now (out .exit)) ⌝ }
 {
     if report.observed.is_blank() & report.forecast.is_blank() {
         return synop_write::write::write(report.surface, out);
@@ -163,7 +189,7 @@ fn write_surface(report: Report, out: &mut [u8]) -> Written
 }
 
 fn write_observed(report: Report, out: &mut [u8]) -> Written
-    ensures { λ w. ⌜ (w ≡ writtenBy kind.Observed report (length (now (out .entry)))) × (now (out .exit) ≡ bufferAfter kind.Observed report (now (out .entry))) ⌝ }
+    ensures { λ w. ⌜ WrittenAnyway kind.Observed report (now (out .entry)) w (now (out .exit)) ⌝ }
 {
     if report.surface.is_blank() & report.forecast.is_blank() {
         return metar_write::write::write(report.observed, out);
@@ -171,26 +197,32 @@ fn write_observed(report: Report, out: &mut [u8]) -> Written
     Written::Refused(Refusal::Value)
 }
 
-fn write_forecast(report: Report, out: &mut [u8]) -> Written
-    ensures { λ w. ⌜ (w ≡ writtenBy kind.Forecast report (length (now (out .entry)))) × (now (out .exit) ≡ bufferAfter kind.Forecast report (now (out .entry))) ⌝ }
+fn write_forecast(edition: Edition, report: Report, out: &mut [u8]) -> Written
+    ensures { λ w. ⌜ (w ≡ writtenBy edition kind.Forecast report (length (now (out .entry)))) × (now (out .exit) ≡ bufferAfter edition kind.Forecast report (now (out .entry))) ⌝ }
 {
     if report.surface.is_blank() & report.observed.is_blank() {
-        return taf_write::write::write(report.forecast, out);
+        return taf_write::write::write_in(edition, report.forecast, out);
     }
     Written::Refused(Refusal::Value)
 }
 
-// The record's canonical text goes into the lent buffer, or the buffer stays as it came.
-pub fn write(report: Report, out: &mut [u8]) -> Written
-    ensures { λ w. ⌜ (w ≡ writtenOf report (length (now (out .entry)))) × (now (out .exit) ≡ bufferOf report (now (out .entry))) ⌝ }
+// The record's canonical text goes into the lent buffer, or the buffer stays as it came. A TAF of another edition than the one that is named is refused.
+pub fn write_in(edition: Edition, report: Report, out: &mut [u8]) -> Written
+    ensures { λ w. ⌜ (w ≡ writtenIn edition report (length (now (out .entry)))) × (now (out .exit) ≡ bufferIn edition report (now (out .entry))) ⌝ }
 {
     let kind = report.kind;
     match kind {
         Kind::Missing => Written::Refused(Refusal::Value),
         Kind::Surface => write_surface(report, out),
         Kind::Observed => write_observed(report, out),
-        Kind::Forecast => write_forecast(report, out),
+        Kind::Forecast => write_forecast(edition, report, out),
     }
+}
+
+pub fn write(report: Report, out: &mut [u8]) -> Written
+    ensures { λ w. ⌜ (w ≡ writtenOf report (length (now (out .entry)))) × (now (out .exit) ≡ bufferOf report (now (out .entry))) ⌝ }
+{
+    write_in(Edition::Present, report, out)
 }
 
 // ---- which text stands

@@ -13,6 +13,7 @@ use Rattle.text.specs.Text.{tailOf}
 use Rattle.places.specs.Engine.{Outcome, Done, Fault}
 use Rattle.record.specs.declared.surface.Synop.{Synop}
 use Rattle.record.specs.declared.aerodrome.Metar.{Metar}
+use Rattle.record.specs.declared.aerodrome.Edition.{Edition}
 use Rattle.record.specs.declared.aerodrome.Taf.{Taf}
 use Rattle.synop.specs.Read as synop
 use Rattle.metar.specs.Read as metar
@@ -23,7 +24,7 @@ use Rattle.report_record.specs.declared.kinds.Name.{Name}
 use Rattle.report_record.specs.declared.kinds.Name.the-variants as name
 use Rattle.report_record.specs.declared.kinds.Report.{Report}
 use Rattle.report_record.specs.declared.kinds.Reading.{Reading}
-use Rattle.report.specs.Read.{answered, readAs, nameOf, readOf}
+use Rattle.report.specs.Read.{answered, readAs, nameOf, readIn}
 use Rattle.report.proofs.Names.{Says, name-says, others-behind, surface-name, observed-name, forecast-name}
 pub use Rattle.report.proofs.Names.{surfaceWord, observedWord, forecastWord, Named}
 
@@ -42,51 +43,51 @@ pub record ObservedText (t : List ℕ) (o : Outcome Metar) : Type 0 where
   pub comes : metar.groupsRead (tailOf t) (length t) (groupsFrom t 0) ≡ o
 
 -- TAF, the first of the groups
-pub record ForecastText (t : List ℕ) (o : Outcome Taf) : Type 0 where
+pub record ForecastText (chosen : Edition) (t : List ℕ) (o : Outcome Taf) : Type 0 where
   pub named : Named t forecastWord
-  pub comes : taf.groupsRead (tailOf t) (length t) (groupsFrom t 0) ≡ o
+  pub comes : taf.groupsRead chosen (tailOf t) (length t) (groupsFrom t 0) ≡ o
 
 -- ---- the text is read as that
 
-module _ {t : List ℕ} where
-  pub read-surface : {o : Outcome Synop} → SurfaceText t o → readOf t ≡ answered surfaceReport o
-  unfolding readOf
+module _ (chosen : Edition) {t : List ℕ} where
+  pub read-surface : {o : Outcome Synop} → SurfaceText t o → readIn chosen t ≡ answered surfaceReport o
+  unfolding readIn
   read-surface x = rw (surface-name (x .ship) (x .named), others-behind (x .named), x .comes)
 
-  pub read-observed : {o : Outcome Metar} → ObservedText t o → readOf t ≡ answered observedReport o
-  unfolding readOf
+  pub read-observed : {o : Outcome Metar} → ObservedText t o → readIn chosen t ≡ answered observedReport o
+  unfolding readIn
   read-observed x = rw (observed-name (x .special) (x .named), x .comes)
 
-  pub read-forecast : {o : Outcome Taf} → ForecastText t o → readOf t ≡ answered forecastReport o
-  unfolding readOf
+  pub read-forecast : {o : Outcome Taf} → ForecastText chosen t o → readIn chosen t ≡ answered forecastReport o
+  unfolding readIn
   read-forecast x = rw (forecast-name (x .named), x .comes)
 
 -- ---- and every text is read as one of these, or has no name
 
-pub data Which (t : List ℕ) : Reading → Type 0 where
-  by-surface : (o : Outcome Synop) → SurfaceText t o → Which t (answered surfaceReport o)
-  by-observed : (o : Outcome Metar) → ObservedText t o → Which t (answered observedReport o)
-  by-forecast : (o : Outcome Taf) → ForecastText t o → Which t (answered forecastReport o)
-  by-none : (f : Refusal) (at : ℕ) → nameOf t ≡ name.Refused f at → Which t (refused f at)
+pub data Which (chosen : Edition) (t : List ℕ) : Reading → Type 0 where
+  by-surface : (o : Outcome Synop) → SurfaceText t o → Which chosen t (answered surfaceReport o)
+  by-observed : (o : Outcome Metar) → ObservedText t o → Which chosen t (answered observedReport o)
+  by-forecast : (o : Outcome Taf) → ForecastText chosen t o → Which chosen t (answered forecastReport o)
+  by-none : (f : Refusal) (at : ℕ) → nameOf t ≡ name.Refused f at → Which chosen t (refused f at)
 
-pub which : (t : List ℕ) → Which t (readOf t)
-unfolding readOf
-which t = go (nameOf t) refl (name-says t)
+pub which : (chosen : Edition) (t : List ℕ) → Which chosen t (readIn chosen t)
+unfolding readIn
+which chosen t = go (nameOf t) refl (name-says t)
   where
-    go : (n : Name) → nameOf t ≡ n → Says t n → Which t (readAs t n)
+    go : (n : Name) → nameOf t ≡ n → Says t n → Which chosen t (readAs chosen t n)
     go (name.Surface ship at) is (n, behind) =
         by-surface (synop.groupsRead ship (tailOf t) (length t) (groupsFrom t at)) (record { ship = ship; named = n; comes = rw behind })
     go (name.Observed special at) is (n, behind) =
         by-observed (metar.groupsRead (tailOf t) (length t) (groupsFrom t 0)) (record { special = special; named = n; comes = refl })
-    go (name.Forecast at) is (n, behind) = by-forecast (taf.groupsRead (tailOf t) (length t) (groupsFrom t 0)) (record { named = n; comes = refl })
+    go (name.Forecast at) is (n, behind) = by-forecast (taf.groupsRead chosen (tailOf t) (length t) (groupsFrom t 0)) (record { named = n; comes = refl })
     go (name.Refused f at) is says = by-none f at is
 
 -- ---- accepted: the one kind whose groups come to the record
 
-pub data AcceptedAs (t : List ℕ) (rest : ℕ) : Report → Type 0 where
-  a-surface : (r : Synop) → SurfaceText t (Done rest r) → AcceptedAs t rest (surfaceReport r)
-  an-observed : (r : Metar) → ObservedText t (Done rest r) → AcceptedAs t rest (observedReport r)
-  a-forecast : (r : Taf) → ForecastText t (Done rest r) → AcceptedAs t rest (forecastReport r)
+pub data AcceptedAs (chosen : Edition) (t : List ℕ) (rest : ℕ) : Report → Type 0 where
+  a-surface : (r : Synop) → SurfaceText t (Done rest r) → AcceptedAs chosen t rest (surfaceReport r)
+  an-observed : (r : Metar) → ObservedText t (Done rest r) → AcceptedAs chosen t rest (observedReport r)
+  a-forecast : (r : Taf) → ForecastText chosen t (Done rest r) → AcceptedAs chosen t rest (forecastReport r)
 
 not-refused : (f : Refusal) (at rest : ℕ) (w : Report) → refused f at ≡ accepted rest w → ⊥
 not-refused f at rest w e =
@@ -112,64 +113,64 @@ module _ {R : Type 0} (within : R → Report) where
       let there : place ≡ at = cc in
       rw (← is, ← there) p
 
-pub accepted-as : (t : List ℕ) (rest : ℕ) (w : Report) → readOf t ≡ accepted rest w → AcceptedAs t rest w
-accepted-as t rest w e = go (readOf t) (which t) e
+pub accepted-as : (chosen : Edition) (t : List ℕ) (rest : ℕ) (w : Report) → readIn chosen t ≡ accepted rest w → AcceptedAs chosen t rest w
+accepted-as chosen t rest w e = go (readIn chosen t) (which chosen t) e
   where
-    go : (a : Reading) → Which t a → a ≡ accepted rest w → AcceptedAs t rest w
-    go _ (by-surface o x) e = picked surfaceReport (SurfaceText t) (AcceptedAs t rest) rest w a-surface o x e
-    go _ (by-observed o x) e = picked observedReport (ObservedText t) (AcceptedAs t rest) rest w an-observed o x e
-    go _ (by-forecast o x) e = picked forecastReport (ForecastText t) (AcceptedAs t rest) rest w a-forecast o x e
+    go : (a : Reading) → Which chosen t a → a ≡ accepted rest w → AcceptedAs chosen t rest w
+    go _ (by-surface o x) e = picked surfaceReport (SurfaceText t) (AcceptedAs chosen t rest) rest w a-surface o x e
+    go _ (by-observed o x) e = picked observedReport (ObservedText t) (AcceptedAs chosen t rest) rest w an-observed o x e
+    go _ (by-forecast o x) e = picked forecastReport (ForecastText chosen t) (AcceptedAs chosen t rest) rest w a-forecast o x e
     go _ (by-none f at is) e = absurd (not-refused f at rest w e)
 
 -- of the kind that the record has
-module _ {t : List ℕ} {rest : ℕ} where
-  pub as-surface : (r : Synop) → AcceptedAs t rest (surfaceReport r) → SurfaceText t (Done rest r)
+module _ {chosen : Edition} {t : List ℕ} {rest : ℕ} where
+  pub as-surface : (r : Synop) → AcceptedAs chosen t rest (surfaceReport r) → SurfaceText t (Done rest r)
   as-surface r x = go (surfaceReport r) x refl
     where
-      go : (w : Report) → AcceptedAs t rest w → w ≡ surfaceReport r → SurfaceText t (Done rest r)
+      go : (w : Report) → AcceptedAs chosen t rest w → w ≡ surfaceReport r → SurfaceText t (Done rest r)
       go _ (a-surface q y) is = subst (λ (v : Synop). SurfaceText t (Done rest v)) (ap (λ (a : Report). a .surface) is) y
       go _ (an-observed q y) is = let k : kind.Observed ≡ kind.Surface = ap (λ (a : Report). a .kind) is in let z : _≡_ {A = ℕ} 0 1 = cc in absurd (omega arith)
       go _ (a-forecast q y) is = let k : kind.Forecast ≡ kind.Surface = ap (λ (a : Report). a .kind) is in let z : _≡_ {A = ℕ} 0 1 = cc in absurd (omega arith)
 
-  pub as-observed : (r : Metar) → AcceptedAs t rest (observedReport r) → ObservedText t (Done rest r)
+  pub as-observed : (r : Metar) → AcceptedAs chosen t rest (observedReport r) → ObservedText t (Done rest r)
   as-observed r x = go (observedReport r) x refl
     where
-      go : (w : Report) → AcceptedAs t rest w → w ≡ observedReport r → ObservedText t (Done rest r)
+      go : (w : Report) → AcceptedAs chosen t rest w → w ≡ observedReport r → ObservedText t (Done rest r)
       go _ (a-surface q y) is = let k : kind.Surface ≡ kind.Observed = ap (λ (a : Report). a .kind) is in let z : _≡_ {A = ℕ} 0 1 = cc in absurd (omega arith)
       go _ (an-observed q y) is = subst (λ (v : Metar). ObservedText t (Done rest v)) (ap (λ (a : Report). a .observed) is) y
       go _ (a-forecast q y) is = let k : kind.Forecast ≡ kind.Observed = ap (λ (a : Report). a .kind) is in let z : _≡_ {A = ℕ} 0 1 = cc in absurd (omega arith)
 
-  pub as-forecast : (r : Taf) → AcceptedAs t rest (forecastReport r) → ForecastText t (Done rest r)
+  pub as-forecast : (r : Taf) → AcceptedAs chosen t rest (forecastReport r) → ForecastText chosen t (Done rest r)
   as-forecast r x = go (forecastReport r) x refl
     where
-      go : (w : Report) → AcceptedAs t rest w → w ≡ forecastReport r → ForecastText t (Done rest r)
+      go : (w : Report) → AcceptedAs chosen t rest w → w ≡ forecastReport r → ForecastText chosen t (Done rest r)
       go _ (a-surface q y) is = let k : kind.Surface ≡ kind.Forecast = ap (λ (a : Report). a .kind) is in let z : _≡_ {A = ℕ} 0 1 = cc in absurd (omega arith)
       go _ (an-observed q y) is = let k : kind.Observed ≡ kind.Forecast = ap (λ (a : Report). a .kind) is in let z : _≡_ {A = ℕ} 0 1 = cc in absurd (omega arith)
-      go _ (a-forecast q y) is = subst (λ (v : Taf). ForecastText t (Done rest v)) (ap (λ (a : Report). a .forecast) is) y
+      go _ (a-forecast q y) is = subst (λ (v : Taf). ForecastText chosen t (Done rest v)) (ap (λ (a : Report). a .forecast) is) y
 
 -- ---- refused: the number and the place that the groups of the kind come to; 1, 2 and 3 where the text has no name
 
-pub data RefusedAs (t : List ℕ) (f : Refusal) (at : ℕ) : Type 0 where
-  no-surface : SurfaceText t (Fault f at) → RefusedAs t f at
-  no-observed : ObservedText t (Fault f at) → RefusedAs t f at
-  no-forecast : ForecastText t (Fault f at) → RefusedAs t f at
-  no-name : nameOf t ≡ name.Refused f at → RefusedAs t f at
+pub data RefusedAs (chosen : Edition) (t : List ℕ) (f : Refusal) (at : ℕ) : Type 0 where
+  no-surface : SurfaceText t (Fault f at) → RefusedAs chosen t f at
+  no-observed : ObservedText t (Fault f at) → RefusedAs chosen t f at
+  no-forecast : ForecastText chosen t (Fault f at) → RefusedAs chosen t f at
+  no-name : nameOf t ≡ name.Refused f at → RefusedAs chosen t f at
 
-module _ {t : List ℕ} {f : Refusal} {at : ℕ} where
-  pub refused-as : readOf t ≡ refused f at → RefusedAs t f at
-  refused-as e = go (readOf t) (which t) e
+module _ {chosen : Edition} {t : List ℕ} {f : Refusal} {at : ℕ} where
+  pub refused-as : readIn chosen t ≡ refused f at → RefusedAs chosen t f at
+  refused-as e = go (readIn chosen t) (which chosen t) e
     where
-      go : (a : Reading) → Which t a → a ≡ refused f at → RefusedAs t f at
+      go : (a : Reading) → Which chosen t a → a ≡ refused f at → RefusedAs chosen t f at
       go _ (by-surface o x) e = no-surface (blamed surfaceReport (SurfaceText t) f at o x e)
       go _ (by-observed o x) e = no-observed (blamed observedReport (ObservedText t) f at o x e)
-      go _ (by-forecast o x) e = no-forecast (blamed forecastReport (ForecastText t) f at o x e)
+      go _ (by-forecast o x) e = no-forecast (blamed forecastReport (ForecastText chosen t) f at o x e)
       go _ (by-none g p is) e =
           let v : verdict.Refused g p ≡ verdict.Refused f at = ap (λ (a : Reading). a .verdict) e in
           no-name (is ∙ (cc))
 
-  pub as-refused : RefusedAs t f at → readOf t ≡ refused f at
-  unfolding readOf
-  as-refused (no-surface x) = read-surface x
-  as-refused (no-observed x) = read-observed x
-  as-refused (no-forecast x) = read-forecast x
+  pub as-refused : RefusedAs chosen t f at → readIn chosen t ≡ refused f at
+  unfolding readIn
+  as-refused (no-surface x) = read-surface chosen x
+  as-refused (no-observed x) = read-observed chosen x
+  as-refused (no-forecast x) = read-forecast chosen x
   as-refused (no-name is) = rw is

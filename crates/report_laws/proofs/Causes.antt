@@ -20,6 +20,7 @@ use Rattle.record.specs.declared.aerodrome.TrendChange.{TrendChange}
 use Rattle.record.specs.declared.aerodrome.Trend.{Trend}
 use Rattle.record.specs.declared.aerodrome.Metar.{Metar}
 use Rattle.record.specs.declared.aerodrome.Change.{Change}
+use Rattle.record.specs.declared.aerodrome.Edition.{Edition}
 use Rattle.record.specs.declared.aerodrome.Taf.{Taf}
 use Rattle.synop_groups.specs.Judge as surface
 use Rattle.elements.specs.Wind.{judgeWind, judgeVariation}
@@ -40,7 +41,7 @@ use Rattle.taf.specs.Write as taf
 use Rattle.report_record.specs.declared.kinds.Kind.{Kind}
 use Rattle.report_record.specs.declared.kinds.Kind.the-variants as kind
 use Rattle.report_record.specs.declared.kinds.Report.{Report}
-use Rattle.report.specs.Write.{judgeBy, judgeOf}
+use Rattle.report.specs.Write.{judgeBy, judgeIn}
 
 pub data Caused : Judged → Type 0 where
   fine : Caused judged.Fine
@@ -143,25 +144,25 @@ part : (w : Part) (b : Body) → Caused (taf.judgePart w b)
 unfolding taf.judgePart
 part w b = search (made, body)
 
-change : (c : Change) → Caused (taf.judgeChange c)
+change : (e : Edition) (c : Change) → Caused (taf.judgeChange e c)
 unfolding taf.judgeChange
-change c = search (made, part)
+change e c = search (made, part)
 
-each-change : (cs : List Change) → Caused (taf.judgeEach cs)
-each-change [] = fine
-each-change (c ∷ cs) = in-turn (change c) (each-change cs)
+each-change : (e : Edition) (cs : List Change) → Caused (taf.judgeEach e cs)
+each-change e [] = fine
+each-change e (c ∷ cs) = in-turn (change e c) (each-change e cs)
 
-pub forecast-causes : (t : Taf) → Caused (taf.judgeOf t)
-unfolding taf.judgeOf taf.judgeChanges judgeStation judgeTime
-forecast-causes t = search (made, part, each-change) depth 10
+pub forecast-causes : (e : Edition) (t : Taf) → Caused (taf.judgeIn e t)
+unfolding taf.judgeIn taf.judgeOf taf.judgeChanges judgeStation judgeTime
+forecast-causes e t = search (made, part, each-change) depth 11
 
 -- ---- any kind
 
-pub causes : (r : Report) → Caused (judgeOf r)
-unfolding judgeOf
-causes r = go (r .kind)
+pub causes : (e : Edition) (r : Report) → Caused (judgeIn e r)
+unfolding judgeIn
+causes e r = go (r .kind)
   where
-    go : (k : Kind) → Caused (judgeBy k r)
+    go : (k : Kind) → Caused (judgeBy e k r)
     go kind.Missing = bad-value
     go kind.Surface = search (made, surface-causes)
     go kind.Observed = search (made, observed-causes)

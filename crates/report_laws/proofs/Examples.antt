@@ -4,7 +4,7 @@
 use Prim.Native.Nat.{ℕ}
 use mathlib.Core.Path.{_≡_, refl}
 use mathlib.Core.Bool.{false}
-use mathlib.Core.List.{List, [], _∷_, map}
+use mathlib.Core.List.{List, [], _∷_, _++_, map}
 use Rattle.text.specs.Numbers.{verdictNumbers, writtenNumbers}
 use Rattle.text.specs.Example.{Example, reads, refuses, answerTo}
 use Rattle.text.specs.declared.kinds.Refusal.the-variants as refusal
@@ -15,6 +15,8 @@ use Rattle.record.specs.declared.values.Direction.{Direction}
 use Rattle.record.specs.declared.values.Direction.the-variants as direction
 use Rattle.record.specs.declared.values.Speed.{Speed}
 use Rattle.record.specs.declared.values.Speed.the-variants as speed
+use Rattle.record.specs.declared.aerodrome.Edition.{Edition}
+use Rattle.record.specs.declared.aerodrome.Edition.the-variants as edition
 use Rattle.record.specs.declared.aerodrome.Unit.{Unit}
 use Rattle.record.specs.declared.aerodrome.Unit.the-variants as unit
 use Rattle.record.specs.declared.aerodrome.Wind.{Wind}
@@ -66,8 +68,8 @@ use Rattle.report.specs.Read as report-read
 use Rattle.report.specs.Write as report-write
 
 -- what is answered to a text, where there is room for the longest
-abbrev answered : Reading → List ℕ
-answered r = answerTo (verdictNumbers (r .verdict)) (writtenNumbers (report-write.writtenOf (r .report) 2048)) (report-write.canonicalOf (r .report))
+abbrev answered : Edition → Reading → List ℕ
+answered e r = answerTo (verdictNumbers (r .verdict)) (writtenNumbers (report-write.writtenIn e (r .report) 2048)) (report-write.canonicalOf (r .report))
 
 abbrev pub examples : List Example
 examples =
@@ -123,9 +125,33 @@ examples =
     ∷ refuses "TAF LEMD 011100Z 0112/0212 27010KT 9999 BECMG 0112/0114 FM011300" 8 56
     ∷ refuses "TAF LEMD 011100Z 0112/0212 27010KT 9999 RA SN DZ NSW" 9 49
     ∷ refuses "TAF LEMD 011100Z 0112/0212 27010KT 9999 BECMG 0112/0114 NSW NSW" 7 60
+    ∷ refuses "TAF LEMD 011100Z 011206 27010KT 9999" 4 17
     ∷ []
 
-pub worked : map (λ (e : Example). answered (report-read.readOf (e .text))) examples ≡ map (λ (e : Example). e .answer) examples
+-- the caller names the 2005 edition
+abbrev pub examples2005 : List Example
+examples2005 =
+    reads "METAR LEMD 011200Z NIL" "METAR LEMD 011200Z NIL="
+    ∷ reads "TAF LEMD 011100Z 011262 27010KT CAVOK BECMG 1111 RA" "TAF LEMD 011100Z 011262 27010KT CAVOK BECMG 1111 RA="
+    ∷ reads "TAF LEMD 011100Z 011206 27010KT 9999 BECMG 1214 0800 FM2359 27010KT 9999" "TAF LEMD 011100Z 011206 27010KT 9999 BECMG 1214 0800 FM2359 27010KT 9999="
+    ∷ refuses "TAF LEMD 011100Z 0112/0206 27010KT 9999" 4 17
+    ∷ refuses "TAF LEMD 011100Z 011206 27010KT 9999 FM011230" 4 37
+    ∷ refuses "TAF LEMD 011100Z 01/206 27010KT 9999" 5 17
+    ∷ refuses "TAF LEMD 011100Z 011206 27010KT 9999 BECMG 9999" 5 43
+    ∷ refuses "TAF LEMD 011100Z 011206 27010KT 9999 BECMG 1214 1416" 5 48
+    ∷ refuses "TAF LEMD 011100Z 011206 27010KT 9999 FM1230 27010KT 1214" 5 52
+    ∷ refuses "TAF LEMD 011100Z 1206 27010KT 9999" 8 17
+    ∷ refuses "TAF LEMD 011100Z 011206 27010KT 9999 BECMG 011206" 6 43
+    ∷ refuses "TAF LEMD 011100Z 011200 27010KT 9999" 5 17
+    ∷ refuses "TAF LEMD 011100Z 011250 27010KT 9999" 5 17
+    ∷ refuses "TAF LEMD 011100Z 011206 27010KT 9999 BECMG 2200 RA" 5 43
+    ∷ refuses "TAF LEMD 011100Z 011206 27010KT 9999 FM2400" 5 37
+    ∷ []
+
+abbrev inEditions : List (Edition × Example)
+inEditions = map (λ (x : Example). (edition.Present, x)) examples ++ map (λ (x : Example). (edition.Of2005, x)) examples2005
+
+pub worked : map (λ (x : Edition × Example). answered (x .0) (report-read.readIn (x .0) (x .1 .text))) inEditions ≡ map (λ (x : Edition × Example). x .1 .answer) inEditions
 unfolding figures.figures figures.scan figures.fieldAt figures.numberText figures.slashes figures.fieldText
     signed.signedOf
     bytes.lead
@@ -168,9 +194,9 @@ unfolding figures.figures figures.scan figures.fieldAt figures.numberText figure
     metar-write.judgeHead metar-write.judgeObservation metar-write.judgeOf metar-write.groupsOf metar-write.canonicalOf
     taf-row.readPeriod taf-row.showPeriod taf-row.row taf-row.changeWords
     taf-read.openedBy taf-read.groupsRead
-    taf-write.judgePart taf-write.judgeChange taf-write.judgeChanges taf-write.foreignBlank taf-write.judgeOf taf-write.showChange taf-write.groupsOf taf-write.canonicalOf
-    report-read.nameOf report-read.readOf
-    report-write.judgeOf report-write.canonicalOf report-write.writtenOf
+    taf-write.judgePart taf-write.judgeChange taf-write.judgeChanges taf-write.foreignBlank taf-write.judgeOf taf-write.judgeIn taf-write.showChange taf-write.groupsOf taf-write.canonicalOf
+    report-read.nameOf report-read.readIn
+    report-write.judgeIn report-write.canonicalOf report-write.writtenIn
 worked = refl
 
 -- ---- winds of a record: no text shows what is refused there

@@ -34,6 +34,8 @@ use Rattle.record.specs.declared.aerodrome.Sky.{Sky}
 use Rattle.record.specs.declared.aerodrome.Body.{Body}
 use Rattle.record.specs.declared.aerodrome.Trend.{Trend}
 use Rattle.record.specs.declared.aerodrome.Leg.{Leg}
+use Rattle.record.specs.declared.aerodrome.Edition.{Edition}
+use Rattle.record.specs.declared.aerodrome.Edition.the-variants as edition
 use Rattle.record.specs.declared.aerodrome.Taf.{Taf}
 use Rattle.record.specs.Taf.{blankLeg}
 use Rattle.record.specs.Set.{setSite}
@@ -65,6 +67,8 @@ use Rattle.trend_row.specs.Row as trend-row
 use Rattle.trend.specs.Read as trend
 use Rattle.taf_row.specs.declared.kinds.Part.{Part}
 use Rattle.taf_row.specs.declared.kinds.Part.the-variants as part
+use Rattle.taf_row.specs.declared.kinds.Form.{Form}
+use Rattle.taf_row.specs.declared.kinds.Form.the-variants as form
 use Rattle.taf_row.specs.Row as taf-row
 use Rattle.taf.specs.Read as taf
 use Rattle.report_record.specs.declared.kinds.Name.{Name}
@@ -284,12 +288,14 @@ module _ (n : ℕ) (tail : Tail) (end : ℕ) (w : TailWithin n tail) (h : end �
 
 -- ---- TAF
 
-module _ (p : Part) where
-  period-fair : (g : Group) → Fairly (taf-row.readPeriod g)
-  unfolding taf-row.readPeriod
-  period-fair g = search told depth 10
+period-fair : (f : Form) (g : Group) → Fairly (taf-row.readPeriod f g)
+unfolding taf-row.readPeriod
+period-fair form.BothDays g = search told depth 10
+period-fair form.FirstDay g = search told depth 10
+period-fair form.NoDay g = search told depth 10
 
-  part-row-fair : FairRow (taf-row.row p)
+module _ (e : Edition) (p : Part) where
+  part-row-fair : FairRow (taf-row.row e p)
   unfolding taf-row.row
   part-row-fair =
       (λ k g r. search told)
@@ -297,7 +303,8 @@ module _ (p : Part) where
       & (λ k g r. search told)
       & (λ k g r. let x = time-fair g in search told)
       & (λ k g r. search told)
-      & (λ k g r. let x = period-fair g in search told)
+      & (λ k g r. let x = period-fair (taf-row.ownForm e) g in search told)
+      & (λ k g r. let x = period-fair (taf-row.changeForm e) g in search told)
       & (λ k g r. search told)
       & (λ k g r. let x = wind-place (taf-row.forecastIn p) k g (r .body) in search told)
       & (λ k g r. let x = visibility-place (taf-row.forecastIn p) k g (r .body) in search told)
@@ -305,17 +312,18 @@ module _ (p : Part) where
       & (λ k g r. let x = sky-place (taf-row.forecastIn p) k g (r .body) in search told)
       & tt
 
-opened-fair : (g : Group) → Fairly (taf.openedBy g)
+opened-fair : (e : Edition) (g : Group) → Fairly (taf.openedBy e g)
 unfolding taf.openedBy
-opened-fair g = search told depth 10
+opened-fair edition.Present g = search told depth 10
+opened-fair edition.Of2005 g = search told depth 10
 
-leg-fair : (p : Part) (takes : Leg → Taf) → FairPart (taf.partIn p takes)
-leg-fair p takes = record { row = part-row-fair p; word = λ t g. opens (taf.openedBy g) (opened-fair g) }
+leg-fair : (e : Edition) (p : Part) (takes : Leg → Taf) → FairPart (taf.partIn e p takes)
+leg-fair e p takes = record { row = part-row-fair e p; word = λ t g. opens (taf.openedBy e g) (opened-fair e g) }
 
 module _ (n : ℕ) (tail : Tail) (end : ℕ) (w : TailWithin n tail) (h : end ≤ n) (gs : List Piece) (v : Within n gs) where
-  pub forecast-placed : Placed n (taf.groupsRead tail end gs)
+  pub forecast-placed : (e : Edition) → Placed n (taf.groupsRead e tail end gs)
   unfolding taf.groupsRead
-  forecast-placed = report-placed n tail end w h taf.changes (λ t o. leg-fair (taf.partOf o) _) 16 taf.mainPart (leg-fair part.Main _) blankLeg gs v
+  forecast-placed e = report-placed n tail end w h (taf.changes e) (λ t o. leg-fair e (taf.partOf o) _) 16 (taf.mainPart e) (leg-fair e part.Main _) blankLeg gs v
 
 -- ---- SYNOP and SHIP: what a group says, added to the surface
 

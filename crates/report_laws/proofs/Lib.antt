@@ -12,4 +12,5 @@ pub mod Seen
 pub mod PoorLibraries
 pub mod Examples
 pub mod StateExamples
+pub mod EditionExamples
 pub mod OneBody

@@ -55,6 +55,7 @@ use Rattle.record.specs.declared.aerodrome.Body.{Body}
 use Rattle.record.specs.declared.aerodrome.Observation.{Observation}
 use Rattle.record.specs.declared.aerodrome.TrendChange.{TrendChange}
 use Rattle.record.specs.declared.aerodrome.Metar.{Metar}
+use Rattle.record.specs.declared.aerodrome.Edition.{Edition}
 use Rattle.record.specs.declared.aerodrome.Taf.{Taf}
 use Rattle.record.specs.Classes as classes
 use Rattle.record.specs.Missing.{noSpeed}
@@ -396,11 +397,11 @@ unfolding trend.classChange trend-row.row
 observed-bodies r q f g =
     with-changes (λ (c : TrendChange). c .body) trend.classChange (λ c. refl) (r .observation .body) (q .observation .body) (r .trend .items) (q .trend .items) f g
 
-pub forecast-bodies : (r q : Taf) → q .leg .body ≡ classBody (r .leg .body) → q .changes .items ≡ map classChange (r .changes .items)
+pub forecast-bodies : (r q : Taf) → q .leg .body ≡ classBody (r .leg .body) → q .changes .items ≡ map (classChange (r .edition)) (r .changes .items)
     → forecastBodies q ≡ map classBody (forecastBodies r)
 unfolding classChange row
 forecast-bodies r q f g =
-    with-changes (λ (c : Change). c .body) classChange (λ c. refl) (r .leg .body) (q .leg .body) (r .changes .items) (q .changes .items) f g
+    with-changes (λ (c : Change). c .body) (classChange (r .edition)) (λ c. refl) (r .leg .body) (q .leg .body) (r .changes .items) (q .changes .items) f g
 
 pub observed-numbers : (t : Table) (r q : Metar) → q .observation .runways .items ≡ map classRunway (r .observation .runways .items)
     → q .observation .states .items ≡ map classState (r .observation .states .items)
@@ -430,9 +431,9 @@ pub trend-direction : (c : TrendChange) → trendDirection (trend.classChange c)
 unfolding trend.classChange trend-row.row
 trend-direction c = refl
 
-pub change-direction : (c : Change) → changeDirection (classChange c) ≡ classes.classDirection (changeDirection c)
+pub change-direction : (e : Edition) (c : Change) → changeDirection (classChange e c) ≡ classes.classDirection (changeDirection c)
 unfolding classChange row
-change-direction c = refl
+change-direction e c = refl
 
 pub observed-directions : (r q : Metar) → q .observation .body .wind .direction ≡ classes.classDirection (r .observation .body .wind .direction)
     → q .observation .variation .is ≡ classExtremes (r .observation .variation .is) → q .trend .items ≡ map trend.classChange (r .trend .items)
@@ -443,9 +444,9 @@ observed-directions r q e f g =
     (sym (map-append classes.classDirection (extremeDirections (r .observation .variation .is)) (map trendDirection (r .trend .items)))))
 
 pub forecast-directions : (r q : Taf) → q .leg .body .wind .direction ≡ classes.classDirection (r .leg .body .wind .direction)
-    → q .changes .items ≡ map classChange (r .changes .items) → forecastDirections q ≡ map classes.classDirection (forecastDirections r)
+    → q .changes .items ≡ map (classChange (r .edition)) (r .changes .items) → forecastDirections q ≡ map classes.classDirection (forecastDirections r)
 forecast-directions r q e g =
-    rw (e, g, map-square changeDirection classChange classes.classDirection change-direction (r .changes .items))
+    rw (e, g, map-square changeDirection (classChange (r .edition)) classes.classDirection (change-direction (r .edition)) (r .changes .items))
 
 pub amount-is : (f : Fall) → amountOf (classFall f) ≡ map roundedRain (amountOf f)
 amount-is fall.Missing = refl

@@ -8,6 +8,7 @@ use Rattle.places.specs.Lift.{liftAll}
 use Rattle.record.specs.declared.aerodrome.Opening.the-variants as opening
 use Rattle.record.specs.declared.aerodrome.Body.{Body}
 use Rattle.record.specs.declared.aerodrome.Leg.{Leg}
+use Rattle.record.specs.declared.aerodrome.Edition.{Edition}
 use Rattle.record.specs.declared.aerodrome.TrendChange.{TrendChange}
 use Rattle.record.specs.Taf as leg
 use Rattle.record.specs.Trend as change
@@ -26,10 +27,10 @@ pub same-terms : forecastIn (partOf opening.Temporary) ≡ changing
 same-terms = refl
 
 -- THE PLACES: wind, visibility, weather and clouds, as the body's row has them, end either row.
-pub same-places : (drop 7 (taf-row.row (partOf opening.Temporary)) ≡ liftAll (λ (r : Leg). r .body) leg.setBody (bodyRow changing))
+pub same-places : (e : Edition) → (drop 8 (taf-row.row e (partOf opening.Temporary)) ≡ liftAll (λ (r : Leg). r .body) leg.setBody (bodyRow changing))
     × (drop 4 (trend-row.row true) ≡ liftAll (λ (c : TrendChange). c .body) change.setBody (bodyRow changing))
 unfolding taf-row.row trend-row.row
-same-places = (refl, refl)
+same-places e = (refl, refl)
 
 -- THE JUDGEMENT, element by element, and that there is one.
 pub same-judged : (b : Body) → judgePart (partOf opening.Temporary) b ≡ judgeChangeBody b

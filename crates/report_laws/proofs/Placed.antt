@@ -52,6 +52,7 @@ one-or-more refusal.Absence = omega arith
 one-or-more refusal.Limit = omega arith
 one-or-more refusal.Room = omega arith
 one-or-more refusal.Value = omega arith
+one-or-more refusal.Times = omega arith
 
 -- what is read of a group: the value, or such a refusal
 pub data Fairly {R : Type 0} : Read R → Type 0 where

@@ -18,6 +18,7 @@ use Rattle.text.specs.declared.kinds.Written.the-variants as answer
 use Rattle.text.specs.Bytes.{lead}
 use Rattle.text.specs.Groups.{Piece, groupsIn, groupsFrom, join, spaced, parted}
 use Rattle.record.specs.declared.values.Number.the-variants as number
+use Rattle.record.specs.declared.aerodrome.Edition.{Edition}
 use Rattle.record.specs.declared.aerodrome.Metar.{Metar}
 use Rattle.record.specs.Observation.{setStation, setTime, setNil, blankObservation}
 use Rattle.record.specs.Trend.{blankTrend}
@@ -38,8 +39,8 @@ use Rattle.metar.specs.Write as metar
 use Rattle.report_record.specs.declared.kinds.Report.{Report}
 use Rattle.report_record.specs.declared.kinds.Reading.{Reading}
 use Rattle.report_record.specs.Record.{observedReport, accepted}
-use Rattle.report.specs.Read.{readOf}
-use Rattle.report.specs.Write.{judgeOf, canonicalOf, classedOf, writtenOf, bufferOf}
+use Rattle.report.specs.Read.{readIn}
+use Rattle.report.specs.Write.{judgeIn, canonicalOf, classedOf, writtenIn, bufferIn}
 use Rattle.report_laws.proofs.Demands.{one-text}
 use Rattle.report_laws.proofs.RoundTrip.{Fair, observed, fair-fine, comes-back}
 
@@ -72,13 +73,13 @@ silent letters four =
     let none : BodyArrays blankBody = record { weathers = refl; layers = refl } in
     record { observation = record { letters = four; body = none; runways = refl; recents = refl; states = refl }; trend = refl; each = (none, (none, (none, tt))) }
 
-fair-one : Fair one
+fair-one : (chosen : Edition) → Fair chosen one
 unfolding nilOf metar.judgeOf isBlankBody noObservation metar.judgeHead judgeStation judgeTime
-fair-one = observed (nilOf (bytes "LEMD")) (silent (bytes "LEMD") refl) refl
+fair-one chosen = observed (nilOf (bytes "LEMD")) (silent (bytes "LEMD") refl) refl
 
-fair-other : Fair other
+fair-other : (chosen : Edition) → Fair chosen other
 unfolding nilOf metar.judgeOf isBlankBody noObservation metar.judgeHead judgeStation judgeTime
-fair-other = observed (nilOf (bytes "LEMG")) (silent (bytes "LEMG") refl) refl
+fair-other chosen = observed (nilOf (bytes "LEMG")) (silent (bytes "LEMG") refl) refl
 
 text-one : canonicalOf one ≡ oneText
 unfolding nilOf canonicalOf metar.canonicalOf metar.groupsOf showTrend row join spaced parted showTime showWind showVariation showVisibility showRunways showWeathers showSky showTemperatures showQnh showRecents showStates numberText figures fieldText
@@ -89,11 +90,11 @@ unfolding nilOf canonicalOf metar.canonicalOf metar.groupsOf showTrend row join 
 text-other = refl
 
 -- what they are read as, and what is written of them
-read-one : readOf oneText ≡ accepted 23 (classedOf one)
-read-one = rw text-one at (comes-back fair-one)
+read-one : (chosen : Edition) → readIn chosen oneText ≡ accepted 23 (classedOf one)
+read-one chosen = rw text-one at (comes-back (fair-one chosen))
 
-read-other : readOf otherText ≡ accepted 23 (classedOf other)
-read-other = rw text-other at (comes-back fair-other)
+read-other : (chosen : Edition) → readIn chosen otherText ≡ accepted 23 (classedOf other)
+read-other chosen = rw text-other at (comes-back (fair-other chosen))
 
 apart : classedOf one ≡ classedOf other → ⊥
 unfolding nilOf classedOf metar.classedOf metar.classObservation row
@@ -109,27 +110,27 @@ abbrev isAccepted : Verdict → Bool
 isAccepted (verdict.Accepted rest) = true
 isAccepted (verdict.Refused f at) = false
 
-module _ (read : List ℕ → Reading) (meets : (t : List ℕ) → read t ≡ readOf t) where
+module _ (chosen : Edition) (read : List ℕ → Reading) (meets : (t : List ℕ) → read t ≡ readIn chosen t) where
   -- one refusing everything
   pub no-refusing-reader : ((t : List ℕ) → isAccepted (read t .verdict) ≡ false) → ⊥
-  no-refusing-reader all = false≢true (sym (rw (meets oneText, read-one) at (all oneText)))
+  no-refusing-reader all = false≢true (sym (rw (meets oneText, read-one chosen) at (all oneText)))
 
   record-one : read oneText .report ≡ classedOf one
-  record-one = rw (meets oneText, read-one)
+  record-one = rw (meets oneText, read-one chosen)
 
   record-other : read otherText .report ≡ classedOf other
-  record-other = rw (meets otherText, read-other)
+  record-other = rw (meets otherText, read-other chosen)
 
   -- one returning a fixed record
   pub no-fixed-record : (x : Report) → ((t : List ℕ) → isAccepted (read t .verdict) ≡ true → read t .report ≡ x) → ⊥
   no-fixed-record x fixed =
-      apart (sym record-one ∙ fixed oneText (rw (meets oneText, read-one)) ∙ sym (fixed otherText (rw (meets otherText, read-other))) ∙ record-other)
+      apart (sym record-one ∙ fixed oneText (rw (meets oneText, read-one chosen)) ∙ sym (fixed otherText (rw (meets otherText, read-other chosen))) ∙ record-other)
 
   -- one that reads the first group, and copies blanks, or anything, for the others
   pub no-first-group-reader : (copy : List Piece → Report) → ((t : List ℕ) → isAccepted (read t .verdict) ≡ true → read t .report ≡ copy (take 1 (groupsFrom t 0))) → ⊥
   no-first-group-reader copy by-first =
       apart
-      (sym record-one ∙ by-first oneText (rw (meets oneText, read-one)) ∙ ap copy same-first ∙ sym (by-first otherText (rw (meets otherText, read-other))) ∙ record-other)
+      (sym record-one ∙ by-first oneText (rw (meets oneText, read-one chosen)) ∙ ap copy same-first ∙ sym (by-first otherText (rw (meets otherText, read-other chosen))) ∙ record-other)
 
 -- ---- the writer
 
@@ -140,11 +141,11 @@ isDone (answer.Refused f) = false
 abbrev blanks : List ℕ
 blanks = replicate 23 0
 
-fine-one : judgeOf one ≡ judged.Fine
-fine-one = fair-fine fair-one
+fine-one : (chosen : Edition) → judgeIn chosen one ≡ judged.Fine
+fine-one chosen = fair-fine (fair-one chosen)
 
-fine-other : judgeOf other ≡ judged.Fine
-fine-other = fair-fine fair-other
+fine-other : (chosen : Edition) → judgeIn chosen other ≡ judged.Fine
+fine-other chosen = fair-fine (fair-other chosen)
 
 room-one : length (canonicalOf one) ≤ length blanks
 room-one = rw text-one (omega arith)
@@ -152,25 +153,25 @@ room-one = rw text-one (omega arith)
 room-other : length (canonicalOf other) ≤ length blanks
 room-other = rw text-other (omega arith)
 
-module _ (write : Report → List ℕ → Written) (after : Report → List ℕ → List ℕ) (answers : (r : Report) (b : List ℕ) → write r b ≡ writtenOf r (length b))
-    (leaves : (r : Report) (b : List ℕ) → after r b ≡ bufferOf r b) where
+module _ (chosen : Edition) (write : Report → List ℕ → Written) (after : Report → List ℕ → List ℕ) (answers : (r : Report) (b : List ℕ) → write r b ≡ writtenIn chosen r (length b))
+    (leaves : (r : Report) (b : List ℕ) → after r b ≡ bufferIn chosen r b) where
   -- one refusing everything
   pub no-refusing-writer : ((r : Report) (b : List ℕ) → isDone (write r b) ≡ false) → ⊥
-  no-refusing-writer all = false≢true (sym (rw (answers one blanks, one-text one blanks fine-one room-one .0) at (all one blanks)))
+  no-refusing-writer all = false≢true (sym (rw (answers one blanks, one-text chosen one blanks (fine-one chosen) room-one .0) at (all one blanks)))
 
   buffer-one : after one blanks ≡ splice blanks 0 oneText
-  buffer-one = leaves one blanks ∙ one-text one blanks fine-one room-one .1 ∙ ap (splice blanks 0) text-one
+  buffer-one = leaves one blanks ∙ one-text chosen one blanks (fine-one chosen) room-one .1 ∙ ap (splice blanks 0) text-one
 
   buffer-other : after other blanks ≡ splice blanks 0 otherText
-  buffer-other = leaves other blanks ∙ one-text other blanks fine-other room-other .1 ∙ ap (splice blanks 0) text-other
+  buffer-other = leaves other blanks ∙ one-text chosen other blanks (fine-other chosen) room-other .1 ∙ ap (splice blanks 0) text-other
 
   -- one writing a fixed text
   pub no-fixed-text : (x : List ℕ) → ((r : Report) (b : List ℕ) → isDone (write r b) ≡ true → after r b ≡ splice b 0 x) → ⊥
   unfolding splice
   no-fixed-text x fixed =
       let e : splice blanks 0 oneText ≡ splice blanks 0 otherText =
-      sym buffer-one ∙ fixed one blanks (rw (answers one blanks, one-text one blanks fine-one room-one .0))
-      ∙ sym (fixed other blanks (rw (answers other blanks, one-text other blanks fine-other room-other .0))) ∙ buffer-other in
+      sym buffer-one ∙ fixed one blanks (rw (answers one blanks, one-text chosen one blanks (fine-one chosen) room-one .0))
+      ∙ sym (fixed other blanks (rw (answers other blanks, one-text chosen other blanks (fine-other chosen) room-other .0))) ∙ buffer-other in
       let d : _≡_ {A = ℕ} 68 71 = ap (λ (l : List ℕ). getD l 9 0) e in
       omega arith
 

@@ -24,6 +24,7 @@ use Rattle.record.specs.declared.values.Direction.the-variants as direction
 use Rattle.record.specs.declared.surface.Synop.{Synop}
 use Rattle.record.specs.declared.aerodrome.Extremes.{Extremes}
 use Rattle.record.specs.declared.aerodrome.Metar.{Metar}
+use Rattle.record.specs.declared.aerodrome.Edition.{Edition}
 use Rattle.record.specs.declared.aerodrome.Taf.{Taf}
 use Rattle.record.specs.Blank.{blankSynop}
 use Rattle.record.specs.Trend.{blankMetar}
@@ -49,13 +50,13 @@ use Rattle.report_record.specs.Record.{surfaceReport, observedReport, forecastR
 use Rattle.record.specs.Arrays.{MetarArrays, TafArrays}
 use Rattle.record.specs.Classes.{classDirection}
 use Rattle.record.specs.SilentSurface.{noSurface, isBlankSynop}
-use Rattle.record.specs.SilentAerodrome.{isBlankBody, noObservation, isBlankObservation, isBlankMetar, isBlankTaf}
+use Rattle.record.specs.SilentAerodrome.{isBlankBody, noObservation, isBlankObservation, isBlankMetar, isSameEdition, isBlankTaf}
 use Rattle.record.proofs.Near.{DirectionNear, degrees, directionFits, direction-near}
 use Rattle.record.proofs.Counted.{EachRead, none, more}
 use Rattle.record.proofs.SurfaceBlanks.{synop-blank}
-use Rattle.record.proofs.AerodromeBlanks.{metar-blank, taf-blank}
-use Rattle.report.specs.Read.{readOf}
-use Rattle.report.specs.Write.{judgeBy, judgeOf, canonicalOf, classedOf}
+use Rattle.record.proofs.AerodromeBlanks.{edition-same, same-edition, metar-blank, taf-blank}
+use Rattle.report.specs.Read.{readIn}
+use Rattle.report.specs.Write.{judgeBy, judgeIn, canonicalOf, classedOf}
 use Rattle.report_laws.proofs.ByName.{surfaceWord, observedWord, forecastWord, Named, SurfaceText, ObservedText, ForecastText, read-surface, read-observed, read-forecast}
 use Rattle.report_laws.proofs.Numbers.{Table, classOn, numbersOf, temperaturesOf, pressuresOf, observedBodies, forecastBodies, classUnitSpeed, speedsOf, extremeDirections, trendDirection, changeDirection, directionsOf, rainsOf, surface-numbers, observed-bodies, forecast-bodies, observed-numbers, forecast-numbers, bodies-speeds, trend-direction, change-direction, observed-directions, forecast-directions, amount-is}
 
@@ -67,20 +68,28 @@ pub record Arrays (r : Report) : Type 0 where
 
 -- ---- what is judged fine
 
-pub data Fair : Report → Type 0 where
-  surface : (s : Synop) → length (s .site .sign .letters) ≡ 9 → synop.judgeOf s ≡ judged.Fine → Fair (surfaceReport s)
-  observed : (m : Metar) → MetarArrays m → metar.judgeOf m ≡ judged.Fine → Fair (observedReport m)
-  forecast : (t : Taf) → TafArrays t → taf.judgeOf t ≡ judged.Fine → Fair (forecastReport t)
+-- in the edition that is chosen, which a TAF's record then names
+pub data Fair (chosen : Edition) : Report → Type 0 where
+  surface : (s : Synop) → length (s .site .sign .letters) ≡ 9 → synop.judgeOf s ≡ judged.Fine → Fair chosen (surfaceReport s)
+  observed : (m : Metar) → MetarArrays m → metar.judgeOf m ≡ judged.Fine → Fair chosen (observedReport m)
+  forecast : (t : Taf) → TafArrays t → chosen ≡ t .edition → taf.judgeOf t ≡ judged.Fine → Fair chosen (forecastReport t)
 
-same : {k k′ : Kind} {s s′ : Synop} {m m′ : Metar} {t t′ : Taf} → k ≡ k′ → s ≡ s′ → m ≡ m′ → t ≡ t′
-    → Fair (record { kind = k′; surface = s′; observed = m′; forecast = t′ }) → Fair (record { kind = k; surface = s; observed = m; forecast = t })
+same : {chosen : Edition} {k k′ : Kind} {s s′ : Synop} {m m′ : Metar} {t t′ : Taf} → k ≡ k′ → s ≡ s′ → m ≡ m′ → t ≡ t′
+    → Fair chosen (record { kind = k′; surface = s′; observed = m′; forecast = t′ }) → Fair chosen (record { kind = k; surface = s; observed = m; forecast = t })
 same a b c d x = rw (a, b, c, d) x
 
-pub fair : (r : Report) → Arrays r → judgeOf r ≡ judged.Fine → Fair r
-unfolding judgeOf
-fair r arrays e = go (r .kind) refl e
+-- the writer of an edition takes a TAF of that edition alone
+of-edition : (chosen : Edition) (t : Taf) → taf.judgeIn chosen t ≡ judged.Fine → (chosen ≡ t .edition) × (taf.judgeOf t ≡ judged.Fine)
+unfolding taf.judgeIn
+of-edition chosen t e =
+    let j = and-then (judge (isSameEdition chosen (t .edition)) true) (taf.judgeOf t) e in
+    (edition-same chosen (t .edition) (fine (isSameEdition chosen (t .edition)) true (j .0) .0), j .1)
+
+pub fair : (chosen : Edition) (r : Report) → Arrays r → judgeIn chosen r ≡ judged.Fine → Fair chosen r
+unfolding judgeIn
+fair chosen r arrays e = go (r .kind) refl e
   where
-    go : (k : Kind) → r .kind ≡ k → judgeBy k r ≡ judged.Fine → Fair r
+    go : (k : Kind) → r .kind ≡ k → judgeBy chosen k r ≡ judged.Fine → Fair chosen r
     go kind.Missing is e = impossible (cc)
     go kind.Surface is e =
         let j = and-then (judge (isBlankMetar (r .observed) && isBlankTaf (r .forecast)) true) (synop.judgeOf (r .surface)) e in
@@ -91,9 +100,10 @@ fair r arrays e = go (r .kind) refl e
         let b = both (isBlankSynop (r .surface)) (isBlankTaf (r .forecast)) (fine _ true (j .0) .0) in
         same is (synop-blank (r .surface) (arrays .sign) (b .0)) refl (taf-blank (r .forecast) (arrays .forecast) (b .1)) (observed (r .observed) (arrays .observed) (j .1))
     go kind.Forecast is e =
-        let j = and-then (judge (isBlankSynop (r .surface) && isBlankMetar (r .observed)) true) (taf.judgeOf (r .forecast)) e in
+        let j = and-then (judge (isBlankSynop (r .surface) && isBlankMetar (r .observed)) true) (taf.judgeIn chosen (r .forecast)) e in
+        let own = of-edition chosen (r .forecast) (j .1) in
         let b = both (isBlankSynop (r .surface)) (isBlankMetar (r .observed)) (fine _ true (j .0) .0) in
-        same is (synop-blank (r .surface) (arrays .sign) (b .0)) (metar-blank (r .observed) (arrays .observed) (b .1)) refl (forecast (r .forecast) (arrays .forecast) (j .1))
+        same is (synop-blank (r .surface) (arrays .sign) (b .0)) (metar-blank (r .observed) (arrays .observed) (b .1)) refl (forecast (r .forecast) (arrays .forecast) (own .0) (own .1))
 
 -- ---- it is read back
 
@@ -143,14 +153,14 @@ module _ (t : Taf) (arrays : TafArrays t) (e : taf.judgeOf t ≡ judged.Fine) wh
   unfolding taf.canonicalOf taf.groupsOf forecast-row.row hasPattern fits low high
   forecast-named = joined _ _ _ refl (taf-text.groups-sizes t arrays e) (omega (arith, taf-text.length-canonical t arrays e))
 
-  forecast-text : ForecastText (taf.canonicalOf t) (Done (length (taf.canonicalOf t)) (taf.classedOf t))
+  forecast-text : ForecastText (t .edition) (taf.canonicalOf t) (Done (length (taf.canonicalOf t)) (taf.classedOf t))
   forecast-text = record { named = forecast-named; comes = taf-text.read-canonical t arrays e }
 
-pub comes-back : {r : Report} → Fair r → readOf (canonicalOf r) ≡ accepted (length (canonicalOf r)) (classedOf r)
+pub comes-back : {chosen : Edition} {r : Report} → Fair chosen r → readIn chosen (canonicalOf r) ≡ accepted (length (canonicalOf r)) (classedOf r)
 unfolding canonicalOf classedOf
-comes-back (surface s nine e) = read-surface (surface-text s nine e)
-comes-back (observed m arrays e) = read-observed (observed-text m arrays e)
-comes-back (forecast t arrays e) = read-forecast (forecast-text t arrays e)
+comes-back {chosen} (surface s nine e) = read-surface chosen (surface-text s nine e)
+comes-back {chosen} (observed m arrays e) = read-observed chosen (observed-text m arrays e)
+comes-back (forecast t arrays own e) = rw own (read-forecast (t .edition) (forecast-text t arrays e))
 
 -- ---- and written again
 
@@ -166,23 +176,31 @@ blank-synop : isBlankSynop blankSynop ≡ true
 unfolding isBlankSynop noSurface
 blank-synop = refl
 
-pub fair-fine : {r : Report} → Fair r → judgeOf r ≡ judged.Fine
-unfolding judgeOf
+edition-fine : (chosen : Edition) (t : Taf) → chosen ≡ t .edition → taf.judgeOf t ≡ judged.Fine → taf.judgeIn chosen t ≡ judged.Fine
+unfolding taf.judgeIn
+edition-fine chosen t own e = rw (own, same-edition (t .edition), e)
+
+same-named : (t : Taf) → taf.classedOf t .edition ≡ t .edition
+unfolding taf.classedOf
+same-named t = refl
+
+pub fair-fine : {chosen : Edition} {r : Report} → Fair chosen r → judgeIn chosen r ≡ judged.Fine
+unfolding judgeIn
 fair-fine (surface s nine e) = rw (blank-metar, blank-taf, e)
 fair-fine (observed m arrays e) = rw (blank-synop, blank-taf, e)
-fair-fine (forecast t arrays e) = rw (blank-synop, blank-metar, e)
+fair-fine (forecast t arrays own e) = rw (blank-synop, blank-metar, edition-fine _ t own e)
 
-pub fine-again : {r : Report} → Fair r → judgeOf (classedOf r) ≡ judged.Fine
-unfolding judgeOf classedOf
+pub fine-again : {chosen : Edition} {r : Report} → Fair chosen r → judgeIn chosen (classedOf r) ≡ judged.Fine
+unfolding judgeIn classedOf
 fine-again (surface s nine e) = rw (blank-metar, blank-taf, synop-text.classed-fine s e)
 fine-again (observed m arrays e) = rw (blank-synop, blank-taf, metar-text.classed-fine m arrays e)
-fine-again (forecast t arrays e) = rw (blank-synop, blank-metar, taf-text.classed-fine t arrays e)
+fine-again (forecast t arrays own e) = rw (blank-synop, blank-metar, edition-fine _ (taf.classedOf t) (own ∙ sym (same-named t)) (taf-text.classed-fine t arrays e))
 
-pub text-again : {r : Report} → Fair r → canonicalOf (classedOf r) ≡ canonicalOf r
+pub text-again : {chosen : Edition} {r : Report} → Fair chosen r → canonicalOf (classedOf r) ≡ canonicalOf r
 unfolding canonicalOf classedOf
 text-again (surface s nine e) = synop-text.written-again s e
 text-again (observed m arrays e) = metar-text.written-again m arrays e
-text-again (forecast t arrays e) = taf-text.written-again t arrays e
+text-again (forecast t arrays own e) = taf-text.written-again t arrays e
 
 -- ---- field by field
 
@@ -191,51 +209,51 @@ pub data Kept : Report → Report → Type 0 where
   observed-kept : {m q : Metar} → metar-promise.RecordRead m q → Kept (observedReport m) (observedReport q)
   forecast-kept : {t q : Taf} → taf-promise.RecordRead t q → Kept (forecastReport t) (forecastReport q)
 
-pub kept : {r : Report} → Fair r → Kept r (classedOf r)
+pub kept : {chosen : Edition} {r : Report} → Fair chosen r → Kept r (classedOf r)
 unfolding classedOf
 kept (surface s nine e) = surface-kept (synop-promise.promise s nine e .1)
 kept (observed m arrays e) = observed-kept (metar-promise.promise m arrays e .1)
-kept (forecast t arrays e) = forecast-kept (taf-promise.promise t arrays e .1)
+kept (forecast t arrays own e) = forecast-kept (taf-promise.promise t arrays e .1)
 
 -- ---- each rounded number is the reading of its class
 
-pub numbers-back : (t : Table) {r : Report} → Fair r → numbersOf t (classedOf r) ≡ map (classOn t) (numbersOf t r)
+pub numbers-back : (t : Table) {chosen : Edition} {r : Report} → Fair chosen r → numbersOf t (classedOf r) ≡ map (classOn t) (numbersOf t r)
 unfolding classedOf synop.classedOf metar.classedOf metar.classObservation taf.classedOf observed-row.row forecast-row.row
 numbers-back t (surface s nine e) = surface-numbers t (s .surface) (synop.classedOf s .surface) refl refl
 numbers-back t (observed m arrays e) = observed-numbers t m (metar.classedOf m) refl (metar-promise.states-items m arrays e) (observed-bodies m (metar.classedOf m) refl (metar-promise.items-classed m arrays e))
-numbers-back t (forecast f arrays e) = forecast-numbers t f (taf.classedOf f) (forecast-bodies f (taf.classedOf f) refl (taf-promise.items-classed f arrays e))
+numbers-back t (forecast f arrays own e) = forecast-numbers t f (taf.classedOf f) (forecast-bodies f (taf.classedOf f) refl (taf-promise.items-classed f arrays e))
 
-pub speeds-back : {r : Report} → Fair r → speedsOf (classedOf r) ≡ map classUnitSpeed (speedsOf r)
+pub speeds-back : {chosen : Edition} {r : Report} → Fair chosen r → speedsOf (classedOf r) ≡ map classUnitSpeed (speedsOf r)
 unfolding classedOf metar.classedOf metar.classObservation taf.classedOf observed-row.row forecast-row.row
 speeds-back (surface s nine e) = refl
 speeds-back (observed m arrays e) =
     bodies-speeds (observedBodies m) (observedBodies (metar.classedOf m)) (observed-bodies m (metar.classedOf m) refl (metar-promise.items-classed m arrays e))
-speeds-back (forecast f arrays e) =
+speeds-back (forecast f arrays own e) =
     bodies-speeds (forecastBodies f) (forecastBodies (taf.classedOf f)) (forecast-bodies f (taf.classedOf f) refl (taf-promise.items-classed f arrays e))
 
-pub directions-back : {r : Report} → Fair r → directionsOf (classedOf r) ≡ map classDirection (directionsOf r)
+pub directions-back : {chosen : Edition} {r : Report} → Fair chosen r → directionsOf (classedOf r) ≡ map classDirection (directionsOf r)
 unfolding classedOf synop.classedOf metar.classedOf metar.classObservation taf.classedOf observed-row.row forecast-row.row
 directions-back (surface s nine e) = refl
 directions-back (observed m arrays e) = observed-directions m (metar.classedOf m) refl refl (metar-promise.items-classed m arrays e)
-directions-back (forecast f arrays e) = forecast-directions f (taf.classedOf f) refl (taf-promise.items-classed f arrays e)
+directions-back (forecast f arrays own e) = forecast-directions f (taf.classedOf f) refl (taf-promise.items-classed f arrays e)
 
-pub temperatures-back : {r : Report} → Fair r → temperaturesOf (classedOf r) ≡ map classTenths (temperaturesOf r)
+pub temperatures-back : {chosen : Edition} {r : Report} → Fair chosen r → temperaturesOf (classedOf r) ≡ map classTenths (temperaturesOf r)
 unfolding classedOf metar.classedOf metar.classObservation observed-row.row
 temperatures-back (surface s nine e) = refl
 temperatures-back (observed m arrays e) = refl
-temperatures-back (forecast f arrays e) = refl
+temperatures-back (forecast f arrays own e) = refl
 
-pub pressures-back : {r : Report} → Fair r → pressuresOf (classedOf r) ≡ map classPressure (pressuresOf r)
+pub pressures-back : {chosen : Edition} {r : Report} → Fair chosen r → pressuresOf (classedOf r) ≡ map classPressure (pressuresOf r)
 unfolding classedOf metar.classedOf metar.classObservation observed-row.row
 pressures-back (surface s nine e) = refl
 pressures-back (observed m arrays e) = refl
-pressures-back (forecast f arrays e) = refl
+pressures-back (forecast f arrays own e) = refl
 
-pub rains-back : {r : Report} → Fair r → rainsOf (classedOf r) ≡ map roundedRain (rainsOf r)
+pub rains-back : {chosen : Edition} {r : Report} → Fair chosen r → rainsOf (classedOf r) ≡ map roundedRain (rainsOf r)
 unfolding classedOf synop.classedOf
 rains-back (surface s nine e) = amount-is (s .surface .rainfall .is)
 rains-back (observed m arrays e) = refl
-rains-back (forecast f arrays e) = refl
+rains-back (forecast f arrays own e) = refl
 
 -- ---- each direction is near the one that is read back
 
@@ -275,14 +293,14 @@ append-near : {A : Type 0} {R : A → A → Type 0} {xs ys us vs : List A} → E
 append-near none b = b
 append-near (more x a) b = more x (append-near a b)
 
-pub directions-near : {r : Report} → Fair r → EachRead DirectionNear (directionsOf r) (directionsOf (classedOf r))
+pub directions-near : {chosen : Edition} {r : Report} → Fair chosen r → EachRead DirectionNear (directionsOf r) (directionsOf (classedOf r))
 unfolding classedOf
 directions-near (surface s nine e) = more (synop-promise.promise s nine e .1 .surface .direction) none
 directions-near (observed m arrays e) =
     let p = metar-promise.promise m arrays e .1 in
     let changes = items-near trendDirection trend.classChange trend-direction (λ c d r. r .body .wind .direction) (m .trend .count) (m .trend .items) (metar.classedOf m .trend .items) (metar-promise.items-classed m arrays e) (p .changes) (p .past) in
     more (p .observation .body .wind .direction) (append-near (extremes-near (p .observation .variation)) changes)
-directions-near (forecast f arrays e) =
+directions-near (forecast f arrays own e) =
     let p = taf-promise.promise f arrays e .1 in
-    let changes = items-near changeDirection taf.classChange change-direction (λ c d r. r .body .wind .direction) (f .changes .count) (f .changes .items) (taf.classedOf f .changes .items) (taf-promise.items-classed f arrays e) (p .changes) (p .past) in
+    let changes = items-near changeDirection (taf.classChange (f .edition)) (change-direction (f .edition)) (λ c d r. r .body .wind .direction) (f .changes .count) (f .changes .items) (taf.classedOf f .changes .items) (taf-promise.items-classed f arrays e) (p .changes) (p .past) in
     more (p .body .wind .direction) changes

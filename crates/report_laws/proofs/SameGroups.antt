@@ -35,6 +35,8 @@ use Rattle.places.specs.Parts.{Exits, stepBy, carryTo, runTo, Begun, Word, Ends
 use Rattle.record.specs.declared.surface.Surface.{Surface}
 use Rattle.record.specs.declared.surface.Synop.{Synop}
 use Rattle.record.specs.Observation.{blankObservation}
+use Rattle.record.specs.declared.aerodrome.Edition.{Edition}
+use Rattle.record.specs.declared.aerodrome.Edition.the-variants as edition
 use Rattle.record.specs.Taf.{blankLeg}
 use Rattle.synop_row.specs.Row as synop-row
 use Rattle.synop_section.specs.Answer.{begun, ontoReport, section}
@@ -52,7 +54,7 @@ use Rattle.report_record.specs.declared.kinds.Stands.{Stands}
 use Rattle.report_record.specs.declared.kinds.Stands.the-variants as stands
 use Rattle.report_record.specs.Kinship.{isObserved, isForecast, metarCorrects, tafCorrects, corrects, judgeStanding}
 use Rattle.report_record.specs.Record.{blankReport, surfaceReport, observedReport, forecastReport, accepted, refused}
-use Rattle.report.specs.Read.{word, nameBy, firstName, nameOf, answered, readAs, readOf}
+use Rattle.report.specs.Read.{word, nameBy, firstName, nameOf, answered, readAs, readIn, readOf}
 use Rattle.report.specs.Standing.{standsOf, PartStanding}
 use Rattle.report.proofs.Names.{behind-first}
 use Rattle.report_laws.proofs.ByName.{Named, AcceptedAs, a-surface, an-observed, a-forecast, accepted-as}
@@ -192,9 +194,9 @@ module _ (J : Type 0) {u v : Tail} (tails : Tails J u v) (m n : ℕ) where
   unfolding metar.groupsRead
   observed-alike s = report-alike trend.parts 3 metar.mainPart blankObservation s
 
-  forecast-alike : {gs hs : List Piece} → Same gs hs → Alike J (taf.groupsRead u m gs) (taf.groupsRead v n hs)
+  forecast-alike : (chosen : Edition) {gs hs : List Piece} → Same gs hs → Alike J (taf.groupsRead chosen u m gs) (taf.groupsRead chosen v n hs)
   unfolding taf.groupsRead
-  forecast-alike s = report-alike taf.changes 16 taf.mainPart blankLeg s
+  forecast-alike chosen s = report-alike (taf.changes chosen) 16 (taf.mainPart chosen) blankLeg s
 
   -- ---- SYNOP and SHIP
   section-alike : (r : Synop) {gs hs : List Piece} → Same gs hs → Alike J (section r u m gs) (section r v n hs)
@@ -258,10 +260,10 @@ named start end a b c d e =
     cond a (name.Surface false end)
     (cond b (name.Surface true end) (cond c (name.Observed false end) (cond d (name.Observed true end) (cond e (name.Forecast end) (name.Refused refusal.Kind start)))))
 
-module _ (J : Type 0) (t u : List ℕ) (tails : Tails J (tailOf t) (tailOf u)) where
+module _ (chosen : Edition) (J : Type 0) (t u : List ℕ) (tails : Tails J (tailOf t) (tailOf u)) where
   -- by the word that the first group is
   by-word : (g : Group) (p q : ℕ) (gs hs : List Piece) → Same gs hs → groupsFrom t 0 ≡ piece p g ∷ gs → groupsFrom u 0 ≡ piece q g ∷ hs
-      → Answers J (readAs t (nameBy g p (p + length g))) (readAs u (nameBy g q (q + length g)))
+      → Answers J (readAs chosen t (nameBy g p (p + length g))) (readAs chosen u (nameBy g q (q + length g)))
   by-word g p q gs hs s here there = go (word "AAXX" g) (word "BBXX" g) (word "METAR" g) (word "SPECI" g) (word "TAF" g)
     where
       all : Same (groupsFrom t 0) (groupsFrom u 0)
@@ -270,20 +272,20 @@ module _ (J : Type 0) (t u : List ℕ) (tails : Tails J (tailOf t) (tailOf u)) w
       behind : Same (groupsFrom t (p + length g)) (groupsFrom u (q + length g))
       behind = rw (behind-first t (piece p g) gs here, behind-first u (piece q g) hs there) s
 
-      go : (a b c d e : Bool) → Answers J (readAs t (named p (p + length g) a b c d e)) (readAs u (named q (q + length g) a b c d e))
+      go : (a b c d e : Bool) → Answers J (readAs chosen t (named p (p + length g) a b c d e)) (readAs chosen u (named q (q + length g) a b c d e))
       go true b c d e = answers surfaceReport (surface-alike J tails (length t) (length u) false behind)
       go false true c d e = answers surfaceReport (surface-alike J tails (length t) (length u) true behind)
       go false false true d e = answers observedReport (observed-alike J tails (length t) (length u) all)
       go false false false true e = answers observedReport (observed-alike J tails (length t) (length u) all)
-      go false false false false true = answers forecastReport (forecast-alike J tails (length t) (length u) all)
+      go false false false false true = answers forecastReport (forecast-alike J tails (length t) (length u) chosen all)
       go false false false false false = no-both refusal.Kind p q
 
   same-answers : bytesOf t ≡ judgement.Sound → bytesOf u ≡ judgement.Sound
-      → groupBytes (groupsFrom t 0) ≡ groupBytes (groupsFrom u 0) → Answers J (readOf t) (readOf u)
-  unfolding readOf nameOf
+      → groupBytes (groupsFrom t 0) ≡ groupBytes (groupsFrom u 0) → Answers J (readIn chosen t) (readIn chosen u)
+  unfolding readIn nameOf
   same-answers sound sound′ same = rw (sound, sound′) (go (groupsFrom t 0) (groupsFrom u 0) refl refl (same-bytes (groupsFrom t 0) (groupsFrom u 0) same))
     where
-      go : (gs hs : List Piece) → groupsFrom t 0 ≡ gs → groupsFrom u 0 ≡ hs → Same gs hs → Answers J (readAs t (firstName gs)) (readAs u (firstName hs))
+      go : (gs hs : List Piece) → groupsFrom t 0 ≡ gs → groupsFrom u 0 ≡ hs → Same gs hs → Answers J (readAs chosen t (firstName gs)) (readAs chosen u (firstName hs))
       go _ _ here there none = no-both refusal.Kind 0 0
       go _ _ here there (more g p q gs hs s) = by-word g p q gs hs s here there
 
@@ -317,10 +319,10 @@ refused-too (both-refused g p p′) f (at, e) =
 
 -- Of both the length and the bytes are those that a text may have, so that neither is refused 1 or 2; group by group they have the same bytes; and something
 -- other than parting bytes follows the "=" of both or of neither. What stands between the groups, before them and behind them is free: space, CR, LF.
-module _ (t u : List ℕ) (sound : bytesOf t ≡ judgement.Sound) (sound′ : bytesOf u ≡ judgement.Sound)
+module _ (chosen : Edition) (t u : List ℕ) (sound : bytesOf t ≡ judgement.Sound) (sound′ : bytesOf u ≡ judgement.Sound)
     (same : groupBytes (groupsFrom t 0) ≡ groupBytes (groupsFrom u 0)) where
-  pub alike-anyway : Exactly (tailOf t ≡ Clear) (tailOf u ≡ Clear) → ReadAlike (readOf t) (readOf u)
-  alike-anyway both = go (same-answers ⊥ t u (tails (tailOf t) (tailOf u) (both .only) (both .all)) sound sound′ same)
+  pub alike-anyway : Exactly (tailOf t ≡ Clear) (tailOf u ≡ Clear) → ReadAlike (readIn chosen t) (readIn chosen u)
+  alike-anyway both = go (same-answers chosen ⊥ t u (tails (tailOf t) (tailOf u) (both .only) (both .all)) sound sound′ same)
     where
       tails : (v w : Tail) → (v ≡ Clear → w ≡ Clear) → (w ≡ Clear → v ≡ Clear) → Tails ⊥ v w
       tails Clear Clear f h = clear
@@ -335,11 +337,11 @@ module _ (t u : List ℕ) (sound : bytesOf t ≡ judgement.Sound) (sound′ : by
 
   -- nothing follows the "=" of either
   module _ (clean : tailOf t ≡ Clear) (clean′ : tailOf u ≡ Clear) where
-    pub groups-decide : ReadAlike (readOf t) (readOf u)
+    pub groups-decide : ReadAlike (readIn chosen t) (readIn chosen u)
     groups-decide = alike-anyway (record { only = λ e. clean′; all = λ e. clean })
 
     -- the records are equal
-    pub records-equal : readOf t .report ≡ readOf u .report
+    pub records-equal : readIn chosen t .report ≡ readIn chosen u .report
     records-equal = go groups-decide
       where
         go : {a b : Reading} → ReadAlike a b → a .report ≡ b .report
@@ -347,14 +349,14 @@ module _ (t u : List ℕ) (sound : bytesOf t ≡ judgement.Sound) (sound′ : by
         go (both-refused f at at′) = refl
 
     -- the one is accepted, with a record, exactly when the other is, and refused for a cause exactly when the other is
-    pub accepted-both : (r : Report) → Exactly (AcceptedWith r (readOf t)) (AcceptedWith r (readOf u))
+    pub accepted-both : (r : Report) → Exactly (AcceptedWith r (readIn chosen t)) (AcceptedWith r (readIn chosen u))
     accepted-both r = record { only = accepted-too groups-decide r; all = accepted-too (turn groups-decide) r }
 
-    pub refused-both : (f : Refusal) → Exactly (RefusedFor f (readOf t)) (RefusedFor f (readOf u))
+    pub refused-both : (f : Refusal) → Exactly (RefusedFor f (readIn chosen t)) (RefusedFor f (readIn chosen u))
     refused-both f = record { only = refused-too groups-decide f; all = refused-too (turn groups-decide) f }
 
     -- in the paper's numbers, 0 of an accepted text
-    pub numbers-equal : verdictNumbers (readOf t .verdict) .refusal ≡ verdictNumbers (readOf u .verdict) .refusal
+    pub numbers-equal : verdictNumbers (readIn chosen t .verdict) .refusal ≡ verdictNumbers (readIn chosen u .verdict) .refusal
     numbers-equal = go groups-decide
       where
         go : {a b : Reading} → ReadAlike a b → verdictNumbers (a .verdict) .refusal ≡ verdictNumbers (b .verdict) .refusal
@@ -654,14 +656,14 @@ module _ (t : List ℕ) where
       go false h = refl
 
 -- A text that has a group and nothing but parting bytes behind its "=", and its trimmed part, are read alike.
-pub trimmed-alike : (t : List ℕ) → bytesOf t ≡ judgement.Sound → tailOf t ≡ Clear → isBare t ≡ false → ReadAlike (readOf t) (readOf (trimmedOf t))
-trimmed-alike t sound clean some =
+pub trimmed-alike : (chosen : Edition) (t : List ℕ) → bytesOf t ≡ judgement.Sound → tailOf t ≡ Clear → isBare t ≡ false → ReadAlike (readIn chosen t) (readIn chosen (trimmedOf t))
+trimmed-alike chosen t sound clean some =
     let m = trim t (not-bare t some) in
-    groups-decide t (trimmedOf t) sound (m .sound sound) (sym (m .groups)) clean (m .clean)
+    groups-decide chosen t (trimmedOf t) sound (m .sound sound) (sym (m .groups)) clean (m .clean)
 
 -- OF EVERY ACCEPTED TEXT, whatever its kind and whatever follows its "=" in an unread rest, the trimmed part is accepted too, with the same record.
-pub trimmed-alone : (t : List ℕ) (r : Report) → AcceptedWith r (readOf t) → AcceptedWith r (readOf (trimmedOf t))
-trimmed-alone t r (rest, e) = by-kind r (accepted-as t rest r e) e
+pub trimmed-alone : (chosen : Edition) (t : List ℕ) (r : Report) → AcceptedWith r (readIn chosen t) → AcceptedWith r (readIn chosen (trimmedOf t))
+trimmed-alone chosen t r (rest, e) = by-kind r (accepted-as chosen t rest r e) e
   where
     freely : (v w : Tail) → w ≡ Clear → Tails (Unit {0}) v w
     freely Clear w e = rw e clear
@@ -672,12 +674,12 @@ trimmed-alone t r (rest, e) = by-kind r (accepted-as t rest r e) e
     given (no-both f a b) q e = let v : verdict.Refused f a ≡ verdict.Accepted rest = ap (λ (x : Reading). x .verdict) e in impossible (cc)
     given (no-first j a x) q e = let v : verdict.Refused refusal.Shape a ≡ verdict.Accepted rest = ap (λ (x : Reading). x .verdict) e in impossible (cc)
 
-    by-name : {w : Pattern} → Named t w → (q : Report) → readOf t ≡ accepted rest q → AcceptedWith q (readOf (trimmedOf t))
+    by-name : {w : Pattern} → Named t w → (q : Report) → readIn chosen t ≡ accepted rest q → AcceptedWith q (readIn chosen (trimmedOf t))
     by-name n q e =
         let m = trim t (not-bare t (some-group t (n .first) (n .others) (n .groups))) in
-        given (same-answers (Unit {0}) t (trimmedOf t) (freely (tailOf t) (tailOf (trimmedOf t)) (m .clean)) (n .sound) (m .sound (n .sound)) (sym (m .groups))) q e
+        given (same-answers chosen (Unit {0}) t (trimmedOf t) (freely (tailOf t) (tailOf (trimmedOf t)) (m .clean)) (n .sound) (m .sound (n .sound)) (sym (m .groups))) q e
 
-    by-kind : (q : Report) → AcceptedAs t rest q → readOf t ≡ accepted rest q → AcceptedWith q (readOf (trimmedOf t))
+    by-kind : (q : Report) → AcceptedAs chosen t rest q → readIn chosen t ≡ accepted rest q → AcceptedWith q (readIn chosen (trimmedOf t))
     by-kind _ (a-surface s x) e = by-name (x .named) (surfaceReport s) e
     by-kind _ (an-observed s x) e = by-name (x .named) (observedReport s) e
     by-kind _ (a-forecast s x) e = by-name (x .named) (forecastReport s) e
@@ -708,19 +710,19 @@ pub says-again : (t part : List ℕ) → SaysAgain t part → readOf part .repor
 says-again t part (r, (rest, e), (rest′, f)) = ap (λ (a : Reading). a .report) f ∙ sym (ap (λ (a : Reading). a .report) e)
 
 again : (t : List ℕ) (rest : ℕ) (r : Report) → readOf t ≡ accepted rest r → SaysAgain t (trimmedOf t)
-again t rest r e = (r, (rest, e), trimmed-alone t r (rest, e))
+again t rest r e = (r, (rest, e), trimmed-alone edition.Present t r (rest, e))
 
 -- a refused text has a blank record, by which it does not stand
 module _ (t : List ℕ) (q : Report) where
   if-accepted : ((judgeStanding blankReport q ≡ stands.First) → ⊥) → judgeStanding (readOf t .report) q ≡ stands.First → SaysAgain t (trimmedOf t)
-  if-accepted never e = go (readOf t) refl (every-text t) e
+  if-accepted never e = go (readOf t) refl (every-text edition.Present t) e
     where
       go : (a : Reading) → readOf t ≡ a → Answered a → judgeStanding (a .report) q ≡ stands.First → SaysAgain t (trimmedOf t)
       go _ is (yes rest r) e = again t rest r is
       go _ is (no f at) e = absurd (never e)
 
   if-corrected : ((judgeStanding q blankReport ≡ stands.Second) → ⊥) → judgeStanding q (readOf t .report) ≡ stands.Second → SaysAgain t (trimmedOf t)
-  if-corrected never e = go (readOf t) refl (every-text t) e
+  if-corrected never e = go (readOf t) refl (every-text edition.Present t) e
     where
       go : (a : Reading) → readOf t ≡ a → Answered a → judgeStanding q (a .report) ≡ stands.Second → SaysAgain t (trimmedOf t)
       go _ is (yes rest r) e = again t rest r is
@@ -858,10 +860,10 @@ unfolding groupsFrom
 respaced-length t = omega (arith, length-join (groupBytes (groupsFrom t 0)), parted-length 0 t .0)
 
 -- A text and its groups in canonical spacing are read alike, if those have room in a text: they have where it has less than 2,048 bytes.
-pub spacing-free : (t : List ℕ) → bytesOf t ≡ judgement.Sound → tailOf t ≡ Clear → length (respaced t) ≤ 2048 → ReadAlike (readOf t) (readOf (respaced t))
+pub spacing-free : (chosen : Edition) (t : List ℕ) → bytesOf t ≡ judgement.Sound → tailOf t ≡ Clear → length (respaced t) ≤ 2048 → ReadAlike (readIn chosen t) (readIn chosen (respaced t))
 unfolding groupsFrom
-spacing-free t sound clean fits =
+spacing-free chosen t sound clean fits =
     let gs = groupBytes (groupsFrom t 0) in
     let whole = cut-wholes 0 0 t in
     let fine = join-sound gs (cut-everywhere allowed 0 0 t (every-all allowed t (sound-told t sound .1))) fits in
-    groups-decide t (join gs) sound fine (sym (round-trip-bytes gs whole)) clean (join-tail gs whole)
+    groups-decide chosen t (join gs) sound fine (sym (round-trip-bytes gs whole)) clean (join-tail gs whole)

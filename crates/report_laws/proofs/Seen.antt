@@ -34,13 +34,14 @@ use Rattle.seen_values.proofs.DegreesLaws.{degrees-seen}
 use Rattle.record.specs.Missing.{optional}
 use Rattle.record.specs.declared.values.Number.the-variants as number
 use Rattle.record.specs.declared.values.Tenths.the-variants as tenths
+use Rattle.record.specs.declared.aerodrome.Edition.{Edition}
 use Rattle.record.specs.declared.aerodrome.Metar.{Metar}
 use Rattle.record.specs.Arrays.{MetarArrays}
 use Rattle.aerodrome_groups.specs.Temperatures.{classTenths, classPressure, tenthsFit, isPressure, judgeTemperatures, judgeQnh}
 use Rattle.metar.specs.Write as metar
 use Rattle.metar_laws.proofs.Report.{fair-observation, fair-bare}
 use Rattle.report_record.specs.declared.kinds.Report.{Report}
-use Rattle.report.specs.Write.{judgeOf}
+use Rattle.report.specs.Write.{judgeIn}
 use Rattle.report_laws.proofs.Numbers.{Table, visibility, Figures, scaleOf, sameOf, lawsOf, footOn, classOn, numbersOf, temperaturesOf, pressuresOf, read-at}
 use Rattle.report_laws.proofs.RoundTrip.{Arrays, Fair, surface, observed, forecast, fair}
 use Rattle.report_laws.proofs.Demands.{Exactly, back, classes-read, temperatures-read, pressures-read}
@@ -75,17 +76,17 @@ module _ (m : Metar) (arrays : MetarArrays m) (e : metar.judgeOf m ≡ judged.Fi
       go true n = rw (fair-bare m arrays e n .qnh)
       go false n = judging.fine (optional isPressure (m .observation .qnh .is)) true (fair-observation m e n .qnh) .0
 
-all-temperatures : {r : Report} → Fair r → every tenthsFit (temperaturesOf r) ≡ true
+all-temperatures : {chosen : Edition} {r : Report} → Fair chosen r → every tenthsFit (temperaturesOf r) ≡ true
 all-temperatures (surface s nine e) = refl
 all-temperatures (observed m arrays e) =
     let b = and-eq-true-iff (tenthsFit (m .observation .temperatures .air)) (tenthsFit (m .observation .temperatures .dew)) .0 (temperatures-fit m arrays e) in
     rw (b .0, b .1)
-all-temperatures (forecast t arrays e) = refl
+all-temperatures (forecast t arrays own e) = refl
 
-all-pressures : {r : Report} → Fair r → every (optional isPressure) (pressuresOf r) ≡ true
+all-pressures : {chosen : Edition} {r : Report} → Fair chosen r → every (optional isPressure) (pressuresOf r) ≡ true
 all-pressures (surface s nine e) = refl
 all-pressures (observed m arrays e) = rw (pressure-fits m arrays e)
-all-pressures (forecast t arrays e) = refl
+all-pressures (forecast t arrays own e) = refl
 
 one-of : {A : Type 0} (ok : A → Bool) (none : A) → ok none ≡ true → (xs : List A) (i : ℕ) → every ok xs ≡ true → ok (getD xs i none) ≡ true
 one-of ok none z [] i e = z
@@ -101,11 +102,11 @@ minus-zero-written t h z =
 
 -- ==== Nothing nearer below. Of an accepted record, v is the number at one place among its numbers of a scale, and w what stands there once its text was read.
 
-module _ (r : Report) (arrays : Arrays r) (fine : judgeOf r ≡ judged.Fine) (i : ℕ) where
-  module _ (t : Table) (v w : ℕ) (is : getD (numbersOf t r) i number.Missing ≡ number.Is v) (read : getD (numbersOf t (back r)) i number.Missing ≡ number.Is w) where
+module _ (chosen : Edition) (r : Report) (arrays : Arrays r) (fine : judgeIn chosen r ≡ judged.Fine) (i : ℕ) where
+  module _ (t : Table) (v w : ℕ) (is : getD (numbersOf t r) i number.Missing ≡ number.Is v) (read : getD (numbersOf t (back chosen r)) i number.Missing ≡ number.Is w) where
     number-read : footOn t v ≡ w
     number-read =
-        let e : number.Is (footOn t v) ≡ number.Is w = came-back number.Missing (classOn t) refl (numbersOf t r) (classes-read r arrays fine t) i is read in
+        let e : number.Is (footOn t v) ≡ number.Is w = came-back number.Missing (classOn t) refl (numbersOf t r) (classes-read chosen r arrays fine t) i is read in
         cc
 
     -- "no figure of that same scale has a reading greater than the one written and still not above the observation"
@@ -118,15 +119,15 @@ module _ (r : Report) (arrays : Arrays r) (fine : judgeOf r ≡ judged.Fine) (i 
     number-within = metres.seen-exactly (lawsOf t) w v .0 number-read
 
   -- the same of Q, in tenths of hPa
-  module _ (v w : ℕ) (is : getD (pressuresOf r) i number.Missing ≡ number.Is v) (read : getD (pressuresOf (back r)) i number.Missing ≡ number.Is w) where
+  module _ (v w : ℕ) (is : getD (pressuresOf r) i number.Missing ≡ number.Is v) (read : getD (pressuresOf (back chosen r)) i number.Missing ≡ number.Is w) where
     pressure-is : roundedPressure v ≡ w
     pressure-is =
-        let e : number.Is (roundedPressure v) ≡ number.Is w = came-back number.Missing classPressure refl (pressuresOf r) (pressures-read r arrays fine) i is read in
+        let e : number.Is (roundedPressure v) ≡ number.Is w = came-back number.Missing classPressure refl (pressuresOf r) (pressures-read chosen r arrays fine) i is read in
         cc
 
     pressure-fit : v ≤ 99999
     pressure-fit =
-        let o : isPressure v ≡ true = rw is at (one-of (optional isPressure) number.Missing refl (pressuresOf r) i (all-pressures (fair r arrays fine))) in
+        let o : isPressure v ≡ true = rw is at (one-of (optional isPressure) number.Missing refl (pressuresOf r) i (all-pressures (fair chosen r arrays fine))) in
         leb-true v 99999 (and-eq-true-iff (leb 0 v) (leb v 99999) .0 o .1)
 
     pub pressure-nothing-nearer : (g n : ℕ) → pressureReading g ≡ reading.Is n → w < n → n ≤ v → ⊥
@@ -138,14 +139,14 @@ module _ (r : Report) (arrays : Arrays r) (fine : judgeOf r ≡ judged.Fine) (i 
     pressure-within = rounded.pressure-seen w v pressure-fit .0 pressure-is
 
   -- Aerodrome temperature: "no writable whole degree is nearer to the observation, M00 aside"; in tenths.
-  module _ (v w : ℤ) (is : getD (temperaturesOf r) i tenths.Missing ≡ tenths.Is v) (read : getD (temperaturesOf (back r)) i tenths.Missing ≡ tenths.Is w) where
+  module _ (v w : ℤ) (is : getD (temperaturesOf r) i tenths.Missing ≡ tenths.Is v) (read : getD (temperaturesOf (back chosen r)) i tenths.Missing ≡ tenths.Is w) where
     temperature-is : roundedDegrees v ≡ w
     temperature-is =
-        let e : tenths.Is (roundedDegrees v) ≡ tenths.Is w = came-back tenths.Missing classTenths refl (temperaturesOf r) (temperatures-read r arrays fine) i is read in
+        let e : tenths.Is (roundedDegrees v) ≡ tenths.Is w = came-back tenths.Missing classTenths refl (temperaturesOf r) (temperatures-read chosen r arrays fine) i is read in
         cc
 
     temperature-fits : degreesFit v ≡ true
-    temperature-fits = rw is at (one-of tenthsFit tenths.Missing refl (temperaturesOf r) i (all-temperatures (fair r arrays fine)))
+    temperature-fits = rw is at (one-of tenthsFit tenths.Missing refl (temperaturesOf r) i (all-temperatures (fair chosen r arrays fine)))
 
     pub temperature-nothing-nearer : (degreesOf v ≡ degrees.Is true 0 → ⊥) → (k : ℤ) → farApart v w ≤ farApart v (k *ℤ pos 10)
     temperature-nothing-nearer n k = rw temperature-is at (no-degree-nearer v (whole (isMinusZero v) refl) k)

@@ -30,7 +30,7 @@ fn kind_by(verdict: Verdict, kind: Kind) -> Kind
 }
 
 // A report of this kind in which nothing is said: the parts that a reading does not fill.
-fn blank_report(kind: Kind) -> Report
+pub fn blank_report(kind: Kind) -> Report
     ensures { λ r. ⌜ r ≡ reportOf kind blankSynop blankMetar blankTaf ⌝ }
 {
     let surface = blank_synop();

@@ -11,6 +11,7 @@ use Rattle.text.specs.declared.kinds.Refusal.the-variants as refusal
 use Rattle.places.specs.Engine.{Group, Good, then, placeAt}
 use Rattle.record.specs.declared.aerodrome.Body.{Body}
 use Rattle.record.specs.declared.aerodrome.Leg.{Leg}
+use Rattle.record.specs.declared.aerodrome.Edition.{Edition}
 use Rattle.record.specs.Taf.{setTime, setPeriod, setBody}
 use Rattle.elements.specs.declared.kinds.Said.{Said}
 use Rattle.elements.specs.declared.kinds.Said.the-variants as said
@@ -23,7 +24,7 @@ use Rattle.body.proofs.Variants.{each, by-tag, never}
 use Rattle.body.proofs.Says.{value-says, body-says, past-says}
 use Rattle.taf_row.specs.declared.kinds.Part.{Part}
 use Rattle.taf_row.proofs.Rows.{row-length}
-use Rattle.taf_row.specs.Row.{isMain, isWhole, forecastIn, readPeriod, row}
+use Rattle.taf_row.specs.Row.{isMain, isWhole, forecastIn, ownForm, changeForm, readPeriod, row}
 use Rattle.taf.specs.Said.{ontoBody, partSaid, Says}
 
 -- ---- what a group says
@@ -45,22 +46,27 @@ pub nsw-asked : (w : Part) {m : Bool} {j k : ℕ} {g : Group} {b : Body} {x : Sa
 nsw-asked w e s = rw (← e) s
 
 -- in a part that has the body that was seen
-module _ (w : Part) (k : ℕ) (g : Group) (b : Body) where
+module _ (e : Edition) (w : Part) (k : ℕ) (g : Group) (b : Body) where
   abbrev seen : Leg → Type 0
   seen r = r .body ≡ b
 
   pub says-body : (i j : ℕ) {x : Said} → BodySays true (not (isMain w)) false j k g b x
-      → ((r : Leg) → placeAt (row w) i .read k g r ≡ then (placeAt (bodyRow (forecastIn w)) j .read k g (r .body)) (λ b. Good (setBody b r))) → Says w i k g b x
-  says-body i j s reads = body-says (row w) partSaid seen k g (λ r. r .body) setBody b (λ r is. is) (of-body k g) i s (λ r is. (isWhole w, false, reads r))
+      → ((r : Leg) → placeAt (row e w) i .read k g r ≡ then (placeAt (bodyRow (forecastIn w)) j .read k g (r .body)) (λ b. Good (setBody b r))) → Says e w i k g b x
+  says-body i j s reads = body-says (row e w) partSaid seen k g (λ r. r .body) setBody b (λ r is. is) (of-body k g) i s (λ r is. (isWhole w, false, reads r))
 
-  pub says-time : Says w 3 k g b (asSaid said.Time (readTime g))
+  pub says-time : Says e w 3 k g b (asSaid said.Time (readTime g))
   unfolding row partSaid
-  says-time = value-says (row w) partSaid seen k g 3 said.Time setTime (readTime g) (λ r a. refl) (λ r is. refl)
+  says-time = value-says (row e w) partSaid seen k g 3 said.Time setTime (readTime g) (λ r a. refl) (λ r is. refl)
 
-  pub says-period : Says w 5 k g b (asSaid said.Period (readPeriod g))
+  -- the report's own period, and a change's
+  pub says-own : Says e w 5 k g b (asSaid said.Period (readPeriod (ownForm e) g))
   unfolding row partSaid
-  says-period = value-says (row w) partSaid seen k g 5 said.Period setPeriod (readPeriod g) (λ r a. refl) (λ r is. refl)
+  says-own = value-says (row e w) partSaid seen k g 5 said.Period setPeriod (readPeriod (ownForm e) g) (λ r a. refl) (λ r is. refl)
+
+  pub says-change : Says e w 6 k g b (asSaid said.Period (readPeriod (changeForm e) g))
+  unfolding row partSaid
+  says-change = value-says (row e w) partSaid seen k g 6 said.Period setPeriod (readPeriod (changeForm e) g) (λ r a. refl) (λ r is. refl)
 
   -- past the row no group is taken
-  pub says-nothing : (i : ℕ) → 11 ≤ i → Says w i k g b (said.Refused refusal.Shape)
-  says-nothing i h = past-says (row w) partSaid seen k g i (rw (row-length w) h)
+  pub says-nothing : (i : ℕ) → 12 ≤ i → Says e w i k g b (said.Refused refusal.Shape)
+  says-nothing i h = past-says (row e w) partSaid seen k g i (rw (row-length e w) h)

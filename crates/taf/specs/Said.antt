@@ -6,6 +6,7 @@ use mathlib.Core.Bool.{true}
 use Rattle.places.specs.Engine.{Group}
 use Rattle.record.specs.declared.aerodrome.Body.{Body}
 use Rattle.record.specs.declared.aerodrome.Leg.{Leg}
+use Rattle.record.specs.declared.aerodrome.Edition.{Edition}
 use Rattle.record.specs.Taf.{setCorrection, setStation, setTime, setNil, setPeriod, setCancelled, setBody}
 use Rattle.elements.specs.declared.kinds.Said.{Said}
 use Rattle.elements.specs.declared.kinds.Said.the-variants as said
@@ -47,5 +48,5 @@ partSaid k g (said.State x) r = ontoBody k (said.State x) r
 partSaid k g said.Snoclo r = ontoBody k said.Snoclo r
 
 -- A group at place i of a part's row says this: put into any part with this body it is what the place reads.
-abbrev pub Says : Part → ℕ → ℕ → Group → Body → Said → Type 0
-Says w i k g b x = SaysAt (row w) partSaid (λ r. r .body ≡ b) i k g x
+abbrev pub Says : Edition → Part → ℕ → ℕ → Group → Body → Said → Type 0
+Says e w i k g b x = SaysAt (row e w) partSaid (λ r. r .body ≡ b) i k g x

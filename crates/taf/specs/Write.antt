@@ -22,15 +22,19 @@ use Rattle.record.specs.declared.aerodrome.Body.{Body}
 use Rattle.record.specs.declared.aerodrome.Leg.{Leg}
 use Rattle.record.specs.declared.aerodrome.Change.{Change}
 use Rattle.record.specs.declared.aerodrome.Changes.{Changes}
+use Rattle.record.specs.declared.aerodrome.Edition.{Edition}
+use Rattle.record.specs.declared.aerodrome.Edition.the-variants as edition
 use Rattle.record.specs.declared.aerodrome.Taf.{Taf}
 use Rattle.record.specs.Taf.{blankInstant, blankLeg, setPeriod, setBody}
 use Rattle.record.specs.Missing.{isMissing, present}
-use Rattle.record.specs.SilentAerodrome.{isBlankBody, noInstant, noPeriod, isBlankChange, noChanges}
+use Rattle.record.specs.SilentAerodrome.{isBlankBody, noInstant, noPeriod, isBlankChange, noChanges, isSameEdition}
 use Rattle.elements.specs.Body.{judgeBody}
-use Rattle.aerodrome_groups.specs.Head.{fieldOf, isDay, isHour, instantFits, judgeStation, judgeTime}
+use Rattle.aerodrome_groups.specs.Head.{fieldOf, isDay, isHour, isMinute, instantFits, judgeStation, judgeTime}
 use Rattle.taf_row.specs.declared.kinds.Part.{Part}
 use Rattle.taf_row.specs.declared.kinds.Part.the-variants as part
-use Rattle.taf_row.specs.Row.{elementStands, forecastIn, isEndHour, row}
+use Rattle.taf_row.specs.declared.kinds.Form.{Form}
+use Rattle.taf_row.specs.declared.kinds.Form.the-variants as form
+use Rattle.taf_row.specs.Row.{elementStands, forecastIn, ownForm, changeForm, isEndHour, row}
 use Rattle.taf.specs.Read.{isChance, partOf, changeOf}
 
 -- ---- a part: its body in written order; "A change body needs one element, under FM wind and visibility."
@@ -43,31 +47,42 @@ judgePart w b = andThen (judgeBody (forecastIn w) b) (judge (elementStands w b) 
 abbrev pub isHourOf : (ℕ → Bool) → Instant → Bool
 isHourOf hour t = present isDay (t .day) && present hour (t .hour) && isMissing (t .minute)
 
-abbrev pub periodFits : Period → Bool
-periodFits p = isHourOf isHour (p .from) && isHourOf isEndHour (p .to)
+-- where the form has no day, one that is there is out of place
+abbrev pub isHourAlone : (ℕ → Bool) → Instant → Bool
+isHourAlone hour t = isMissing (t .day) && present hour (t .hour) && isMissing (t .minute)
+
+abbrev pub periodFits : Form → Period → Bool
+periodFits form.BothDays p = isHourOf isHour (p .from) && isHourOf (isEndHour form.BothDays) (p .to)
+periodFits form.FirstDay p = isHourOf isHour (p .from) && isHourAlone (isEndHour form.FirstDay) (p .to)
+periodFits form.NoDay p = isHourAlone isHour (p .from) && isHourAlone (isEndHour form.NoDay) (p .to)
+
+-- the time of FM
+abbrev pub fromFits : Edition → Instant → Bool
+fromFits edition.Present t = instantFits t
+fromFits edition.Of2005 t = isMissing (t .day) && present isHour (t .hour) && present isMinute (t .minute)
 
 -- the opening and its period: under FM a time and no end, else a period without minutes
-abbrev pub openingFits : Opening → Period → Bool
-openingFits opening.None p = false
-openingFits opening.Becoming p = periodFits p
-openingFits opening.Temporary p = periodFits p
-openingFits (opening.Probable n) p = isChance n && periodFits p
-openingFits (opening.ProbablyTemporary n) p = isChance n && periodFits p
-openingFits opening.From p = instantFits (p .from) && noInstant (p .to)
+abbrev pub openingFits : Edition → Opening → Period → Bool
+openingFits e opening.None p = false
+openingFits e opening.Becoming p = periodFits (changeForm e) p
+openingFits e opening.Temporary p = periodFits (changeForm e) p
+openingFits e (opening.Probable n) p = isChance n && periodFits (changeForm e) p
+openingFits e (opening.ProbablyTemporary n) p = isChance n && periodFits (changeForm e) p
+openingFits e opening.From p = fromFits e (p .from) && noInstant (p .to)
 
 -- a change group's part as a leg, its head blank
 abbrev pub legOf : Change → Leg
 legOf c = setBody (c .body) (setPeriod (c .period) blankLeg)
 
-unfoldable pub judgeChange : Change → Judged
-judgeChange c = andThen (judge (openingFits (c .opening) (c .period)) true) (judgePart (partOf (c .opening)) (c .body))
+unfoldable pub judgeChange : Edition → Change → Judged
+judgeChange e c = andThen (judge (openingFits e (c .opening) (c .period)) true) (judgePart (partOf (c .opening)) (c .body))
 
-abbrev pub judgeEach : List Change → Judged
-judgeEach [] = judged.Fine
-judgeEach (c ∷ cs) = andThen (judgeChange c) (judgeEach cs)
+abbrev pub judgeEach : Edition → List Change → Judged
+judgeEach e [] = judged.Fine
+judgeEach e (c ∷ cs) = andThen (judgeChange e c) (judgeEach e cs)
 
-unfoldable pub judgeChanges : Changes → Judged
-judgeChanges cs = andThen (judge (leb (cs .count) 16 && every isBlankChange (drop (cs .count) (cs .items))) true) (judgeEach (take (cs .count) (cs .items)))
+unfoldable pub judgeChanges : Edition → Changes → Judged
+judgeChanges e cs = andThen (judge (leb (cs .count) 16 && every isBlankChange (drop (cs .count) (cs .items))) true) (judgeEach e (take (cs .count) (cs .items)))
 
 -- ---- foreign fields: a NIL report has nothing after its time, a cancelled one nothing after its period
 
@@ -78,40 +93,47 @@ foreignBlank t =
 
 -- ---- "The writer judges foreign fields first, then the others in written order, 11 before 7 at each"
 
+-- a record by its own edition
 unfoldable pub judgeOf : Taf → Judged
 judgeOf t =
     andThen (judge (foreignBlank t) true)
     (andThen (judgeStation (t .leg .station))
     (andThen (judgeTime (t .leg .time))
     (cond (t .leg .nil) judged.Fine
-    (andThen (judge (periodFits (t .leg .period)) true)
-    (cond (t .leg .cancelled) judged.Fine (andThen (judgePart part.Main (t .leg .body)) (judgeChanges (t .changes))))))))
+    (andThen (judge (periodFits (ownForm (t .edition)) (t .leg .period)) true)
+    (cond (t .leg .cancelled) judged.Fine (andThen (judgePart part.Main (t .leg .body)) (judgeChanges (t .edition) (t .changes))))))))
+
+-- "11 for a record that is no TAF of the edition": the writer of one edition refuses a record of the other with the foreign fields, NIL and CNL too
+unfoldable pub judgeIn : Edition → Taf → Judged
+judgeIn e t = andThen (judge (isSameEdition e (t .edition)) true) (judgeOf t)
 
 -- ---- the canonical text
 
 abbrev pub showChance : ℕ → Group
 showChance n = bytes "PROB" ++ numberText 2 n
 
-abbrev pub showFrom : Instant → Group
-showFrom t = bytes "FM" ++ fieldText 2 (fieldOf (t .day)) ++ fieldText 2 (fieldOf (t .hour)) ++ fieldText 2 (fieldOf (t .minute))
+abbrev pub showFrom : Edition → Instant → Group
+showFrom edition.Present t = bytes "FM" ++ fieldText 2 (fieldOf (t .day)) ++ fieldText 2 (fieldOf (t .hour)) ++ fieldText 2 (fieldOf (t .minute))
+showFrom edition.Of2005 t = bytes "FM" ++ fieldText 2 (fieldOf (t .hour)) ++ fieldText 2 (fieldOf (t .minute))
 
-abbrev pub showOpening : Opening → Period → List Group
-showOpening opening.None p = []
-showOpening opening.Becoming p = bytes "BECMG" ∷ []
-showOpening opening.Temporary p = bytes "TEMPO" ∷ []
-showOpening (opening.Probable n) p = showChance n ∷ []
-showOpening (opening.ProbablyTemporary n) p = showChance n ∷ bytes "TEMPO" ∷ []
-showOpening opening.From p = showFrom (p .from) ∷ []
+abbrev pub showOpening : Edition → Opening → Period → List Group
+showOpening e opening.None p = []
+showOpening e opening.Becoming p = bytes "BECMG" ∷ []
+showOpening e opening.Temporary p = bytes "TEMPO" ∷ []
+showOpening e (opening.Probable n) p = showChance n ∷ []
+showOpening e (opening.ProbablyTemporary n) p = showChance n ∷ bytes "TEMPO" ∷ []
+showOpening e opening.From p = showFrom e (p .from) ∷ []
 
-unfoldable pub showChange : Change → List Group
-showChange c = showOpening (c .opening) (c .period) ++ written (row (partOf (c .opening))) (legOf c)
+unfoldable pub showChange : Edition → Change → List Group
+showChange e c = showOpening e (c .opening) (c .period) ++ written (row e (partOf (c .opening))) (legOf c)
 
-abbrev pub showEach : List Change → List Group
-showEach [] = []
-showEach (c ∷ cs) = showChange c ++ showEach cs
+abbrev pub showEach : Edition → List Change → List Group
+showEach e [] = []
+showEach e (c ∷ cs) = showChange e c ++ showEach e cs
 
+-- a record in its own edition
 unfoldable pub groupsOf : Taf → List Group
-groupsOf t = written (row part.Main) (t .leg) ++ showEach (take (t .changes .count) (t .changes .items))
+groupsOf t = written (row (t .edition) part.Main) (t .leg) ++ showEach (t .edition) (take (t .changes .count) (t .changes .items))
 
 unfoldable pub canonicalOf : Taf → List ℕ
 canonicalOf t = join (groupsOf t)
@@ -127,20 +149,22 @@ openedLeg (opening.Probable n) p = blankLeg
 openedLeg (opening.ProbablyTemporary n) p = blankLeg
 openedLeg opening.From p = setPeriod (record { from = p .from; to = blankInstant }) blankLeg
 
-unfoldable pub classChange : Change → Change
-classChange c = changeOf (c .opening) (putAll (row (partOf (c .opening))) (legOf c) (openedLeg (c .opening) (c .period)))
+unfoldable pub classChange : Edition → Change → Change
+classChange e c = changeOf (c .opening) (putAll (row e (partOf (c .opening))) (legOf c) (openedLeg (c .opening) (c .period)))
 
 unfoldable pub classedOf : Taf → Taf
 classedOf t =
     record {
-      leg = putAll (row part.Main) (t .leg) blankLeg;
-      changes = record { items = map classChange (take (t .changes .count) (t .changes .items)) ++ drop (t .changes .count) (t .changes .items); count = t .changes .count };
+      edition = t .edition;
+      leg = putAll (row (t .edition) part.Main) (t .leg) blankLeg;
+      changes = record { items = map (classChange (t .edition)) (take (t .changes .count) (t .changes .items)) ++ drop (t .changes .count) (t .changes .items); count = t .changes .count };
     }
 
 -- ---- the writer's answer, and the lent buffer afterwards
 
-unfoldable pub writtenOf : Taf → ℕ → Written
-writtenOf t room = answerBy (judgeOf t) (canonicalOf t) room
+-- in an edition
+unfoldable pub writtenIn : Edition → Taf → ℕ → Written
+writtenIn e t room = answerBy (judgeIn e t) (canonicalOf t) room
 
-unfoldable pub bufferOf : Taf → List ℕ → List ℕ
-bufferOf t b = bufferBy (judgeOf t) (canonicalOf t) b
+unfoldable pub bufferIn : Edition → Taf → List ℕ → List ℕ
+bufferIn e t b = bufferBy (judgeIn e t) (canonicalOf t) b

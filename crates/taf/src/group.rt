@@ -8,35 +8,41 @@ use places::kinds::Turn;
 use places::turn_by;
 use record::aerodrome::Body;
 use record::aerodrome::Correction;
+use record::aerodrome::Edition;
 use record::aerodrome::Instant;
 use record::aerodrome::Period;
 use record::values::Number;
 use shapes::has_pattern;
+use taf_row::kinds::Form;
 use taf_row::kinds::Part;
+use taf_row::row::change_form;
 use taf_row::row::find;
 use taf_row::row::is_change_word;
+use taf_row::row::is_end_hour;
 use taf_row::row::is_main;
+use taf_row::row::own_form;
 use text::kinds::Refusal;
 ghost use mathlib.Core.Path.{_≡_};
 ghost use Rattle.shapes.specs.Pattern.{hasAny};
 ghost use Rattle.places.specs.Turn.{turnAt};
 ghost use Rattle.elements.specs.Answers.{asPeriod};
-ghost use Rattle.taf_row.specs.Row.{correctionOf, hourOf, readPeriod, row, changeWords};
+ghost use Rattle.taf_row.specs.declared.kinds.Form.the-variants as form;
+ghost use Rattle.taf_row.specs.Row.{correctionOf, hourOf, hourAlone, readPeriod, row, changeWords};
 ghost use Rattle.taf.specs.Said.{Says};
 
 // ---- its place
 
 // The group's turn, where `count` groups stand at `place`.
-pub fn decide(part: Part, place: usize, count: usize, g: &[u8]) -> Turn
-    ensures { λ t. ⌜ t ≡ turnAt (row part) (hasAny changeWords) place count (now (g .entry)) ⌝ }
+pub fn decide(edition: Edition, part: Part, place: usize, count: usize, g: &[u8]) -> Turn
+    ensures { λ t. ⌜ t ≡ turnAt (row edition part) (hasAny (changeWords edition)) place count (now (g .entry)) ⌝ }
 {
-    if 11 <= place {
+    if 12 <= place {
         return Turn::Refused(Refusal::Shape);
     }
-    if is_change_word(g) {
+    if is_change_word(edition, g) {
         return Turn::Halt;
     }
-    turn_by(find(part, place, count, g))
+    turn_by(find(edition, part, place, count, g))
 }
 
 // ---- what it says
@@ -62,9 +68,62 @@ fn hour_of(day: u32, hour: u32) -> Instant
     }
 }
 
+fn hour_alone(hour: u32) -> Instant
+    ensures { λ r. ⌜ r ≡ hourAlone hour ⌝ }
+{
+    Instant {
+        day: Number::Missing,
+        hour: Number::Is(hour),
+        minute: Number::Missing,
+    }
+}
+
+// GGGeGe
+fn read_hours(g: &[u8]) -> Said
+    ensures { λ r. ⌜ r ≡ asPeriod (readPeriod form.NoDay (now (g .entry))) ⌝ }
+{
+    let Field::Number(hour) = field(g, 0, 2) else {
+        return Said::Refused(Refusal::Figure);
+    };
+    let Field::Number(end) = field(g, 2, 2) else {
+        return Said::Refused(Refusal::Figure);
+    };
+    let ends = is_end_hour(Form::NoDay, end);
+    if (hour <= 23) & ends {
+        let from = hour_alone(hour);
+        let to = hour_alone(end);
+        Said::Period(Period { from, to })
+    } else {
+        Said::Refused(Refusal::Figure)
+    }
+}
+
+// Y1Y1G1G1G2G2
+fn read_first_day(g: &[u8]) -> Said
+    ensures { λ r. ⌜ r ≡ asPeriod (readPeriod form.FirstDay (now (g .entry))) ⌝ }
+{
+    let Field::Number(day) = field(g, 0, 2) else {
+        return Said::Refused(Refusal::Figure);
+    };
+    let Field::Number(hour) = field(g, 2, 2) else {
+        return Said::Refused(Refusal::Figure);
+    };
+    let Field::Number(end) = field(g, 4, 2) else {
+        return Said::Refused(Refusal::Figure);
+    };
+    let ends = is_end_hour(Form::FirstDay, end);
+    if ((1 <= day) & (day <= 31)) & (hour <= 23) & ends {
+        let from = hour_of(day, hour);
+        let to = hour_alone(end);
+        Said::Period(Period { from, to })
+    } else {
+        Said::Refused(Refusal::Figure)
+    }
+}
+
 // YYGG/YYGG
-fn read_period(g: &[u8]) -> Said
-    ensures { λ r. ⌜ r ≡ asPeriod (readPeriod (now (g .entry))) ⌝ }
+fn read_both_days(g: &[u8]) -> Said
+    ensures { λ r. ⌜ r ≡ asPeriod (readPeriod form.BothDays (now (g .entry))) ⌝ }
 {
     let Field::Number(day) = field(g, 0, 2) else {
         return Said::Refused(Refusal::Figure);
@@ -87,9 +146,19 @@ fn read_period(g: &[u8]) -> Said
     }
 }
 
+fn read_period(form: Form, g: &[u8]) -> Said
+    ensures { λ r. ⌜ r ≡ asPeriod (readPeriod form (now (g .entry))) ⌝ }
+{
+    match form {
+        Form::BothDays => read_both_days(g),
+        Form::FirstDay => read_first_day(g),
+        Form::NoDay => read_hours(g),
+    }
+}
+
 // What the group says at its place, where `count` groups stand; the body is that of the part so far.
-pub fn say_at(part: Part, place: usize, count: usize, g: &[u8], b: Body) -> Said
-    ensures { λ x. ⌜ Says part place count (now (g .entry)) b x ⌝ }
+pub fn say_at(edition: Edition, part: Part, place: usize, count: usize, g: &[u8], b: Body) -> Said
+    ensures { λ x. ⌜ Says edition part place count (now (g .entry)) b x ⌝ }
 {
     let change = !is_main(part);
     match place {
@@ -98,12 +167,13 @@ pub fn say_at(part: Part, place: usize, count: usize, g: &[u8], b: Body) -> Said
         2 => Said::Station,
         3 => read_time(g),
         4 => Said::Nil,
-        5 => read_period(g),
-        6 => Said::Cancelled,
-        7 => say(0, true, change, false, count, g, b),
-        8 => say(1, true, change, false, count, g, b),
-        9 => say(2, true, change, false, count, g, b),
-        10 => say(3, true, change, false, count, g, b),
+        5 => read_period(own_form(edition), g),
+        6 => read_period(change_form(edition), g),
+        7 => Said::Cancelled,
+        8 => say(0, true, change, false, count, g, b),
+        9 => say(1, true, change, false, count, g, b),
+        10 => say(2, true, change, false, count, g, b),
+        11 => say(3, true, change, false, count, g, b),
         _ => Said::Refused(Refusal::Shape),
     }
 }

@@ -4,10 +4,11 @@ use record::aerodrome::Leg;
 use record::aerodrome::Opening;
 use record::aerodrome::Period;
 use record::aerodrome::Taf;
+use taf_row::kinds::Part;
 use text::kinds::Refusal;
 use text::kinds::Verdict;
 
-// What a change word opens, with the period that FMYYGGgg gives, or the word's refusal.
+// What a change word opens, with the period that FMYYGGgg or FMGGgg gives, or the word's refusal.
 pub enum Opened {
     Good { opening: Opening, period: Period },
     Bad(Refusal),
@@ -17,6 +18,13 @@ pub enum Opened {
 pub struct Start {
     pub opening: Opening,
     pub at: usize,
+}
+
+// What a part begins with: which part it is, how many groups have stood at its first place, and the period that its word gave, blank where it gave none.
+pub struct Outset {
+    pub part: Part,
+    pub stood: usize,
+    pub period: Period,
 }
 
 // What follows a part: the end of the reading, or a change, `at` behind its word.

@@ -3,6 +3,7 @@ use crate::group::decide;
 use crate::group::say_at;
 use crate::kinds::Next;
 use crate::kinds::Opened;
+use crate::kinds::Outset;
 use crate::kinds::PartRead;
 use crate::word::open_change;
 use aerodrome_groups::read::station_of;
@@ -14,6 +15,7 @@ use places::end_verdict;
 use places::kinds::Turn;
 use record::aerodrome::Body;
 use record::aerodrome::Correction;
+use record::aerodrome::Edition;
 use record::aerodrome::Leg;
 use record::aerodrome::Period;
 use record::blank_aerodrome::blank_leg;
@@ -27,18 +29,14 @@ use text::kinds::Refusal;
 use text::kinds::Verdict;
 use weather::read::add_weather;
 ghost use mathlib.Core.Path.{_≡_};
-ghost use lib.ListN.{length};
 ghost use Rattle.text.specs.Groups.{partOf};
-ghost use Rattle.text.specs.Text.{tailOf};
 ghost use Rattle.record.specs.Taf.{blankLeg, setCorrection, setPeriod, setBody};
 ghost use Rattle.shapes.specs.Pattern.{hasAny};
-ghost use Rattle.places.specs.Answer.{endVerdict};
 ghost use Rattle.body.specs.Met.{Meets};
 ghost use Rattle.taf_row.specs.Row.{row, changeWords};
 ghost use Rattle.taf_row.specs.Tests.{owesIn};
 ghost use Rattle.taf.specs.Said.{partSaid};
-ghost use Rattle.taf.specs.Step.{refusedAt, MetWord, PartDone};
-ghost use Rattle.taf.specs.declared.kinds.Next.the-variants as next;
+ghost use Rattle.taf.specs.Step.{refusedAt, EndedPart, MetWord, PartDone};
 
 fn refuse(refusal: Refusal, place: usize) -> Next
     ensures { λ r. ⌜ r ≡ refusedAt refusal place ⌝ }
@@ -47,8 +45,8 @@ fn refuse(refusal: Refusal, place: usize) -> Next
 }
 
 // A change word from start up to end, n changes before it: the part before it must lack nothing, and there must be room.
-fn after_word(g: &[u8], start: usize, end: usize, n: usize, lacking: bool) -> Next
-    ensures { λ r. ⌜ MetWord (now (g .entry)) start end n lacking r ⌝ }
+fn after_word(edition: Edition, g: &[u8], start: usize, end: usize, n: usize, lacking: bool) -> Next
+    ensures { λ r. ⌜ MetWord edition (now (g .entry)) start end n lacking r ⌝ }
 {
     if lacking {
         return refuse(Refusal::Absence, start);
@@ -56,7 +54,7 @@ fn after_word(g: &[u8], start: usize, end: usize, n: usize, lacking: bool) -> Ne
     if is_full(n) {
         return refuse(Refusal::Limit, start);
     }
-    let opened = open_change(g);
+    let opened = open_change(edition, g);
     match opened {
         Opened::Good { opening, period } => Next::Change {
             opening,
@@ -78,7 +76,7 @@ fn with_body(body: Body, leg: Leg) -> Leg
 }
 
 fn end_part(text: &[u8], part: Part, place: usize, count: usize, leg: Leg, body: Body) -> PartRead
-    ensures { λ r. ⌜ r ≡ record { next = next.End (endVerdict (tailOf (now (text .entry))) (length (now (text .entry))) (owesIn part place count (setBody body leg))); leg = setBody body leg } ⌝ }
+    ensures { λ r. ⌜ EndedPart (now (text .entry)) part place count (setBody body leg) r ⌝ }
 {
     let leg = with_body(body, leg);
     let verdict = end_verdict(text, owes(part, place, count, leg));
@@ -87,6 +85,7 @@ fn end_part(text: &[u8], part: Part, place: usize, count: usize, leg: Leg, body:
 }
 
 fn meet_word(
+    edition: Edition,
     text: &[u8],
     start: usize,
     end: usize,
@@ -97,11 +96,11 @@ fn meet_word(
     leg: Leg,
     body: Body,
 ) -> PartRead
-    ensures { λ r. ⌜ (r .leg ≡ setBody body leg) × MetWord (partOf (now (text .entry)) start end) start end n (owesIn part place count (setBody body leg)) (r .next) ⌝ }
+    ensures { λ r. ⌜ (r .leg ≡ setBody body leg) × MetWord edition (partOf (now (text .entry)) start end) start end n (owesIn edition part place count (setBody body leg)) (r .next) ⌝ }
 {
     let leg = with_body(body, leg);
     let g = text::part(text, start, end);
-    let next = after_word(g, start, end, n, owes(part, place, count, leg));
+    let next = after_word(edition, g, start, end, n, owes(part, place, count, leg));
     PartRead { next, leg }
 }
 
@@ -115,14 +114,22 @@ fn refuse_part(refusal: Refusal, place: usize, leg: Leg) -> PartRead
 // ---- from group to group
 
 // The next group of the text: where it goes in the part's row, and what it says there. Of the part it sees what a reading depends on.
-fn meet(text: &[u8], from: usize, part: Part, place: usize, count: usize, body: Body) -> Met
-    ensures { λ m. ⌜ Meets (row part) (hasAny changeWords) partSaid place count (λ r. r .body ≡ body) (now (text .entry)) from m ⌝ }
+fn meet(
+    edition: Edition,
+    text: &[u8],
+    from: usize,
+    part: Part,
+    place: usize,
+    count: usize,
+    body: Body,
+) -> Met
+    ensures { λ m. ⌜ Meets (row edition part) (hasAny (changeWords edition)) partSaid place count (λ r. r .body ≡ body) (now (text .entry)) from m ⌝ }
 {
     let Cut::Group { start, end } = text::next_group(text, from) else {
         return Met::Over;
     };
     let g = text::part(text, start, end);
-    let turn = decide(part, place, count, g);
+    let turn = decide(edition, part, place, count, g);
     match turn {
         Turn::Halt => Met::Halt { start, end },
         Turn::Refused(refusal) => Met::Refused { refusal, start },
@@ -130,7 +137,7 @@ fn meet(text: &[u8], from: usize, part: Part, place: usize, count: usize, body: 
             place: there,
             count: standing,
         } => {
-            let said = say_at(part, there, standing, g, body);
+            let said = say_at(edition, part, there, standing, g, body);
             meet_said(said, there, standing, start, end)
         }
     }
@@ -164,29 +171,29 @@ fn with_correction(correction: Correction, r: Leg) -> Leg
     }
 }
 
-// A part from a position of the text on, k groups at its first place, with the period that its word gave; the report that takes it in has n changes. The
-// part is the loop's own, its body beside it, so that what a group says is stored where it belongs with no copy of either; nothing of them is asked to find
-// the group's place.
-pub fn read_part(text: &[u8], at: usize, part: Part, n: usize, k: usize, period: Period) -> PartRead
-    ensures { λ r. ⌜ PartDone (now (text .entry)) part n k (setPeriod period blankLeg) at r ⌝ }
+// A part from a position of the text on; the report that takes it in has n changes. The part is the loop's own, its body beside it, so that what a group says
+// is stored where it belongs with no copy of either; nothing of them is asked to find the group's place.
+pub fn read_part(edition: Edition, text: &[u8], at: usize, n: usize, outset: Outset) -> PartRead
+    ensures { λ r. ⌜ PartDone edition (now (text .entry)) (outset .part) n (outset .stood) (setPeriod (outset .period) blankLeg) at r ⌝ }
 {
-    let mut leg = begin_leg(period);
+    let part = outset.part;
+    let mut leg = begin_leg(outset.period);
     let mut body = leg.body;
     let mut here = 0;
-    let mut standing = k;
+    let mut stood = outset.stood;
     let mut from = at;
     loop {
-        let met = meet(text, from, part, here, standing, body);
+        let met = meet(edition, text, from, part, here, stood, body);
         match met {
-            Met::Over => return end_part(text, part, here, standing, leg, body),
+            Met::Over => return end_part(text, part, here, stood, leg, body),
             Met::Halt { start, end } => {
-                return meet_word(text, start, end, n, part, here, standing, leg, body);
+                return meet_word(edition, text, start, end, n, part, here, stood, leg, body);
             }
             Met::Refused { refusal, start } => return refuse_part(refusal, start, leg),
             Met::Says(group) => {
                 let said = group.said;
                 here = go_past(group.place);
-                standing = group.count + 1;
+                stood = group.count + 1;
                 from = group.end;
                 let g = text::part(text, group.start, group.end);
                 match said {

@@ -4,6 +4,7 @@ use crate::kinds::Start;
 use figures::field;
 use figures::kinds::Field;
 use record::aerodrome::Change;
+use record::aerodrome::Edition;
 use record::aerodrome::Instant;
 use record::aerodrome::Leg;
 use record::aerodrome::Opening;
@@ -17,9 +18,10 @@ use text::kinds::Cut;
 use text::kinds::Refusal;
 ghost use mathlib.Core.Path.{_≡_};
 ghost use Rattle.taf.specs.Read.{fromGroup, probableGroup, openedBy, partOf, afterProbable, changeOf};
+ghost use Rattle.record.specs.declared.aerodrome.Edition.the-variants as edition;
 ghost use Rattle.record.specs.Taf.{blankPeriod};
 ghost use Rattle.taf.specs.declared.kinds.Opened.the-variants as opened;
-ghost use Rattle.taf.specs.Step.{begunBy, fromTime, Begins};
+ghost use Rattle.taf.specs.Step.{begunBy, fromTime, BeginsIn};
 
 // A change whose period is still to come.
 fn begin(opening: Opening) -> Opened
@@ -31,12 +33,12 @@ fn begin(opening: Opening) -> Opened
     Opened::Good { opening, period }
 }
 
-// The day, the hour and the minute of FMYYGGgg as the beginning of a period.
-fn begin_from(day: u32, hour: u32, minute: u32) -> Opened
+// The day, where there is one, the hour and the minute of FM as the beginning of a period.
+fn begin_from(day: Number, hour: u32, minute: u32) -> Opened
     ensures { λ r. ⌜ r ≡ fromTime day hour minute ⌝ }
 {
     let from = Instant {
-        day: Number::Is(day),
+        day,
         hour: Number::Is(hour),
         minute: Number::Is(minute),
     };
@@ -49,8 +51,8 @@ fn begin_from(day: u32, hour: u32, minute: u32) -> Opened
 }
 
 // FMYYGGgg
-fn open_from(g: &[u8]) -> Opened
-    ensures { λ r. ⌜ begunBy r ≡ fromGroup (now (g .entry)) ⌝ }
+fn open_from_day(g: &[u8]) -> Opened
+    ensures { λ r. ⌜ begunBy r ≡ fromGroup edition.Present (now (g .entry)) ⌝ }
 {
     let Field::Number(day) = field(g, 2, 2) else {
         return Opened::Bad(Refusal::Figure);
@@ -62,9 +64,35 @@ fn open_from(g: &[u8]) -> Opened
         return Opened::Bad(Refusal::Figure);
     };
     if (1 <= day) & (day <= 31) & (hour <= 23) & (minute <= 59) {
-        begin_from(day, hour, minute)
+        begin_from(Number::Is(day), hour, minute)
     } else {
         Opened::Bad(Refusal::Figure)
+    }
+}
+
+// FMGGgg
+fn open_from_hour(g: &[u8]) -> Opened
+    ensures { λ r. ⌜ begunBy r ≡ fromGroup edition.Of2005 (now (g .entry)) ⌝ }
+{
+    let Field::Number(hour) = field(g, 2, 2) else {
+        return Opened::Bad(Refusal::Figure);
+    };
+    let Field::Number(minute) = field(g, 4, 2) else {
+        return Opened::Bad(Refusal::Figure);
+    };
+    if (hour <= 23) & (minute <= 59) {
+        begin_from(Number::Missing, hour, minute)
+    } else {
+        Opened::Bad(Refusal::Figure)
+    }
+}
+
+fn open_from(edition: Edition, g: &[u8]) -> Opened
+    ensures { λ r. ⌜ begunBy r ≡ fromGroup edition (now (g .entry)) ⌝ }
+{
+    match edition {
+        Edition::Present => open_from_day(g),
+        Edition::Of2005 => open_from_hour(g),
     }
 }
 
@@ -82,8 +110,8 @@ fn open_probable(g: &[u8]) -> Opened
     }
 }
 
-pub fn open_change(g: &[u8]) -> Opened
-    ensures { λ r. ⌜ begunBy r ≡ openedBy (now (g .entry)) ⌝ }
+pub fn open_change(edition: Edition, g: &[u8]) -> Opened
+    ensures { λ r. ⌜ begunBy r ≡ openedBy edition (now (g .entry)) ⌝ }
 {
     if has_pattern(g, b"BECMG") {
         return begin(Opening::Becoming);
@@ -94,7 +122,7 @@ pub fn open_change(g: &[u8]) -> Opened
     if has_pattern(g, b"PROB##") {
         open_probable(g)
     } else {
-        open_from(g)
+        open_from(edition, g)
     }
 }
 
@@ -115,7 +143,7 @@ fn after_probable(opening: Opening) -> Opening
 
 // Behind the word that opens a change: TEMPO belongs to it, or its part begins there.
 pub fn begin_part(text: &[u8], at: usize, opening: Opening) -> Start
-    ensures { λ r. ⌜ Begins (now (text .entry)) opening at r ⌝ }
+    ensures { λ r. ⌜ BeginsIn (now (text .entry)) opening at r ⌝ }
 {
     let Cut::Group { start, end } = text::next_group(text, at) else {
         return Start { opening, at };

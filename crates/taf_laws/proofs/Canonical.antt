@@ -33,8 +33,8 @@ pub groups-sizes : (t : Taf) → TafArrays t → judgeOf t ≡ judged.Fine → S
 unfolding groupsOf
 groups-sizes t arrays e =
     let f = fair t e in
-    let room : rowRoom sizes (row part.Main) ≤ 131 = unfold row in omega arith in
-    sizes-append (written (row part.Main) (t .leg)) _ (sizes-more room (kept-sizes (kept-main t arrays f))) (changes-sizes t (listed t arrays f))
+    let room : rowRoom sizes (row (t .edition) part.Main) ≤ 131 = unfold row in omega arith in
+    sizes-append (written (row (t .edition) part.Main) (t .leg)) _ (sizes-more room (kept-sizes (kept-main t arrays f))) (changes-sizes t (listed t arrays f))
 
 -- HOW LONG THE CANONICAL TEXT IS, at most.
 pub length-canonical : (t : Taf) → TafArrays t → judgeOf t ≡ judged.Fine → length (canonicalOf t) ≤ 1971
@@ -45,9 +45,9 @@ length-canonical t arrays e = joined-short (groupsOf t) (unfold groupsOf row in 
 
 -- THE GROUPS OF THE CANONICAL TEXT COME TO THE RECORD'S CLASSES, with no unread rest.
 pub read-canonical : (t : Taf) → TafArrays t → judgeOf t ≡ judged.Fine
-    → groupsRead (tailOf (canonicalOf t)) (length (canonicalOf t)) (groupsFrom (canonicalOf t) 0) ≡ Done (length (canonicalOf t)) (classedOf t)
+    → groupsRead (t .edition) (tailOf (canonicalOf t)) (length (canonicalOf t)) (groupsFrom (canonicalOf t) 0) ≡ Done (length (canonicalOf t)) (classedOf t)
 unfolding canonicalOf
-read-canonical t arrays e = joined-back groupsRead (groupsOf t) (groups-sizes t arrays e) (pieces-back t arrays e)
+read-canonical t arrays e = joined-back (groupsRead (t .edition)) (groupsOf t) (groups-sizes t arrays e) (pieces-back t arrays e)
 
 -- ---- the record that is read back
 
@@ -61,16 +61,16 @@ live-again : (t : Taf) → Fair t → Listed t → t .leg .nil ≡ false → t .
 unfolding groupsOf classedOf
 live-again t f l n c =
     rw (
-      main-classed (t .leg),
-      written-classed part.Main (t .leg) (fair-part part.Main (t .leg .body) (f .part n c)),
-      list-again showChange showEach refl (λ c cs. refl) l classChange change-again,
+      main-classed (t .edition) (t .leg),
+      written-classed (t .edition) part.Main (t .leg) (fair-part part.Main (t .leg .body) (f .part n c)),
+      list-again (showChange (t .edition)) (showEach (t .edition)) refl (λ c cs. refl) l (classChange (t .edition)) (change-again (t .edition)),
     )
 
 live-judged : (t : Taf) → Fair t → Listed t → t .leg .nil ≡ false → t .leg .cancelled ≡ false → judgeOf (classedOf t) ≡ judged.Fine
 unfolding judgeOf judgeChanges foreignBlank classedOf
 live-judged t f l n c =
-    rw (main-classed (t .leg), part-judged part.Main (t .leg .body) (fair-part part.Main (t .leg .body) (f .part n c)), f .station, f .time, f .period n, n, c)
-    (list-judged judgeChange judgeEach refl (λ c cs. refl) isBlankChange 16 (t .changes .count) (t .changes .items) classChange change-judged l)
+    rw (main-classed (t .edition) (t .leg), part-judged part.Main (t .leg .body) (fair-part part.Main (t .leg .body) (f .part n c)), f .station, f .time, f .period n, n, c)
+    (list-judged (judgeChange (t .edition)) (judgeEach (t .edition)) refl (λ c cs. refl) isBlankChange 16 (t .changes .count) (t .changes .items) (classChange (t .edition)) (change-judged (t .edition)) l)
 
 -- over, or with its changes
 module _ (t : Taf) (arrays : TafArrays t) (e : judgeOf t ≡ judged.Fine) (P : Taf → Type 0) (same : P t)

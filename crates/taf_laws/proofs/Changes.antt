@@ -15,7 +15,7 @@ use Rattle.text.specs.declared.kinds.Judged.the-variants as judged
 use Rattle.shapes.specs.Pattern.{low, high, fits, hasPattern, hasAny}
 use Rattle.shapes.proofs.Patterns.{both, neither}
 use Rattle.places.specs.Engine.{Group, written, putAll}
-use Rattle.places.proofs.Sizes.{Sizes, sizes-append, sizes-more}
+use Rattle.places.proofs.Sizes.{measured, Sizes, sizes-append, sizes-more}
 use Rattle.places.proofs.Kept.{kept-sizes, rowRoom}
 use Rattle.record.specs.declared.aerodrome.Opening.{Opening}
 use Rattle.record.specs.declared.aerodrome.Opening.the-variants as opening
@@ -23,6 +23,8 @@ use Rattle.record.specs.declared.aerodrome.Period.{Period}
 use Rattle.record.specs.declared.aerodrome.Body.{Body}
 use Rattle.record.specs.declared.aerodrome.Leg.{Leg}
 use Rattle.record.specs.declared.aerodrome.Change.{Change}
+use Rattle.record.specs.declared.aerodrome.Edition.{Edition}
+use Rattle.record.specs.declared.aerodrome.Edition.the-variants as edition
 use Rattle.record.specs.declared.aerodrome.Taf.{Taf}
 use Rattle.record.specs.Taf.{setBody, blankLeg, blankChange}
 use Rattle.record.specs.SilentAerodrome.{noInstant, isBlankChange}
@@ -33,12 +35,11 @@ use Rattle.elements.specs.Body.{classBody}
 use Rattle.sky.proofs.RoundTrip.{sky-again}
 use Rattle.body.proofs.Bodies.{wind-both, view-both, body-classed, element-classed}
 use Rattle.elements.proofs.Lists.{list-fair, one-sizes, list-sizes}
-use Rattle.aerodrome_groups.specs.Head.{instantFits}
 use Rattle.taf_row.specs.declared.kinds.Part.{Part}
 use Rattle.taf_row.specs.declared.kinds.Part.the-variants as part
-use Rattle.taf_row.specs.Row.{isMain, forecastIn, row}
+use Rattle.taf_row.specs.Row.{isMain, forecastIn, changeForm, fromShape, row}
 use Rattle.taf.specs.Read.{isChance, partOf, changeOf}
-use Rattle.taf.specs.Write.{judgePart, periodFits, openingFits, legOf, judgeChange, judgeEach, judgeChanges, showChance, showFrom, showOpening, showChange, showEach, openedLeg, classChange}
+use Rattle.taf.specs.Write.{judgePart, periodFits, fromFits, openingFits, legOf, judgeChange, judgeEach, judgeChanges, showChance, showFrom, showOpening, showChange, showEach, openedLeg, classChange}
 use Rattle.taf_laws.proofs.Periods.{no-end, chance-shaped, from-shaped}
 use Rattle.taf_laws.proofs.Places.{live}
 use Rattle.taf_laws.proofs.Parts.{FairPart, Sound, fair-change, Fair, foreign-over, sizes, kept-change}
@@ -47,20 +48,20 @@ use Rattle.taf_laws.proofs.Parts.{FairPart, Sound, fair-change, Fair, f
 
 -- The changes that stand are judged fine, and past them there are none.
 abbrev pub Listed : Taf → Type 0
-Listed t = Counted Sound isBlankChange blankChange 16 (t .changes .count) (t .changes .items)
+Listed t = Counted (Sound (t .edition)) isBlankChange blankChange 16 (t .changes .count) (t .changes .items)
 
 -- a report that is NIL or cancelled has none
 pub none-over : (t : Taf) → Fair t → (t .leg .nil || t .leg .cancelled) ≡ true → t .changes .count ≡ 0
 none-over t f o = eqb-true (t .changes .count) 0 (both (eqb (t .changes .count) 0) (every isBlankChange (t .changes .items)) (foreign-over t (f .blank) o .1) .0)
 
 module _ (t : Taf) (arrays : TafArrays t) (f : Fair t) where
-  none-listed : (n : ℕ) → n ≡ 0 → every isBlankChange (t .changes .items) ≡ true → Counted Sound isBlankChange blankChange 16 n (t .changes .items)
+  none-listed : (n : ℕ) → n ≡ 0 → every isBlankChange (t .changes .items) ≡ true → Counted (Sound (t .edition)) isBlankChange blankChange 16 n (t .changes .items)
   none-listed n z e = rw z (listed-of change-blank (arrays .changes) (arrays .each) (omega arith) tt e)
 
-  some-listed : judgeChanges (t .changes) ≡ judged.Fine → Listed t
+  some-listed : judgeChanges (t .edition) (t .changes) ≡ judged.Fine → Listed t
   unfolding judgeChanges
   some-listed =
-      list-fair judgeChange judgeEach refl (λ c cs. refl) isBlankChange 16 (t .changes .count) (t .changes .items) fair-change change-blank (arrays .changes) (arrays .each)
+      list-fair (judgeChange (t .edition)) (judgeEach (t .edition)) refl (λ c cs. refl) isBlankChange 16 (t .changes .count) (t .changes .items) (fair-change (t .edition)) change-blank (arrays .changes) (arrays .each)
 
   pub listed : Listed t
   listed = go (t .leg .nil || t .leg .cancelled) refl
@@ -71,17 +72,22 @@ module _ (t : Taf) (arrays : TafArrays t) (f : Fair t) where
 
 -- ---- the room that they take
 
-opening-sizes : (o : Opening) (p : Period) → openingFits o p ≡ true → Sizes 13 (showOpening o p)
+from-short : (e : Edition) → measured 8 (fromShape e ∷ []) ≡ true
+unfolding low high
+from-short edition.Present = refl
+from-short edition.Of2005 = refl
+
+opening-sizes : (e : Edition) (o : Opening) (p : Period) → openingFits e o p ≡ true → Sizes 13 (showOpening e o p)
 unfolding hasPattern hasAny fits low high
-opening-sizes opening.None p e = absurd (false≢true e)
-opening-sizes opening.Becoming p e = sizes-more (omega arith) (one-sizes 5 (bytes "BECMG") (bytes "BECMG") refl refl)
-opening-sizes opening.Temporary p e = sizes-more (omega arith) (one-sizes 5 (bytes "TEMPO") (bytes "TEMPO") refl refl)
-opening-sizes (opening.Probable n) p e = sizes-more (omega arith) (one-sizes 6 (bytes "PROB##") (showChance n) refl (chance-shaped n (both (isChance n) (periodFits p) e .0)))
-opening-sizes (opening.ProbablyTemporary n) p e =
-    sizes-append (showChance n ∷ []) (bytes "TEMPO" ∷ []) (one-sizes 6 (bytes "PROB##") (showChance n) refl (chance-shaped n (both (isChance n) (periodFits p) e .0)))
+opening-sizes e opening.None p fair = absurd (false≢true fair)
+opening-sizes e opening.Becoming p fair = sizes-more (omega arith) (one-sizes 5 (bytes "BECMG") (bytes "BECMG") refl refl)
+opening-sizes e opening.Temporary p fair = sizes-more (omega arith) (one-sizes 5 (bytes "TEMPO") (bytes "TEMPO") refl refl)
+opening-sizes e (opening.Probable n) p fair = sizes-more (omega arith) (one-sizes 6 (bytes "PROB##") (showChance n) refl (chance-shaped n (both (isChance n) (periodFits (changeForm e) p) fair .0)))
+opening-sizes e (opening.ProbablyTemporary n) p fair =
+    sizes-append (showChance n ∷ []) (bytes "TEMPO" ∷ []) (one-sizes 6 (bytes "PROB##") (showChance n) refl (chance-shaped n (both (isChance n) (periodFits (changeForm e) p) fair .0)))
     (one-sizes 5 (bytes "TEMPO") (bytes "TEMPO") refl refl)
-opening-sizes opening.From p e =
-    sizes-more (omega arith) (one-sizes 8 (bytes "FM######") (showFrom (p .from)) refl (from-shaped (p .from) (both (instantFits (p .from)) (noInstant (p .to)) e .0)))
+opening-sizes e opening.From p fair =
+    sizes-more (omega arith) (one-sizes 8 (fromShape e) (showFrom e (p .from)) (from-short e) (from-shaped e (p .from) (both (fromFits e (p .from)) (noInstant (p .to)) fair .0)))
 
 pub part-change : (o : Opening) → isMain (partOf o) ≡ false
 part-change opening.None = refl
@@ -91,22 +97,22 @@ part-change (opening.Probable n) = refl
 part-change (opening.ProbablyTemporary n) = refl
 part-change opening.From = refl
 
-change-room : (w : Part) → isMain w ≡ false → rowRoom sizes (row w) ≤ 102
+change-room : (e : Edition) (w : Part) → isMain w ≡ false → rowRoom sizes (row e w) ≤ 102
 unfolding row
-change-room part.Main e = absurd (false≢true (sym e))
-change-room part.Changing e = omega arith
-change-room part.From e = omega arith
+change-room e part.Main is = absurd (false≢true (sym is))
+change-room e part.Changing is = omega arith
+change-room e part.From is = omega arith
 
-change-sizes : (c : Change) → Sound c → Sizes 115 (showChange c)
+change-sizes : (e : Edition) (c : Change) → Sound e c → Sizes 115 (showChange e c)
 unfolding showChange
-change-sizes c s =
-    sizes-append (showOpening (c .opening) (c .period)) (written (row (partOf (c .opening))) (legOf c))
-    (opening-sizes (c .opening) (c .period) (s .1 .opens))
-    (sizes-more (change-room (partOf (c .opening)) (part-change (c .opening))) (kept-sizes (kept-change c (s .0) (s .1))))
+change-sizes e c s =
+    sizes-append (showOpening e (c .opening) (c .period)) (written (row e (partOf (c .opening))) (legOf c))
+    (opening-sizes e (c .opening) (c .period) (s .1 .opens))
+    (sizes-more (change-room e (partOf (c .opening)) (part-change (c .opening))) (kept-sizes (kept-change e c (s .0) (s .1))))
 
 -- sixteen changes, PROB30 TEMPO each
-pub changes-sizes : (t : Taf) → Listed t → Sizes 1840 (showEach (take (t .changes .count) (t .changes .items)))
-changes-sizes t l = list-sizes showChange showEach refl (λ c cs. refl) l 115 change-sizes
+pub changes-sizes : (t : Taf) → Listed t → Sizes 1840 (showEach (t .edition) (take (t .changes .count) (t .changes .items)))
+changes-sizes t l = list-sizes (showChange (t .edition)) (showEach (t .edition)) refl (λ c cs. refl) l 115 (change-sizes (t .edition))
 
 -- ---- a part that is read back: written as it was, and judged fine as it was
 
@@ -114,13 +120,13 @@ changes-sizes t l = list-sizes showChange showEach refl (λ c cs. refl) l 115 ch
 abbrev pub classLeg : Leg → Leg
 classLeg r = setBody (classBody (r .body)) r
 
-pub main-classed : (r : Leg) → putAll (row part.Main) r blankLeg ≡ classLeg r
+pub main-classed : (e : Edition) (r : Leg) → putAll (row e part.Main) r blankLeg ≡ classLeg r
 unfolding row
-main-classed r = refl
+main-classed e r = refl
 
-pub written-classed : (w : Part) (r : Leg) → FairPart w (r .body) → written (row w) (classLeg r) ≡ written (row w) r
+pub written-classed : (e : Edition) (w : Part) (r : Leg) → FairPart w (r .body) → written (row e w) (classLeg r) ≡ written (row e w) r
 unfolding row
-written-classed w r f =
+written-classed e w r f =
     let t = forecastIn w in
     rw (wind-both t (live w) (r .body) (f .body .wind) .0, view-both t (live w) (r .body) (f .body .visibility) .0, sky-again (r .body .sky))
 
@@ -130,24 +136,25 @@ part-judged w b f = rw (body-classed (forecastIn w) (live w) b (f .body), elemen
 
 -- ---- and a change
 
-pub change-is : (c : Change) → openingFits (c .opening) (c .period) ≡ true → classChange c ≡ changeOf (c .opening) (classLeg (legOf c))
-unfolding classChange row
-change-is c f = go (c .opening) f
-  where
-    go : (o : Opening) → openingFits o (c .period) ≡ true → changeOf o (putAll (row (partOf o)) (legOf c) (openedLeg o (c .period))) ≡ changeOf o (classLeg (legOf c))
-    go opening.None e = absurd (false≢true e)
-    go opening.Becoming e = refl
-    go opening.Temporary e = refl
-    go (opening.Probable n) e = refl
-    go (opening.ProbablyTemporary n) e = refl
-    go opening.From e = rw (no-end (c .period) (both (instantFits (c .period .from)) (noInstant (c .period .to)) e .1))
+module _ (e : Edition) (c : Change) where
+  pub change-is : openingFits e (c .opening) (c .period) ≡ true → classChange e c ≡ changeOf (c .opening) (classLeg (legOf c))
+  unfolding classChange row
+  change-is f = go (c .opening) f
+    where
+      go : (o : Opening) → openingFits e o (c .period) ≡ true → changeOf o (putAll (row e (partOf o)) (legOf c) (openedLeg o (c .period))) ≡ changeOf o (classLeg (legOf c))
+      go opening.None is = absurd (false≢true is)
+      go opening.Becoming is = refl
+      go opening.Temporary is = refl
+      go (opening.Probable n) is = refl
+      go (opening.ProbablyTemporary n) is = refl
+      go opening.From is = rw (no-end (c .period) (both (fromFits e (c .period .from)) (noInstant (c .period .to)) is .1))
 
-pub change-again : (c : Change) → Sound c → showChange (classChange c) ≡ showChange c
-unfolding showChange
-change-again c s =
-    ap showChange (change-is c (s .1 .opens))
-    ∙ ap (λ (gs : List Group). showOpening (c .opening) (c .period) ++ gs) (written-classed (partOf (c .opening)) (legOf c) (s .1 .part))
+  pub change-again : Sound e c → showChange e (classChange e c) ≡ showChange e c
+  unfolding showChange
+  change-again s =
+      ap (showChange e) (change-is (s .1 .opens))
+      ∙ ap (λ (gs : List Group). showOpening e (c .opening) (c .period) ++ gs) (written-classed e (partOf (c .opening)) (legOf c) (s .1 .part))
 
-pub change-judged : (c : Change) → Sound c → judgeChange (classChange c) ≡ judged.Fine
-unfolding judgeChange
-change-judged c s = ap judgeChange (change-is c (s .1 .opens)) ∙ rw (s .1 .opens) (part-judged (partOf (c .opening)) (c .body) (s .1 .part))
+  pub change-judged : Sound e c → judgeChange e (classChange e c) ≡ judged.Fine
+  unfolding judgeChange
+  change-judged s = ap (judgeChange e) (change-is (s .1 .opens)) ∙ rw (s .1 .opens) (part-judged (partOf (c .opening)) (c .body) (s .1 .part))

@@ -11,6 +11,7 @@ use Rattle.text.specs.Text.{tailOf}
 use Rattle.shapes.proofs.Patterns.{neither}
 use Rattle.places.specs.Engine.{Done}
 use Rattle.record.specs.declared.aerodrome.Change.{Change}
+use Rattle.record.specs.declared.aerodrome.Edition.{Edition}
 use Rattle.record.specs.declared.aerodrome.Taf.{Taf}
 use Rattle.record.specs.Taf.{blankChange}
 use Rattle.record.specs.Arrays.{TafArrays}
@@ -35,6 +36,7 @@ pub record ChangeRead (c d : Change) : Type 0 where
 
 -- the head, the main part, the changes up to the count; what stands past it is as it was
 pub record RecordRead (t q : Taf) : Type 0 where
+  pub edition : q .edition ≡ t .edition
   pub correction : q .leg .correction ≡ t .leg .correction
   pub station : q .leg .station ≡ t .leg .station
   pub time : q .leg .time ≡ t .leg .time
@@ -59,10 +61,10 @@ main-read t arrays f = go (t .leg .nil || t .leg .cancelled) refl
 
 -- ---- the changes
 
-change-read : (c : Change) → Sound c → ChangeRead c (classChange c)
-change-read c s =
+change-read : (e : Edition) (c : Change) → Sound e c → ChangeRead c (classChange e c)
+change-read e c s =
     let w = partOf (c .opening) in
-    rw (change-is c (s .1 .opens)) (record { opening = refl; period = refl; body = body-read (forecastIn w) (live w) (c .body) (s .1 .part .body) })
+    rw (change-is e c (s .1 .opens)) (record { opening = refl; period = refl; body = body-read (forecastIn w) (live w) (c .body) (s .1 .part .body) })
 
 record-read : (t : Taf) → TafArrays t → judgeOf t ≡ judged.Fine → RecordRead t (classedOf t)
 unfolding classedOf row
@@ -70,6 +72,7 @@ record-read t arrays e =
     let f = fair t e in
     let l = listed t arrays f in
     record {
+      edition = refl;
       correction = refl;
       station = refl;
       time = refl;
@@ -78,22 +81,22 @@ record-read t arrays e =
       cancelled = refl;
       body = main-read t arrays f;
       count = refl;
-      changes = rw (taken classChange (t .changes .count) (t .changes .items) (l .many)) (each-read ChangeRead classChange change-read (take (t .changes .count) (t .changes .items)) (l .each));
-      past = dropped classChange (t .changes .count) (t .changes .items) (l .many);
+      changes = rw (taken (classChange (t .edition)) (t .changes .count) (t .changes .items) (l .many)) (each-read ChangeRead (classChange (t .edition)) (change-read (t .edition)) (take (t .changes .count) (t .changes .items)) (l .each));
+      past = dropped (classChange (t .edition)) (t .changes .count) (t .changes .items) (l .many);
     }
 
 -- WHAT IS WRITTEN OF A RECORD THAT THE WRITER ACCEPTS IS READ, to the text's end, as a record that says the same.
 pub promise : (t : Taf) → TafArrays t → judgeOf t ≡ judged.Fine
-    → (groupsRead (tailOf (canonicalOf t)) (length (canonicalOf t)) (groupsFrom (canonicalOf t) 0) ≡ Done (length (canonicalOf t)) (classedOf t)) × RecordRead t (classedOf t)
+    → (groupsRead (t .edition) (tailOf (canonicalOf t)) (length (canonicalOf t)) (groupsFrom (canonicalOf t) 0) ≡ Done (length (canonicalOf t)) (classedOf t)) × RecordRead t (classedOf t)
 promise t arrays e = (read-canonical t arrays e, record-read t arrays e)
 
 -- ---- each change is read back as its class, and those past the count too
 
-blank-classed : classChange blankChange ≡ blankChange
+blank-classed : (e : Edition) → classChange e blankChange ≡ blankChange
 unfolding classChange row
-blank-classed = refl
+blank-classed e = refl
 
-pub items-classed : (t : Taf) → TafArrays t → judgeOf t ≡ judged.Fine → classedOf t .changes .items ≡ map classChange (t .changes .items)
+pub items-classed : (t : Taf) → TafArrays t → judgeOf t ≡ judged.Fine → classedOf t .changes .items ≡ map (classChange (t .edition)) (t .changes .items)
 unfolding classedOf
 items-classed t arrays e =
-    map-counted classChange blankChange blank-classed (t .changes .count) 16 (t .changes .items) (listed t arrays (fair t e) .rest)
+    map-counted (classChange (t .edition)) blankChange (blank-classed (t .edition)) (t .changes .count) 16 (t .changes .items) (listed t arrays (fair t e) .rest)

@@ -9,43 +9,44 @@ use lib.Dec.{eqb}
 use Rattle.figures.specs.Quote.{bytes}
 use Rattle.shapes.specs.Pattern.{hasPattern, hasAny}
 use Rattle.places.specs.Seek.{owed}
-use Rattle.places.specs.Engine.{Group, Place, nowhere, placeAt, mustsOf, mostsOf, onward}
+use Rattle.places.specs.Engine.{Group, Place, nowhere, placeAt, onward}
 use Rattle.places.proofs.Rows.{only-at}
 use Rattle.places.proofs.Loop.{atMost}
 use Rattle.record.specs.declared.aerodrome.Leg.{Leg}
+use Rattle.record.specs.declared.aerodrome.Edition.{Edition}
 use Rattle.taf_row.specs.declared.kinds.Part.{Part}
 use Rattle.taf_row.specs.declared.kinds.Part.the-variants as part
-use Rattle.taf_row.specs.Row.{isMain, isWhole, hasPeriod, row, changeWords}
+use Rattle.taf_row.specs.Row.{isMain, isWhole, isChanging, fromShape, row, changeWords}
 use Rattle.elements.specs.Body.{hasElement}
-use Rattle.taf_row.specs.Tests.{owesIn}
+use Rattle.taf_row.specs.Tests.{Mosts, Musts, Owes}
 
 -- ---- the row
 
-pub row-length : (w : Part) → length (row w) ≡ 11
+pub row-length : (e : Edition) (w : Part) → length (row e w) ≡ 12
 unfolding row
-row-length w = refl
+row-length e w = refl
 
-musts-so : (w : Part) → (isMain w ∷ false ∷ isMain w ∷ isMain w ∷ false ∷ hasPeriod w ∷ false ∷ isWhole w ∷ isWhole w ∷ false ∷ false ∷ []) ≡ mustsOf (row w)
+musts-so : (w : Part) → Musts w (isMain w ∷ false ∷ isMain w ∷ isMain w ∷ false ∷ isMain w ∷ isChanging w ∷ false ∷ isWhole w ∷ isWhole w ∷ false ∷ false ∷ [])
 unfolding row
-musts-so part.Main = refl
-musts-so part.Changing = refl
-musts-so part.From = refl
+musts-so part.Main e = refl
+musts-so part.Changing e = refl
+musts-so part.From e = refl
 
-pub musts-by : (w : Part) {m p a : Bool} → m ≡ isMain w → p ≡ hasPeriod w → a ≡ isWhole w
-    → (m ∷ false ∷ m ∷ m ∷ false ∷ p ∷ false ∷ a ∷ a ∷ false ∷ false ∷ []) ≡ mustsOf (row w)
-musts-by w m p a = rw (m, p, a) (musts-so w)
+pub musts-by : (w : Part) {m p a : Bool} → m ≡ isMain w → p ≡ isChanging w → a ≡ isWhole w
+    → Musts w (m ∷ false ∷ m ∷ m ∷ false ∷ m ∷ p ∷ false ∷ a ∷ a ∷ false ∷ false ∷ [])
+musts-by w m p a e = rw (m, p, a) (musts-so w e)
 
-pub mosts-by : (w : Part) {m p : Bool} {i j : ℕ} → m ≡ isMain w → i ≡ cond m 1 0 → p ≡ hasPeriod w → j ≡ cond p 1 0
-    → (i ∷ i ∷ i ∷ i ∷ i ∷ j ∷ i ∷ 1 ∷ 1 ∷ 3 ∷ 4 ∷ []) ≡ mostsOf (row w)
+pub mosts-by : (w : Part) {m p : Bool} {i j : ℕ} → m ≡ isMain w → i ≡ cond m 1 0 → p ≡ isChanging w → j ≡ cond p 1 0
+    → Mosts w (i ∷ i ∷ i ∷ i ∷ i ∷ i ∷ j ∷ i ∷ 1 ∷ 1 ∷ 3 ∷ 4 ∷ [])
 unfolding row
-mosts-by w m i p j = rw (i, m, j, p)
+mosts-by w m i p j e = rw (i, m, j, p)
 
 -- no place has more than four groups
-pub row-few : (w : Part) → atMost 4 (row w) ≡ true
+pub row-few : (e : Edition) (w : Part) → atMost 4 (row e w) ≡ true
 unfolding row
-row-few part.Main = refl
-row-few part.Changing = refl
-row-few part.From = refl
+row-few e part.Main = refl
+row-few e part.Changing = refl
+row-few e part.From = refl
 
 -- NIL and CNL end the report: where either of two lists of tests holds
 abbrev either : List Bool → List Bool → List Bool
@@ -62,14 +63,14 @@ either-at (x ∷ xs) (y ∷ ys) (suc i) = either-at xs ys i
 abbrev alone : ℕ → ℕ → List Bool
 alone n m = replicate n false ++ (true ∷ replicate m false)
 
-ends-by : (w : Part) (i : ℕ) → (eqb i 4 || eqb i 6) ≡ placeAt (row w) i .ends
+ends-by : (e : Edition) (w : Part) (i : ℕ) → (eqb i 4 || eqb i 7) ≡ placeAt (row e w) i .ends
 unfolding row
-ends-by w i =
-    rw (only-at 4 (alone 4 6) i refl, only-at 6 (alone 6 4) i refl)
-    (either-at (alone 4 6) (alone 6 4) i ∙ List·getD-map (λ (p : Place Leg). p .ends) (row w) i nowhere)
+ends-by e w i =
+    rw (only-at 4 (alone 4 7) i refl, only-at 7 (alone 7 4) i refl)
+    (either-at (alone 4 7) (alone 7 4) i ∙ List·getD-map (λ (p : Place Leg). p .ends) (row e w) i nowhere)
 
-pub past-end : (w : Part) (i : ℕ) (b : Bool) → (eqb i 4 || eqb i 6) ≡ b → cond b 11 i ≡ onward (row w) i
-past-end w i b e = rw (row-length w, ← ends-by w i, e)
+pub past-end : (e : Edition) (w : Part) (i : ℕ) (b : Bool) → (eqb i 4 || eqb i 7) ≡ b → cond b 12 i ≡ onward (row e w) i
+past-end e w i b is = rw (row-length e w, ← ends-by e w i, is)
 
 -- ---- its change words
 
@@ -79,14 +80,14 @@ any-of false true c d = refl
 any-of false false true d = refl
 any-of false false false d = sym (or-false d)
 
-pub change-word : (g : Group) {a b c d : Bool}
-    → a ≡ hasPattern g (bytes "BECMG") → b ≡ hasPattern g (bytes "TEMPO") → c ≡ hasPattern g (bytes "PROB##") → d ≡ hasPattern g (bytes "FM######")
-    → (((a || b) || c) || d) ≡ hasAny changeWords g
+pub change-word : (e : Edition) (g : Group) {a b c d : Bool}
+    → a ≡ hasPattern g (bytes "BECMG") → b ≡ hasPattern g (bytes "TEMPO") → c ≡ hasPattern g (bytes "PROB##") → d ≡ hasPattern g (fromShape e)
+    → (((a || b) || c) || d) ≡ hasAny (changeWords e) g
 unfolding changeWords hasAny
-change-word g {a} {b} {c} {d} p q r s = rw (← p, ← q, ← r, ← s) (any-of a b c d)
+change-word e g {a} {b} {c} {d} p q r s = rw (← p, ← q, ← r, ← s) (any-of a b c d)
 
 -- ---- what a part owes
 
-pub owes-by : (w : Part) (c k : ℕ) (r : Leg) {us : List Bool} {o m e : Bool} → us ≡ mustsOf (row w) → o ≡ owed k (drop c us) → m ≡ isMain w → e ≡ hasElement (r .body)
-    → (o || not (m || e)) ≡ owesIn w c k r
-owes-by w c k r p q m e = rw (q, p, m, e)
+pub owes-by : (w : Part) (c k : ℕ) (r : Leg) {us : List Bool} {o m s : Bool} → Musts w us → o ≡ owed k (drop c us) → m ≡ isMain w → s ≡ hasElement (r .body)
+    → Owes w c k r (o || not (m || s))
+owes-by w c k r p q m s e = rw (q, p e, m, s)

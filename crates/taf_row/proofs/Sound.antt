@@ -8,17 +8,23 @@ use Rattle.shapes.specs.Shape.{leading, split, partsOf, spellings}
 use Rattle.places.proofs.ReadBack.{one-pattern, two-patterns, sound, Covered}
 use Rattle.elements.specs.Weather.{codesOf}
 use Rattle.body.proofs.Bodies.{body-covered}
+use Rattle.record.specs.declared.aerodrome.Edition.{Edition}
+use Rattle.record.specs.declared.aerodrome.Edition.the-variants as edition
 use Rattle.taf_row.specs.declared.kinds.Part.{Part}
 use Rattle.taf_row.specs.declared.kinds.Part.the-variants as part
 use Rattle.taf_row.specs.Row.{forecastIn, row, changeWords}
 
-pub row-sound : (w : Part) → sound changeWords (row w) ≡ true
+pub row-sound : (e : Edition) (w : Part) → sound (changeWords e) (row e w) ≡ true
 unfolding row changeWords low high clash clashEach allApart leading split partsOf spellings codesOf
-row-sound part.Main = refl
-row-sound part.Changing = refl
-row-sound part.From = refl
+row-sound edition.Present part.Main = refl
+row-sound edition.Present part.Changing = refl
+row-sound edition.Present part.From = refl
+row-sound edition.Of2005 part.Main = refl
+row-sound edition.Of2005 part.Changing = refl
+row-sound edition.Of2005 part.From = refl
 
 -- WHAT HAS THE SHAPE OF A PLACE FITS THE PATTERNS THAT COVER IT.
-pub row-covered : (w : Part) → Covered (row w)
+pub row-covered : (e : Edition) (w : Part) → Covered (row e w)
 unfolding row
-row-covered w = (one-pattern _, (two-patterns _ _, (one-pattern _, (one-pattern _, (one-pattern _, (one-pattern _, (one-pattern _, body-covered (forecastIn w))))))))
+row-covered e w =
+    (one-pattern _, (two-patterns _ _, (one-pattern _, (one-pattern _, (one-pattern _, (one-pattern _, (one-pattern _, (one-pattern _, body-covered (forecastIn w)))))))))

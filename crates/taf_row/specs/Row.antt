@@ -1,5 +1,7 @@
 -- A TAF's parts as rows of places: "TAF, [AMD or COR], CCCC, YYGGggZ, NIL (end) or YYGG/YYGG, CNL (end) or wind, visibility or CAVOK, up to 3 weather,
 -- 4 cloud and 16 change groups". A change group's part has the same places, those of the head closed, so that a group of an earlier place is refused 6.
+-- The edition decides how a period and FM are written: in that of 2005 "the period as Y1Y1G1G1G2G2, G2 01 to 24, or 51 to 74 when it lasts 25 to 48
+-- hours; change periods as GGGeGe, GG 00 to 23 and Ge 01 to 24; FMGGgg. Document 01's other TAF rules hold." (document 02, No. 9)
 -- Assumes nothing: these are definitions.
 use Prim.Native.Nat.{ℕ}
 use Prim.Native.String.{String}
@@ -18,12 +20,17 @@ use Rattle.record.specs.declared.aerodrome.Instant.{Instant}
 use Rattle.record.specs.declared.aerodrome.Period.{Period}
 use Rattle.record.specs.declared.aerodrome.Body.{Body}
 use Rattle.record.specs.declared.aerodrome.Leg.{Leg}
+use Rattle.record.specs.declared.aerodrome.Edition.{Edition}
+use Rattle.record.specs.declared.aerodrome.Edition.the-variants as edition
+use Rattle.record.specs.Missing.{between}
 use Rattle.record.specs.Taf.{setCorrection, setStation, setTime, setNil, setPeriod, setCancelled, setBody}
 use Rattle.elements.specs.Parts.{figured, provided, then}
 use Rattle.elements.specs.Body.{Terms, windPlace, visibilityPlace, weatherPlace, skyPlace, hasElement}
 use Rattle.aerodrome_groups.specs.Head.{wordPlace, stationPlace, timePlace, fieldOf, isDay, isHour}
 use Rattle.taf_row.specs.declared.kinds.Part.{Part}
 use Rattle.taf_row.specs.declared.kinds.Part.the-variants as part
+use Rattle.taf_row.specs.declared.kinds.Form.{Form}
+use Rattle.taf_row.specs.declared.kinds.Form.the-variants as form
 
 -- ---- where a part stands
 
@@ -38,11 +45,11 @@ isWhole part.Main = true
 isWhole part.Changing = false
 isWhole part.From = true
 
--- YYGG/YYGG stands in the main part and under a change word other than FM
-abbrev pub hasPeriod : Part → Bool
-hasPeriod part.Main = true
-hasPeriod part.Changing = true
-hasPeriod part.From = false
+-- a change's period stands under a change word other than FM
+abbrev pub isChanging : Part → Bool
+isChanging part.Main = false
+isChanging part.Changing = true
+isChanging part.From = false
 
 -- "A change body needs one element"
 abbrev pub elementStands : Part → Body → Bool
@@ -81,43 +88,82 @@ showCorrection correction.None = []
 showCorrection correction.Amended = bytes "AMD" ∷ []
 showCorrection correction.Corrected = bytes "COR" ∷ []
 
--- ---- periods: "Days 01-31, .. end hours 00-24, others 00-23."
+-- ---- periods: YYGG/YYGG, Y1Y1G1G1G2G2, GGGeGe
 
-abbrev pub periodShape : Pattern
-periodShape = bytes "####/####"
+-- the report's own
+abbrev pub ownForm : Edition → Form
+ownForm edition.Present = form.BothDays
+ownForm edition.Of2005 = form.FirstDay
 
-abbrev pub isEndHour : ℕ → Bool
-isEndHour h = leb h 24
+-- a change's
+abbrev pub changeForm : Edition → Form
+changeForm edition.Present = form.BothDays
+changeForm edition.Of2005 = form.NoDay
+
+abbrev pub periodShape : Form → Pattern
+periodShape form.BothDays = bytes "####/####"
+periodShape form.FirstDay = bytes "######"
+periodShape form.NoDay = bytes "####"
+
+-- "Days 01-31, .. end hours 00-24, others 00-23."; in the 2005 edition "G2 01 to 24, or 51 to 74", "Ge 01 to 24"
+abbrev pub isEndHour : Form → ℕ → Bool
+isEndHour form.BothDays h = leb h 24
+isEndHour form.FirstDay h = between 1 24 h || between 51 74 h
+isEndHour form.NoDay h = between 1 24 h
 
 abbrev pub hourOf : ℕ → ℕ → Instant
 hourOf d h = record { day = number.Is d; hour = number.Is h; minute = number.Missing }
 
-unfoldable pub readPeriod : Group → Read Period
-readPeriod g =
+-- without its day
+abbrev pub hourAlone : ℕ → Instant
+hourAlone h = record { day = number.Missing; hour = number.Is h; minute = number.Missing }
+
+unfoldable pub readPeriod : Form → Group → Read Period
+readPeriod form.BothDays g =
     figured (fieldAt g 0 2)
     (λ d. figured (fieldAt g 2 2)
     (λ h. figured (fieldAt g 5 2)
     (λ e. figured (fieldAt g 7 2)
-    (λ k. provided (isDay d && isHour h && isDay e && isEndHour k) (Good (record { from = hourOf d h; to = hourOf e k }))))))
+    (λ k. provided (isDay d && isHour h && isDay e && isEndHour form.BothDays k) (Good (record { from = hourOf d h; to = hourOf e k }))))))
+readPeriod form.FirstDay g =
+    figured (fieldAt g 0 2)
+    (λ d. figured (fieldAt g 2 2)
+    (λ h. figured (fieldAt g 4 2)
+    (λ k. provided (isDay d && isHour h && isEndHour form.FirstDay k) (Good (record { from = hourOf d h; to = hourAlone k })))))
+readPeriod form.NoDay g =
+    figured (fieldAt g 0 2)
+    (λ h. figured (fieldAt g 2 2)
+    (λ k. provided (isHour h && isEndHour form.NoDay k) (Good (record { from = hourAlone h; to = hourAlone k }))))
 
 abbrev pub showHour : Instant → List ℕ
 showHour t = fieldText 2 (fieldOf (t .day)) ++ fieldText 2 (fieldOf (t .hour))
 
-unfoldable pub showPeriod : Period → Group
-showPeriod p = showHour (p .from) ++ bytes "/" ++ showHour (p .to)
+abbrev pub showHourAlone : Instant → List ℕ
+showHourAlone t = fieldText 2 (fieldOf (t .hour))
+
+unfoldable pub showPeriod : Form → Period → Group
+showPeriod form.BothDays p = showHour (p .from) ++ bytes "/" ++ showHour (p .to)
+showPeriod form.FirstDay p = showHour (p .from) ++ showHourAlone (p .to)
+showPeriod form.NoDay p = showHourAlone (p .from) ++ showHourAlone (p .to)
+
+-- a NIL report has none
+abbrev pub periodPlace : Form → Place Leg
+periodPlace f =
+    placeFor (λ g. hasPattern g (periodShape f)) (periodShape f ∷ []) true (λ g r. onto (readPeriod f g) setPeriod r)
+    (λ r. cond (r .nil) [] (showPeriod f (r .period) ∷ [])) (λ r acc. setPeriod (r .period) acc)
 
 -- ---- the rows
 
-unfoldable pub row : Part → List (Place Leg)
-row w =
+unfoldable pub row : Edition → Part → List (Place Leg)
+row e w =
     openIn (isMain w) (placeFor (word "TAF") (bytes "TAF" ∷ []) true (λ g r. Good r) (λ r. bytes "TAF" ∷ []) (λ r acc. acc))
     ∷ openIn (isMain w) (placeFor isCorrection (bytes "AMD" ∷ bytes "COR" ∷ []) false (λ g r. Good (setCorrection (correctionOf g) r))
     (λ r. showCorrection (r .correction)) (λ r acc. setCorrection (r .correction) acc))
     ∷ openIn (isMain w) (lift (λ (r : Leg). r .station) setStation stationPlace)
     ∷ openIn (isMain w) (lift (λ (r : Leg). r .time) setTime timePlace)
     ∷ openIn (isMain w) (lift (λ (r : Leg). r .nil) setNil (wordPlace "NIL" true))
-    ∷ openIn (hasPeriod w) (placeFor (λ g. hasPattern g periodShape) (periodShape ∷ []) true (λ g r. onto (readPeriod g) setPeriod r)
-    (λ r. cond (r .nil) [] (showPeriod (r .period) ∷ [])) (λ r acc. setPeriod (r .period) acc))
+    ∷ openIn (isMain w) (periodPlace (ownForm e))
+    ∷ openIn (isChanging w) (periodPlace (changeForm e))
     ∷ openIn (isMain w) (lift (λ (r : Leg). r .cancelled) setCancelled (wordPlace "CNL" true))
     ∷ ofBody (windPlace (forecastIn w))
     ∷ ofBody (visibilityPlace (forecastIn w))
@@ -125,6 +171,11 @@ row w =
     ∷ ofBody (skyPlace (forecastIn w))
     ∷ []
 
+-- FMYYGGgg, FMGGgg
+abbrev pub fromShape : Edition → Pattern
+fromShape edition.Present = bytes "FM######"
+fromShape edition.Of2005 = bytes "FM####"
+
 -- "BECMG, TEMPO, PROB30, PROB40, PROB TEMPO, each with YYGG/YYGG, or FMYYGGgg. A change group opens a body and a body runs to the next change group."
-unfoldable pub changeWords : List Pattern
-changeWords = bytes "BECMG" ∷ bytes "TEMPO" ∷ bytes "PROB##" ∷ bytes "FM######" ∷ []
+unfoldable pub changeWords : Edition → List Pattern
+changeWords e = bytes "BECMG" ∷ bytes "TEMPO" ∷ bytes "PROB##" ∷ fromShape e ∷ []

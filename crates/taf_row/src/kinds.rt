@@ -4,3 +4,10 @@ pub enum Part {
     Changing,
     From,
 }
+
+// How a period is written: with the days of its beginning and its end, with the day of its beginning alone, or with hours alone.
+pub enum Form {
+    BothDays,
+    FirstDay,
+    NoDay,
+}

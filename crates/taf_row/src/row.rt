@@ -1,10 +1,12 @@
 // What a part's row has, in the code's words: which places have a group's shape, how many may and must stand, and which place a group goes to.
+use crate::kinds::Form;
 use crate::kinds::Part;
 use body::read::has_weather_or_nsw;
 use places::found_at;
 use places::kinds::Found;
 use places::may_answer;
 use places::most_at;
+use record::aerodrome::Edition;
 use shapes::has_pattern;
 use sky::read::has_sky;
 use wind::read::has_visibility;
@@ -12,11 +14,11 @@ use wind::read::has_wind;
 ghost use mathlib.Core.Path.{_≡_};
 ghost use mathlib.Core.Bool.{cond, _&&_};
 ghost use lib.ListN.{drop};
-ghost use Rattle.shapes.specs.Pattern.{hasAny};
+ghost use Rattle.shapes.specs.Pattern.{hasPattern, hasAny};
 ghost use Rattle.places.specs.Seek.{answers, fitFrom, findOf};
-ghost use Rattle.places.specs.Engine.{placeAt, standsOf, mustsOf, mostsOf};
-ghost use Rattle.taf_row.specs.Row.{isMain, isWhole, hasPeriod, isCorrection, row, changeWords};
-ghost use Rattle.taf_row.specs.Tests.{HasAt, Onward};
+ghost use Rattle.places.specs.Engine.{placeAt, standsOf};
+ghost use Rattle.taf_row.specs.Row.{isMain, isWhole, isChanging, isCorrection, ownForm, changeForm, periodShape, isEndHour, fromShape, row, changeWords};
+ghost use Rattle.taf_row.specs.Tests.{HasAt, Mosts, Musts, Onward};
 
 pub fn is_main(part: Part) -> bool
     ensures { λ r. ⌜ r ≡ isMain part ⌝ }
@@ -39,15 +41,70 @@ pub fn is_whole(part: Part) -> bool
     }
 }
 
-fn has_period(part: Part) -> bool
-    ensures { λ r. ⌜ r ≡ hasPeriod part ⌝ }
+fn is_changing(part: Part) -> bool
+    ensures { λ r. ⌜ r ≡ isChanging part ⌝ }
 {
     match part {
-        Part::Main => true,
+        Part::Main => false,
         Part::Changing => true,
         Part::From => false,
     }
 }
+
+// ---- what the edition decides: how periods are written, and FM
+
+// The report's own period.
+pub fn own_form(edition: Edition) -> Form
+    ensures { λ r. ⌜ r ≡ ownForm edition ⌝ }
+{
+    match edition {
+        Edition::Present => Form::BothDays,
+        Edition::Of2005 => Form::FirstDay,
+    }
+}
+
+// A change's period.
+pub fn change_form(edition: Edition) -> Form
+    ensures { λ r. ⌜ r ≡ changeForm edition ⌝ }
+{
+    match edition {
+        Edition::Present => Form::BothDays,
+        Edition::Of2005 => Form::NoDay,
+    }
+}
+
+fn is_period(form: Form, g: &[u8]) -> bool
+    ensures { λ r. ⌜ r ≡ hasPattern (now (g .entry)) (periodShape form) ⌝ }
+{
+    match form {
+        Form::BothDays => has_pattern(g, b"####/####"),
+        Form::FirstDay => has_pattern(g, b"######"),
+        Form::NoDay => has_pattern(g, b"####"),
+    }
+}
+
+// May a period of this form end at the hour? In the 2005 edition 50 is added where it lasts 25 to 48 hours.
+pub fn is_end_hour(form: Form, hour: u32) -> bool
+    ensures { λ r. ⌜ r ≡ isEndHour form hour ⌝ }
+{
+    match form {
+        Form::BothDays => hour <= 24,
+        Form::FirstDay => ((1 <= hour) & (hour <= 24)) | ((51 <= hour) & (hour <= 74)),
+        Form::NoDay => (1 <= hour) & (hour <= 24),
+    }
+}
+
+// FMYYGGgg or FMGGgg
+fn is_from(edition: Edition, g: &[u8]) -> bool
+    ensures { λ r. ⌜ r ≡ hasPattern (now (g .entry)) (fromShape edition) ⌝ }
+{
+    match edition {
+        Edition::Present => has_pattern(g, b"FM######"),
+        Edition::Of2005 => has_pattern(g, b"FM####"),
+    }
+}
+
+// ---- the row
 
 fn is_correction(g: &[u8]) -> bool
     ensures { λ r. ⌜ r ≡ isCorrection (now (g .entry)) ⌝ }
@@ -57,19 +114,19 @@ fn is_correction(g: &[u8]) -> bool
     amended | corrected
 }
 
-pub fn is_change_word(g: &[u8]) -> bool
-    ensures { λ r. ⌜ r ≡ hasAny changeWords (now (g .entry)) ⌝ }
+pub fn is_change_word(edition: Edition, g: &[u8]) -> bool
+    ensures { λ r. ⌜ r ≡ hasAny (changeWords edition) (now (g .entry)) ⌝ }
 {
     let becoming = has_pattern(g, b"BECMG");
     let temporary = has_pattern(g, b"TEMPO");
     let probable = has_pattern(g, b"PROB##");
-    let from = has_pattern(g, b"FM######");
+    let from = is_from(edition, g);
     becoming | temporary | probable | from
 }
 
 // Has the group the shape of this place? In every part the same.
-fn has_at(place: usize, g: &[u8]) -> bool
-    ensures { λ r. ⌜ HasAt place (now (g .entry)) r ⌝ }
+fn has_at(edition: Edition, place: usize, g: &[u8]) -> bool
+    ensures { λ r. ⌜ HasAt edition place (now (g .entry)) r ⌝ }
 {
     match place {
         0 => has_pattern(g, b"TAF"),
@@ -77,12 +134,13 @@ fn has_at(place: usize, g: &[u8]) -> bool
         2 => has_pattern(g, b"@@@@"),
         3 => has_pattern(g, b"######Z"),
         4 => has_pattern(g, b"NIL"),
-        5 => has_pattern(g, b"####/####"),
-        6 => has_pattern(g, b"CNL"),
-        7 => has_wind(g),
-        8 => has_visibility(g),
-        9 => has_weather_or_nsw(g),
-        10 => has_sky(g),
+        5 => is_period(own_form(edition), g),
+        6 => is_period(change_form(edition), g),
+        7 => has_pattern(g, b"CNL"),
+        8 => has_wind(g),
+        9 => has_visibility(g),
+        10 => has_weather_or_nsw(g),
+        11 => has_sky(g),
         _ => false,
     }
 }
@@ -94,23 +152,23 @@ fn one_if(free: bool) -> u8
     if free { 1 } else { 0 }
 }
 
-// How many groups may stand at each place?
-fn mosts(part: Part) -> [u8; 11]
-    ensures { λ r. ⌜ r ≡ mostsOf (row part) ⌝ }
+// How many groups may stand at each place? In every edition the same.
+fn mosts(part: Part) -> [u8; 12]
+    ensures { λ r. ⌜ Mosts part r ⌝ }
 {
     let main = is_main(part);
     let head = one_if(main);
-    let dated = has_period(part);
-    let period = one_if(dated);
-    [head, head, head, head, head, period, head, 1, 1, 3, 4]
+    let changing = is_changing(part);
+    let change = one_if(changing);
+    [head, head, head, head, head, head, change, head, 1, 1, 3, 4]
 }
 
-// Which places must have a group?
-pub fn musts(part: Part) -> [bool; 11]
-    ensures { λ r. ⌜ r ≡ mustsOf (row part) ⌝ }
+// Which places must have a group? In every edition the same.
+pub fn musts(part: Part) -> [bool; 12]
+    ensures { λ r. ⌜ Musts part r ⌝ }
 {
     let main = is_main(part);
-    let period = has_period(part);
+    let changing = is_changing(part);
     let whole = is_whole(part);
     [
         main,
@@ -118,7 +176,8 @@ pub fn musts(part: Part) -> [bool; 11]
         main,
         main,
         false,
-        period,
+        main,
+        changing,
         false,
         whole,
         whole,
@@ -128,25 +187,25 @@ pub fn musts(part: Part) -> [bool; 11]
 }
 
 // May this place, where `count` groups stand, answer for the group, and has it the group's shape? A shape is asked for only where it may.
-fn is_fit(part: Part, all: bool, place: usize, count: usize, g: &[u8]) -> bool
-    ensures { λ r. ⌜ r ≡ (answers all count (placeAt (row part) place .most) && placeAt (row part) place .has (now (g .entry))) ⌝ }
+fn is_fit(edition: Edition, part: Part, all: bool, place: usize, count: usize, g: &[u8]) -> bool
+    ensures { λ r. ⌜ r ≡ (answers all count (placeAt (row edition part) place .most) && placeAt (row edition part) place .has (now (g .entry))) ⌝ }
 {
     let most = mosts(part);
     if may_answer(all, count, most_at(&most, place)) {
-        has_at(place, g)
+        has_at(edition, place, g)
     } else {
         false
     }
 }
 
 // The first such place from `place` on.
-fn fit_from(part: Part, all: bool, place: usize, count: usize, g: &[u8]) -> usize
-    ensures { λ r. ⌜ r ≡ fitFrom all place count (drop place (standsOf (row part) (now (g .entry)))) ⌝ }
+fn fit_from(edition: Edition, part: Part, all: bool, place: usize, count: usize, g: &[u8]) -> usize
+    ensures { λ r. ⌜ r ≡ fitFrom all place count (drop place (standsOf (row edition part) (now (g .entry)))) ⌝ }
 {
     let mut i = place;
     let mut k = count;
-    while i < 11 {
-        if is_fit(part, all, i, k, g) {
+    while i < 12 {
+        if is_fit(edition, part, all, i, k, g) {
             return i;
         }
         i += 1;
@@ -156,16 +215,16 @@ fn fit_from(part: Part, all: bool, place: usize, count: usize, g: &[u8]) -> usiz
 }
 
 // The place that the group goes to.
-pub fn find(part: Part, place: usize, count: usize, g: &[u8]) -> Found
-    ensures { λ r. ⌜ r ≡ findOf (standsOf (row part) (now (g .entry))) place count ⌝ }
+pub fn find(edition: Edition, part: Part, place: usize, count: usize, g: &[u8]) -> Found
+    ensures { λ r. ⌜ r ≡ findOf (standsOf (row edition part) (now (g .entry))) place count ⌝ }
 {
-    let fit = fit_from(part, false, place, count, g);
-    if fit < 11 {
+    let fit = fit_from(edition, part, false, place, count, g);
+    if fit < 12 {
         let most = mosts(part);
         let must = musts(part);
         return found_at(&most, &must, place, count, fit);
     }
-    if fit_from(part, true, 0, 0, g) < 11 {
+    if fit_from(edition, part, true, 0, 0, g) < 12 {
         Found::Earlier
     } else {
         Found::Unknown
@@ -176,8 +235,8 @@ pub fn find(part: Part, place: usize, count: usize, g: &[u8]) -> Found
 pub fn go_past(place: usize) -> usize
     ensures { λ r. ⌜ Onward place r ⌝ }
 {
-    if (place == 4) | (place == 6) {
-        11
+    if (place == 4) | (place == 7) {
+        12
     } else {
         place
     }

@@ -7,7 +7,7 @@ use record::aerodrome::Leg;
 use record::aerodrome::Opening;
 use shapes::has_pattern;
 ghost use mathlib.Core.Path.{_≡_};
-ghost use Rattle.taf_row.specs.Tests.{isProbable, joins, owesIn, isFull};
+ghost use Rattle.taf_row.specs.Tests.{isProbable, joins, Owes, isFull};
 
 // ---- at a group
 
@@ -37,7 +37,7 @@ pub fn does_join(opening: Opening, g: &[u8]) -> bool
 
 // Is a required group absent, or has a change body no element?
 pub fn owes(part: Part, place: usize, count: usize, r: Leg) -> bool
-    ensures { λ b. ⌜ b ≡ owesIn part place count r ⌝ }
+    ensures { λ b. ⌜ Owes part place count r b ⌝ }
 {
     let must = musts(part);
     let owed = places::is_owed(&must, place, count);

@@ -32,6 +32,10 @@ numbered n =
     ∷ some refusal.Limit
     ∷ some refusal.Room
     ∷ some refusal.Value
+    ∷ none
+    ∷ none
+    ∷ none
+    ∷ some refusal.Times
     ∷ []) n none
 
 by-number : (f : Refusal) → numbered (numberOf f) ≡ some f
@@ -46,6 +50,7 @@ by-number refusal.Absence = refl
 by-number refusal.Limit = refl
 by-number refusal.Room = refl
 by-number refusal.Value = refl
+by-number refusal.Times = refl
 
 -- the answer that has these numbers
 abbrev verdictOf : Numbered → ℕ → Verdict

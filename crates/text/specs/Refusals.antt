@@ -1,4 +1,4 @@
--- "The refusal numbers": document 01's table, by the names that the code gives its lines.
+-- "The refusal numbers": document 01's table, and those that document 02 adds, by the names that the code gives its lines.
 -- Assumes nothing: these are definitions.
 use Prim.Native.Nat.{ℕ}
 use Rattle.text.specs.declared.kinds.Refusal.{Refusal}
@@ -27,3 +27,5 @@ numberOf refusal.Limit = 9
 numberOf refusal.Room = 10
 -- writer: a value outside its range, a bad name, a required one missing and the like
 numberOf refusal.Value = 11
+-- document 02, No. 9: the times of a forecast that is moved to the other edition do not fit one another, or can't be written there
+numberOf refusal.Times = 15

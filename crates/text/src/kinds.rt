@@ -21,7 +21,7 @@ pub enum Bytes {
     Byte(usize),
 }
 
-// Document 01's refusal numbers, by what they say; `refusal_number` gives the number.
+// The refusal numbers of documents 01 and 02, by what they say; `refusal_number` gives the number.
 pub enum Refusal {
     Length,
     Byte,
@@ -34,6 +34,7 @@ pub enum Refusal {
     Limit,
     Room,
     Value,
+    Times,
 }
 
 // What the writer judges of a part of a record: it can be written, or its refusal, 11 or 7.

@@ -33,6 +33,7 @@ pub fn refusal_number(r: Refusal) -> u8
         Refusal::Limit => 9,
         Refusal::Room => 10,
         Refusal::Value => 11,
+        Refusal::Times => 15,
     }
 }
 

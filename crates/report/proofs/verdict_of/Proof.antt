@@ -1,35 +1,11 @@
--- `report::verdict_of` meets its contract: by the name.
+-- `report::verdict_of` meets its contract: in the present edition.
 -- Assumes nothing.
 use borrow.Author.Needs.{needs}
-use mathlib.Core.Path.{sym, ap, _∙_}
-use Rattle.report_record.specs.declared.kinds.Reading.{Reading}
-use Rattle.report.proofs.Readings.{as-surface, as-observed, as-forecast, as-refused}
 use Rattle.report.proofs.verdict_of.Statement.{statement}
 use Rattle.report.proofs.verdict_of.Tie as tie
-
-returns : tie.Need-returns
-returns c =
-    let t = c .before .before .before .before .before .before .args .text .now in
-    ap (λ (a : Reading). a .verdict) (as-surface t _ _ (sym (c .before .before .before .before .name .ensures) ∙ c .before .before .named .given .1) (c .read-from .ensures))
-
-returns-2 : tie.Need-returns-2
-returns-2 c =
-    let t = c .before .before .before .before .before .before .args .text .now in
-    ap (λ (a : Reading). a .verdict) (as-observed t _ _ (sym (c .before .before .before .before .name .ensures) ∙ c .before .before .named2 .given .1) (c .read-from2 .ensures))
-
-returns-3 : tie.Need-returns-3
-returns-3 c =
-    let t = c .before .before .before .before .before .before .args .text .now in
-    ap (λ (a : Reading). a .verdict) (as-forecast t _ (sym (c .before .before .before .before .name .ensures) ∙ c .before .before .named3 .given .1) (c .read-from3 .ensures))
-
-returns-4 : tie.Need-returns-4
-returns-4 c =
-    let t = c .before .before .before .before .before .args .text .now in
-    ap (λ (a : Reading). a .verdict) (as-refused t _ _ (sym (c .before .before .before .name .ensures) ∙ c .before .named4 .given .1))
 
 pub verdict-of-spec : {M : Type 1} → statement M
 verdict-of-spec =
     tie.close
     (tie.spec
-    (λ c κs. search needs) (λ c. search needs) (λ c κs. search needs) (λ c. search needs) (λ c κs. search needs) (λ c. search needs) (λ c κs. search needs)
-    (λ c. search needs) returns returns-2 returns-3 returns-4)
+    (λ c κs. search needs) (λ c. c .verdict-in .ensures))

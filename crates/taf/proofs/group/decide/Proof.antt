@@ -14,8 +14,8 @@ pub decide-spec : {M : Type 1} → statement M
 decide-spec =
     tie.close
     (tie.spec
-    (λ c. turn-past (row _) (hasAny changeWords) _ _ _ (rw (row-length _) (c .if1 .taken)))
+    (λ c. turn-past (row _ _) (hasAny (changeWords _)) _ _ _ (rw (row-length _ _) (c .if1 .taken)))
     (λ c κs. search needs)
-    (λ c. turn-halts (row _) (hasAny changeWords) _ _ _ (rw (row-length _) (omega (arith, c .before .before .if1 .left))) (sym (c .before .is-change-word .ensures) ∙ c .if2 .taken))
+    (λ c. turn-halts (row _ _) (hasAny (changeWords _)) _ _ _ (rw (row-length _ _) (omega (arith, c .before .before .if1 .left))) (sym (c .before .is-change-word .ensures) ∙ c .if2 .taken))
     (λ c κs. search needs) (λ c κs. search needs)
-    (λ c. turn-found (row _) (hasAny changeWords) _ _ _ (rw (row-length _) (omega (arith, c .before .before .before .before .if1 .left))) (sym (c .before .before .before .is-change-word .ensures) ∙ c .before .before .if2 .left) (c .before .find .ensures) (c .turn-by .ensures)))
+    (λ c. turn-found (row _ _) (hasAny (changeWords _)) _ _ _ (rw (row-length _ _) (omega (arith, c .before .before .before .before .if1 .left))) (sym (c .before .before .before .is-change-word .ensures) ∙ c .before .before .if2 .left) (c .before .find .ensures) (c .turn-by .ensures)))

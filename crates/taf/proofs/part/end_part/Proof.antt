@@ -9,4 +9,4 @@ end-part-spec =
     tie.close
     (tie.spec
     (λ c κs. search needs) (λ c κs. search needs) (λ c κs. search needs)
-    (λ c. rw (c .end-verdict .ensures, c .before .owes .ensures, c .before .before .with-body .ensures)))
+    (λ c e. rw (c .end-verdict .ensures, c .before .owes .ensures e, c .before .before .with-body .ensures)))

@@ -19,10 +19,10 @@ use Rattle.taf.proofs.part.read_part.Statement.{statement}
 use Rattle.taf.proofs.part.read_part.Tie as tie
 
 abbrev Inv : tie.InvT-loop
-Inv text at part n k leg₀ body₀ here₀ standing₀ from₀ leg body here standing from = Reached text part n k leg₀ at here standing (setBody body leg) from
+Inv edition text at n part leg₀ body₀ here₀ standing₀ from₀ leg body here standing from = Reached edition text part n standing₀ leg₀ at here standing (setBody body leg) from
 
 abbrev μ : tie.MeasureT-loop
-μ text at part n k leg₀ body₀ here₀ standing₀ from₀ leg body here standing from = length text - from
+μ edition text at n part leg₀ body₀ here₀ standing₀ from₀ leg body here standing from = length text - from
 
 -- the group that is taken; it lies ahead, and the part with it is read on from there
 abbrev group : tie.After-known-told3 Inv μ → Saying
@@ -32,15 +32,15 @@ less : (c : tie.After-part Inv μ) → length (c .before .before .before .before
 less c = omega (arith, group-ahead (c .before .before .before .before .before .before .before .loop .inv) partSaid _ (c .before .before .before .before .before .before .meet .ensures) refl (c .before .before .before .before .met3 .given .1))
 
 on : (c : tie.After-part Inv μ) {x : Said} {leg : Leg} → group (c .before .before .before) .said ≡ x → leg ≡ partSaid (group (c .before .before .before) .count) (c .part .result .now) x (setBody (c .before .before .before .before .before .before .before .loop .body) (c .before .before .before .before .before .before .before .loop .leg))
-    → Reached (c .before .before .before .before .before .before .before .before .before .before .before .args .text .now) (c .before .before .before .before .before .before .before .before .before .before .before .args .part) (c .before .before .before .before .before .before .before .before .before .before .before .args .n) (c .before .before .before .before .before .before .before .before .before .before .before .args .k) (c .before .before .before .before .before .before .before .before .before .begin-leg .result) (c .before .before .before .before .before .before .before .before .before .before .before .args .at) (c .before .before .go-past .result) (group (c .before .before .before) .count + 1) leg (group (c .before .before .before) .end)
-on c is put = reads-on (c .before .before .before .before .before .before .before .loop .inv) partSaid _ (c .before .before .before .before .before .before .meet .ensures) refl (c .before .before .before .before .met3 .given .1) (c .before .before .go-past .ensures _) is (rw (c .part .ensures) at put)
+    → Reached (c .before .before .before .before .before .before .before .before .before .before .before .args .edition) (c .before .before .before .before .before .before .before .before .before .before .before .args .text .now) (c .before .before .before .before .before .before .before .before .before .before .before .args .outset .part) (c .before .before .before .before .before .before .before .before .before .before .before .args .n) (c .before .before .before .before .before .before .before .before .before .before .before .args .outset .stood) (c .before .before .before .before .before .before .before .before .before .begin-leg .result) (c .before .before .before .before .before .before .before .before .before .before .before .args .at) (c .before .before .go-past .result) (group (c .before .before .before) .count + 1) leg (group (c .before .before .before) .end)
+on c is put = reads-on (c .before .before .before .before .before .before .before .loop .inv) partSaid _ (c .before .before .before .before .before .before .meet .ensures) refl (c .before .before .before .before .met3 .given .1) (c .before .before .go-past .ensures _ _) is (rw (c .part .ensures) at put)
 
 pub read-part-spec : {M : Type 1} → statement M
 read-part-spec =
     tie.close
     (tie.spec
     Inv μ
-    (λ c κs. search needs) (λ c. let a = c .before .before .before .args in starts changes (a .text .now) (partIn (a .part)) (16 - a .n) (a .k) _ (a .at) (λ x. (refl, refl))) (λ c κs. search needs)
+    (λ c κs. search needs) (λ c. let a = c .before .before .before .args in starts (changes (a .edition)) (a .text .now) (partIn (a .edition) (a .outset .part)) (16 - a .n) (a .outset .stood) _ (a .at) (λ x. (refl, refl))) (λ c κs. search needs)
     (λ c. search needs) (λ c κs. search needs)
     (λ c. part-over (rw (c .before .before .before .before .before .before .begin-leg .ensures) at (c .before .before .before .before .loop .inv)) (c .before .before .before .meet .ensures) (c .before .enum-told .given .1) (c .end-part .ensures))
     (λ c. search needs) (λ c κs. search needs)

@@ -23,10 +23,10 @@ use Rattle.taf.proofs.read.+read_body+read_change.{statement}
 use Rattle.taf.proofs.read.+read_body+read_change.Tie.{close}
 
 abbrev μ-read-body : Measures 1 read-body-kinds.ps ℕ
-μ-read-body κs a = 2 * (length (a .0 .now) - a .1 .0)
+μ-read-body κs a = 2 * (length (a .1 .0 .now) - a .1 .1 .0)
 
 abbrev μ-read-change : Measures 1 read-change-kinds.ps ℕ
-μ-read-change κs a = 2 * (length (a .0 .now) - a .1 .0) + 1
+μ-read-change κs a = 2 * (length (a .1 .0 .now) - a .1 .1 .0) + 1
 
 module _ (t : ℕ) where
   -- what each reader is given at the measure t, and what a call of it asks below t
@@ -57,9 +57,9 @@ pub +read-body+read-change-spec : {M : Type 1} → statement M
     (λ c. omega (arith, c .before .before .before .before .before .before .before .pre .1))
     (λ c κs. let b = c .before .before .before .before .before .before .before in let h = c .before .before .before .before .read-part .ensures .ahead _ _ _ (c .before .next2 .given .1) in (omega (arith, h .0, h .1, b .pre .0), h .2))
     (λ c. omega (arith, c .before .before .before .before .before .before .before .before .pre .1)) (λ c. omega (arith, c .before .before .before .before .before .before .before .before .pre .1))
-    (λ c. let a = c .before .before .before .before .before .before .before .before .args in body-ends (a .text .now) (a .n) (a .opening) (a .period) (a .at) (c .before .before .before .before .before .before .before .before .pre .1) (c .before .before .before .before .before .before .part-of .ensures) (c .before .before .before .before .before .read-part .ensures) (c .before .before .before .before .change-of .ensures) (c .before .before .next .given .1) (c .none .ensures))
-    (λ c. let a = c .before .before .before .before .before .before .before .before .args in body-goes (a .text .now) (a .n) (a .opening) (a .period) (a .at) (c .before .before .before .before .before .before .before .before .pre .1) (c .before .before .before .before .before .before .part-of .ensures) (c .before .before .before .before .before .read-part .ensures) (c .before .before .before .before .change-of .ensures) (c .before .before .next2 .given .1) (c .read-change .ensures)))
+    (λ c. let a = c .before .before .before .before .before .before .before .before .args in body-ends (a .edition) (a .text .now) (a .n) (a .opening) (a .period) (a .at) (c .before .before .before .before .before .before .before .before .pre .1) (c .before .before .before .before .before .before .part-of .ensures) (c .before .before .before .before .before .read-part .ensures) (c .before .before .before .before .change-of .ensures) (c .before .before .next .given .1) (c .none .ensures))
+    (λ c. let a = c .before .before .before .before .before .before .before .before .args in body-goes (a .edition) (a .text .now) (a .n) (a .opening) (a .period) (a .at) (c .before .before .before .before .before .before .before .before .pre .1) (c .before .before .before .before .before .before .part-of .ensures) (c .before .before .before .before .before .read-part .ensures) (c .before .before .before .before .change-of .ensures) (c .before .before .next2 .given .1) (c .read-change .ensures)))
     λ t. read-change-lts.spec (change-calls t) (change-at t) read-change.Post
     (λ c κs. search needs)
-    (λ c κs. let b = c .before .before in (omega (arith, c .begin-part .ensures .later, b .pre .0), b .pre .1))
-    (λ c. let a = c .before .before .before .args in change-goes (a .text .now) (a .n) (a .opening) _ (a .period) (a .at) _ (c .before .begin-part .ensures) (c .read-body .ensures))
+    (λ c κs. let b = c .before .before in (omega (arith, c .begin-part .ensures (b .args .edition) .later, b .pre .0), b .pre .1))
+    (λ c. let a = c .before .before .before .args in change-goes (a .edition) (a .text .now) (a .n) (a .opening) _ (a .period) (a .at) _ (c .before .begin-part .ensures) (c .read-body .ensures))

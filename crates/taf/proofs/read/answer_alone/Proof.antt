@@ -9,5 +9,5 @@ answer-alone-spec =
     tie.close
     (tie.spec
     (λ c. search needs) (λ c κs. search needs) (λ c κs. search needs) (λ c. search needs) (λ c κs. search needs)
-    (λ c. rw (c .before .before .before .verdict .given .1, c .accept .ensures, c .before .blank-taf .ensures))
+    (λ c. rw (c .before .before .before .before .verdict .given .1, c .accept .ensures, c .before .before .blank-taf .ensures))
     (λ c. rw (c .before .before .verdict2 .given .1, c .refuse .ensures)))

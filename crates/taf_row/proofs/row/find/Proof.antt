@@ -18,14 +18,14 @@ find-spec =
     (λ c κs. search needs) (λ c κs. search needs) (λ c κs. search needs) (λ c. search needs) (λ c. search needs) (λ c κs. search needs)
     (λ c.
     let a = c .before .before .before .before .before .before .before .before .args in
-    find-fit (row (a .part)) (a .g .now) (a .place) (a .count) (c .before .before .before .before .before .before .fit-from .ensures) (rw (row-length (a .part)) (omega arith))
-    (rw (← c .before .before .before .before .mosts .ensures, ← c .before .before .before .musts .ensures) (c .found-at .ensures)))
+    find-fit (row (a .edition) (a .part)) (a .g .now) (a .place) (a .count) (c .before .before .before .before .before .before .fit-from .ensures) (rw (row-length (a .edition) (a .part)) (omega arith))
+    (rw (← c .before .before .before .before .mosts .ensures (a .edition), ← c .before .before .before .musts .ensures (a .edition)) (c .found-at .ensures)))
     (λ c κs. search needs)
     (λ c.
     let a = c .before .before .before .before .before .args in
     let e = c .before .fit-from2 .result in
-    find-none (row (a .part)) (a .g .now) (a .place) (a .count) (c .before .before .before .fit-from .ensures) e (rw (row-length (a .part)) (omega arith)) (c .before .fit-from2 .ensures) true (lt-ltb e (length (row (a .part))) (rw (row-length (a .part)) (omega arith))))
+    find-none (row (a .edition) (a .part)) (a .g .now) (a .place) (a .count) (c .before .before .before .fit-from .ensures) e (rw (row-length (a .edition) (a .part)) (omega arith)) (c .before .fit-from2 .ensures) true (lt-ltb e (length (row (a .edition) (a .part))) (rw (row-length (a .edition) (a .part)) (omega arith))))
     (λ c.
     let a = c .before .before .before .before .before .args in
     let e = c .before .fit-from2 .result in
-    find-none (row (a .part)) (a .g .now) (a .place) (a .count) (c .before .before .before .fit-from .ensures) e (rw (row-length (a .part)) (omega arith)) (c .before .fit-from2 .ensures) false (le-ltb e (length (row (a .part))) (rw (row-length (a .part)) (omega arith)))))
+    find-none (row (a .edition) (a .part)) (a .g .now) (a .place) (a .count) (c .before .before .before .fit-from .ensures) e (rw (row-length (a .edition) (a .part)) (omega arith)) (c .before .fit-from2 .ensures) false (le-ltb e (length (row (a .edition) (a .part))) (rw (row-length (a .edition) (a .part)) (omega arith)))))

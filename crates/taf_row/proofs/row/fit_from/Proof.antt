@@ -14,10 +14,10 @@ use Rattle.taf_row.proofs.row.fit_from.Statement.{statement}
 use Rattle.taf_row.proofs.row.fit_from.Tie as tie
 
 abbrev Inv : tie.InvT-loop
-Inv part all place count g i₀ k₀ i k = fitFrom all place count (drop place (standsOf (row part) g)) ≡ fitFrom all i k (drop i (standsOf (row part) g))
+Inv edition part all place count g i₀ k₀ i k = fitFrom all place count (drop place (standsOf (row edition part) g)) ≡ fitFrom all i k (drop i (standsOf (row edition part) g))
 
 abbrev μ : tie.MeasureT-loop
-μ part all place count g i₀ k₀ i k = 11 - i
+μ edition part all place count g i₀ k₀ i k = 12 - i
 
 pub fit-from-spec : {M : Type 1} → statement M
 fit-from-spec =
@@ -28,14 +28,14 @@ fit-from-spec =
     (λ c.
     let l = c .before .before .before .loop in
     let a = c .before .before .before .before .before .args in
-    sym (l .inv ∙ fit-here (row (a .part)) (a .g .now) (a .all) (l .i) (l .k) (rw (row-length (a .part)) (omega arith)) (sym (c .before .is-fit .ensures) ∙ c .if1 .taken)))
+    sym (l .inv ∙ fit-here (row (a .edition) (a .part)) (a .g .now) (a .all) (l .i) (l .k) (rw (row-length (a .edition) (a .part)) (omega arith)) (sym (c .before .is-fit .ensures) ∙ c .if1 .taken)))
     (λ c. omega arith)
     (λ c. omega arith)
     (λ c.
     let l = c .before .before .before .loop in
     let a = c .before .before .before .before .before .args in
-    l .inv ∙ fit-next (row (a .part)) (a .g .now) (a .all) (l .i) (l .k) (rw (row-length (a .part)) (omega arith)) (sym (c .before .is-fit .ensures) ∙ c .if1 .left))
+    l .inv ∙ fit-next (row (a .edition) (a .part)) (a .g .now) (a .all) (l .i) (l .k) (rw (row-length (a .edition) (a .part)) (omega arith)) (sym (c .before .is-fit .ensures) ∙ c .if1 .left))
     (λ c.
     let l = c .before .loop in
     let a = c .before .before .before .args in
-    sym (l .inv ∙ fit-end (row (a .part)) (a .g .now) (a .all) (l .i) (l .k) (rw (row-length (a .part)) (omega arith)))))
+    sym (l .inv ∙ fit-end (row (a .edition) (a .part)) (a .g .now) (a .all) (l .i) (l .k) (rw (row-length (a .edition) (a .part)) (omega arith)))))

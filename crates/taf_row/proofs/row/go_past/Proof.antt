@@ -6,10 +6,10 @@ use Rattle.taf_row.proofs.row.go_past.Statement.{statement}
 use Rattle.taf_row.proofs.row.go_past.Tie as tie
 
 returns : tie.Need-returns
-returns c w = past-end w _ true (c .if1 .taken)
+returns c e w = past-end e w _ true (c .if1 .taken)
 
 returns-2 : tie.Need-returns-2
-returns-2 c w = past-end w _ false (c .if1 .left)
+returns-2 c e w = past-end e w _ false (c .if1 .left)
 
 pub go-past-spec : {M : Type 1} → statement M
 go-past-spec =

@@ -14,7 +14,7 @@ is-fit-spec =
     (λ c κs. search needs) (λ c. search needs) (λ c κs. search needs) (λ c κs. search needs) (λ c κs. search needs)
     (λ c.
     let a = c .before .before .before .before .before .before .before .args in
-    fit-open (row (a .part)) (a .g .now) (a .all) (a .place) (a .count) (c .before .before .before .before .before .mosts .ensures) (c .before .before .before .most-at .ensures) (sym (c .before .before .may-answer .ensures) ∙ c .before .if1 .taken) (c .has-at .ensures (a .part)))
+    fit-open (row (a .edition) (a .part)) (a .g .now) (a .all) (a .place) (a .count) (c .before .before .before .before .before .mosts .ensures (a .edition)) (c .before .before .before .most-at .ensures) (sym (c .before .before .may-answer .ensures) ∙ c .before .if1 .taken) (c .has-at .ensures (a .part)))
     (λ c.
     let a = c .before .before .before .before .before .before .args in
-    fit-shut (row (a .part)) (a .g .now) (a .all) (a .place) (a .count) (c .before .before .before .before .mosts .ensures) (c .before .before .most-at .ensures) (sym (c .before .may-answer .ensures) ∙ c .if1 .left)))
+    fit-shut (row (a .edition) (a .part)) (a .g .now) (a .all) (a .place) (a .count) (c .before .before .before .before .mosts .ensures (a .edition)) (c .before .before .most-at .ensures) (sym (c .before .may-answer .ensures) ∙ c .if1 .left)))

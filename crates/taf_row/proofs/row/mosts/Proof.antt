@@ -6,7 +6,7 @@ use Rattle.taf_row.proofs.row.mosts.Statement.{statement}
 use Rattle.taf_row.proofs.row.mosts.Tie as tie
 
 returns : tie.Need-returns
-returns c = mosts-by (c .before .before .before .before .args .part) (c .before .before .before .is-main .ensures) (c .before .before .one-if .ensures) (c .before .has-period .ensures) (c .one-if2 .ensures)
+returns c = mosts-by (c .before .before .before .before .args .part) (c .before .before .before .is-main .ensures) (c .before .before .one-if .ensures) (c .before .is-changing .ensures) (c .one-if2 .ensures)
 
 pub mosts-spec : {M : Type 1} → statement M
 mosts-spec =

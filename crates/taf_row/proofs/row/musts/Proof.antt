@@ -6,7 +6,7 @@ use Rattle.taf_row.proofs.row.musts.Statement.{statement}
 use Rattle.taf_row.proofs.row.musts.Tie as tie
 
 returns : tie.Need-returns
-returns c = musts-by (c .before .before .before .args .part) (c .before .before .is-main .ensures) (c .before .has-period .ensures) (c .is-whole .ensures)
+returns c = musts-by (c .before .before .before .args .part) (c .before .before .is-main .ensures) (c .before .is-changing .ensures) (c .is-whole .ensures)
 
 pub musts-spec : {M : Type 1} → statement M
 musts-spec =

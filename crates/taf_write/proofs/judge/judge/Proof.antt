@@ -1,6 +1,6 @@
--- `taf_write::judge::judge` meets its contract, part by part.
+-- `taf_write::judge::judge` meets its contract: the edition, then the record.
 -- Assumes nothing.
-use Rattle.taf.specs.Write.{judgeOf}
+use Rattle.taf.specs.Write.{judgeIn}
 use Rattle.taf_write.proofs.judge.judge.Statement.{statement}
 use Rattle.taf_write.proofs.judge.judge.Tie as tie
 
@@ -8,5 +8,5 @@ pub judge-spec : {M : Type 1} → statement M
 judge-spec =
     tie.close
     (tie.spec
-    (λ c κs. tt) (λ c κs. tt) (λ c κs. tt) (λ c κs. tt) (λ c κs. tt) (λ c κs. tt) (λ c κs. tt) (λ c κs. tt)
-    (λ c. unfold judgeOf in rw (c .and-then3 .ensures, c .before .and-then2 .ensures, c .before .before .judge-station .ensures, c .before .before .before .and-then .ensures, c .before .before .before .before .judge-rest .ensures, c .before .before .before .before .before .judge-time .ensures, c .before .before .before .before .before .before .judge .ensures, c .before .before .before .before .before .before .before .foreign-blank .ensures)))
+    (λ c κs. tt) (λ c κs. tt) (λ c κs. tt) (λ c κs. tt)
+    (λ c. unfold judgeIn in rw (c .and-then .ensures, c .before .judge-record .ensures, c .before .before .judge .ensures, c .before .before .before .is-same .ensures)))

@@ -7,6 +7,6 @@ pub judge-rest-spec : {M : Type 1} → statement M
 judge-rest-spec =
     tie.close
     (tie.spec
-    (λ c κs. tt) (λ c κs. tt) (λ c κs. tt) (λ c κs. tt)
+    (λ c κs. tt) (λ c κs. tt) (λ c κs. tt) (λ c κs. tt) (λ c κs. tt)
     (λ c. rw (c .if1 .taken))
-    (λ c. rw (c .before .before .before .before .if1 .left, c .and-then .ensures, c .before .before .judge .ensures, c .before .before .before .period-fits .ensures, c .before .judge-forecast .ensures)))
+    (λ c. rw (c .before .before .before .before .before .if1 .left, c .and-then .ensures, c .before .before .judge .ensures, c .before .before .before .period-fits .ensures, c .before .before .before .before .own-form .ensures, c .before .judge-forecast .ensures)))

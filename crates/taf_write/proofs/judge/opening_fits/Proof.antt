@@ -8,10 +8,10 @@ pub opening-fits-spec : {M : Type 1} → statement M
 opening-fits-spec =
     tie.close
     (tie.spec
-    (λ c. search needs) (λ c. search needs) (λ c κs. tt) (λ c. search needs) (λ c κs. tt) (λ c. search needs) (λ c κs. tt) (λ c. search needs)
-    (λ c κs. tt) (λ c. search needs) (λ c κs. tt) (λ c κs. tt) (λ c. search needs)
-    (λ c. rw (c .before .enum-told2 .given .1, c .period-fits .ensures))
-    (λ c. rw (c .before .enum-told3 .given .1, c .period-fits2 .ensures))
-    (λ c. rw (c .before .before .o .given .1, c .period-fits3 .ensures))
-    (λ c. rw (c .before .before .o2 .given .1, c .period-fits4 .ensures))
-    (λ c. rw (c .before .before .enum-told4 .given .1, c .before .instant-fits .ensures, c .is-blank .ensures)))
+    (λ c κs. tt) (λ c κs. tt) (λ c. search needs) (λ c. search needs) (λ c. search needs) (λ c. search needs) (λ c. search needs) (λ c. search needs) (λ c κs. tt) (λ c κs. tt)
+    (λ c. search needs)
+    (λ c. rw (c .enum-told2 .given .1, c .before .before .period-fits .ensures, c .before .before .before .change-form .ensures))
+    (λ c. rw (c .enum-told3 .given .1, c .before .before .period-fits .ensures, c .before .before .before .change-form .ensures))
+    (λ c. rw (c .before .o .given .1, c .before .before .before .period-fits .ensures, c .before .before .before .before .change-form .ensures))
+    (λ c. rw (c .before .o2 .given .1, c .before .before .before .period-fits .ensures, c .before .before .before .before .change-form .ensures))
+    (λ c. rw (c .before .before .enum-told4 .given .1, c .before .from-fits .ensures, c .is-blank .ensures)))

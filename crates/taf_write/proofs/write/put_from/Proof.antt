@@ -1,8 +1,6 @@
--- `taf_write::write::put_from` meets its contract, the parts being put one after the other.
+-- `taf_write::write::put_from` meets its contract, by the edition.
 -- Assumes nothing.
 use borrow.Author.Needs.{needs}
-use Rattle.figures.proofs.Puts.{then}
-use Rattle.text.proofs.Writes.{write-group}
 use Rattle.taf_write.proofs.write.put_from.Statement.{statement}
 use Rattle.taf_write.proofs.write.put_from.Tie as tie
 
@@ -10,5 +8,8 @@ pub put-from-spec : {M : Type 1} → statement M
 put-from-spec =
     tie.close
     (tie.spec
-    (λ c κs. tt) (λ c. search needs) (λ c κs. tt) (λ c κs. tt) (λ c κs. tt) (λ c κs. tt) (λ c. search needs)
-    (λ c. write-group (c .before .before .before .before .before .before .before .before .before .before .before .before .before .before .before .before .before .before .before .open-group .ensures) (then (then (then (c .before .before .before .before .before .before .before .before .before .before .before .before .before .before .put-text .ensures) (c .before .before .before .before .before .before .before .before .before .before .put-two .ensures)) (c .before .before .before .before .before .before .put-two2 .ensures)) (c .before .before .put-two3 .ensures))))
+    (λ c. search needs) (λ c κs. tt) (λ c. search needs) (λ c κs. tt)
+    (λ c. search needs)
+    (λ c. rw (c .before .before .before .before .enum-told .given .1) (c .before .before .put-from-day .ensures))
+    (λ c. search needs)
+    (λ c. rw (c .before .before .before .before .enum-told2 .given .1) (c .before .before .put-from-hour .ensures)))

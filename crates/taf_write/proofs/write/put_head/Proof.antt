@@ -10,8 +10,8 @@ pub put-head-spec : {M : Type 1} → statement M
 put-head-spec =
     tie.close
     (tie.spec
-    (λ c. search needs) (λ c κs. tt) (λ c. search needs) (λ c κs. tt) (λ c. search needs) (λ c. search needs)
+    (λ c. search needs) (λ c κs. tt) (λ c. search needs) (λ c κs. tt) (λ c κs. tt) (λ c. search needs) (λ c. search needs)
     (λ c. rw (c .before .before .before .before .enum-told .given .1) (c .before .before .put-main .ensures))
     (λ c. length-put (c .before .before .put-valid .ensures))
-    (λ c. rw (c .before .before .before .before .enum-told2 .given .1) (under-change _ (c .before .before .put-valid .ensures)))
-    (λ c. rw (c .enum-told3 .given .1) (under-from _)))
+    (λ c. rw (c .before .before .before .before .before .enum-told2 .given .1) (under-change _ _ (rw (c .before .before .before .change-form .ensures) at (c .before .before .put-valid .ensures))))
+    (λ c. rw (c .enum-told3 .given .1) (under-from _ _)))

@@ -12,4 +12,4 @@ put-part-spec =
     tie.close
     (tie.spec
     (λ c κs. tt) (λ c κs. tt) (λ c. search needs)
-    (λ c. let a = c .before .before .before .before .before .before .before .before .before .before .args in put-parts (a .w) (a .r) (c .before .before .before .before .before .before .put-head .ensures) (c .before .before .put-body .ensures (isWhole (a .w)) (not (isMain (a .w))) false false)))
+    (λ c. let a = c .before .before .before .before .before .before .before .before .before .before .args in put-parts (a .edition) (a .w) (a .r) (c .before .before .before .before .before .before .put-head .ensures) (c .before .before .put-body .ensures (isWhole (a .w)) (not (isMain (a .w))) false false)))

@@ -1,9 +1,6 @@
--- `taf_write::write::put_period` meets its contract, the parts being put one after the other.
+-- `taf_write::write::put_period` meets its contract, by the form.
 -- Assumes nothing.
 use borrow.Author.Needs.{needs}
-use Rattle.figures.proofs.Puts.{then}
-use Rattle.text.proofs.Writes.{write-group}
-use Rattle.taf_row.specs.Row.{showPeriod}
 use Rattle.taf_write.proofs.write.put_period.Statement.{statement}
 use Rattle.taf_write.proofs.write.put_period.Tie as tie
 
@@ -11,5 +8,10 @@ pub put-period-spec : {M : Type 1} → statement M
 put-period-spec =
     tie.close
     (tie.spec
-    (λ c κs. tt) (λ c κs. tt) (λ c κs. tt) (λ c κs. tt) (λ c. search needs)
-    (λ c. unfold showPeriod in write-group (c .before .before .before .before .before .before .before .before .before .before .before .before .before .before .open-group .ensures) (then (then (c .before .before .before .before .before .before .before .before .before .before .put-hour .ensures) (c .before .before .before .before .before .before .put-byte .ensures)) (c .before .before .put-hour2 .ensures))))
+    (λ c. search needs) (λ c κs. tt) (λ c. search needs) (λ c κs. tt) (λ c. search needs) (λ c κs. tt)
+    (λ c. search needs)
+    (λ c. rw (c .before .before .before .before .enum-told .given .1) (c .before .before .put-both-days .ensures))
+    (λ c. search needs)
+    (λ c. rw (c .before .before .before .before .enum-told2 .given .1) (c .before .before .put-first-day .ensures))
+    (λ c. search needs)
+    (λ c. rw (c .before .before .before .before .enum-told3 .given .1) (c .before .before .put-no-day .ensures)))

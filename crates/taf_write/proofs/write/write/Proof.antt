@@ -1,9 +1,6 @@
--- `taf_write::write::write` meets its contract, by the verdict.
+-- `taf_write::write::write` meets its contract: in the present edition.
 -- Assumes nothing.
 use borrow.Author.Needs.{needs}
-use mathlib.Core.Path.{sym, _∙_}
-use Rattle.places.proofs.Delivered.{not-delivered}
-use Rattle.taf.specs.Write.{canonicalOf, writtenOf, bufferOf}
 use Rattle.taf_write.proofs.write.write.Statement.{statement}
 use Rattle.taf_write.proofs.write.write.Tie as tie
 
@@ -12,8 +9,4 @@ write-spec =
     tie.close
     (tie.spec
     (λ c κs. tt) (λ c. search needs)
-    (λ c κs. sym (c .before .before .before .judge .ensures) ∙ c .before .enum-told .given .1)
-    (λ c. search needs) (λ c. search needs) (λ c. search needs)
-    (λ c.
-    let d = c .before .before .before .before .before in
-    unfold writtenOf bufferOf in not-delivered (canonicalOf (d .args .t)) (d .args .out .now) (sym (c .before .before .before .judge .ensures) ∙ c .before .verdict .given .1)))
+    (λ c. c .before .before .write-in .ensures))

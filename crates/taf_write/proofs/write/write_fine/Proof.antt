@@ -3,7 +3,7 @@
 use borrow.Author.Needs.{needs}
 use Prim.Native.Nat.{ℕ, _≤_}
 use native.Mathlib.Omega.{arith}
-use mathlib.Core.Path.{_≡_, sym}
+use mathlib.Core.Path.{_≡_, refl, sym}
 use mathlib.Core.List.{List, [], _∷_, _++_}
 use lib.ListN.{length, take, replicate, length-map}
 use lib.Seq.{length-take-le}
@@ -16,7 +16,7 @@ use Rattle.record.specs.declared.aerodrome.Change.{Change}
 use Rattle.record.proofs.aerodrome.Change.{the-type}
 use Rattle.record.specs.Arrays.{BodyArrays, TafArrays}
 use Rattle.body.proofs.Arrays.{body-arrays, each-owned}
-use Rattle.taf.specs.Write.{groupsOf, canonicalOf, writtenOf, bufferOf}
+use Rattle.taf.specs.Write.{groupsOf, canonicalOf}
 use Rattle.taf_laws.proofs.Canonical.{groups-sizes, length-canonical}
 use Rattle.taf_write.proofs.write.write_fine.Statement.{statement}
 use Rattle.taf_write.proofs.write.write_fine.Tie as tie
@@ -24,8 +24,8 @@ use Rattle.taf_write.proofs.write.write_fine.Tie as tie
 -- an array's length is part of its type
 arrays : (c : tie.Start) → TafArrays (c .args .t)
 arrays c =
-    let leg = c .good .0 .1 .1 .0 .1 .1 in
-    let changes = c .good .0 .1 .1 .1 .0 .1 .1 .0 in
+    let leg = c .good .0 .1 .1 .1 .0 .1 .1 in
+    let changes = c .good .0 .1 .1 .1 .1 .0 .1 .1 .0 in
     record {
       letters = simp length-map at (leg .1 .0 .1 .1 .0 .1 .0 .1);
       body = body-arrays (c .args .t .leg .body) _ (leg .1 .1 .1 .1 .1 .1 .0);
@@ -49,4 +49,4 @@ write-fine-spec =
     (λ c κs. tt) (λ c. search needs)
     (λ c.
     let d = c .before .before .before .before .before .before .before .before .before in
-    unfold writtenOf bufferOf canonicalOf in delivered (d .args .out .now) (d .pre) (report d (c .before .before .before .before .before .before .put-report .ensures) .1) (c .before .before .deliver .ensures)))
+    unfold canonicalOf in delivered (d .args .out .now) refl (report d (c .before .before .before .before .before .before .put-report .ensures) .1) (c .before .before .deliver .ensures)))

@@ -1,0 +1,4 @@
+pub mod Moments
+pub mod Times
+pub mod Move
+pub mod Midnight
