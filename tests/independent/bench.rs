@@ -56,6 +56,7 @@ const fn kind(name: &'static str, first_group: &'static str, own: Call) -> Kind 
 
 const SYNOP: Kind = kind("SYNOP", "AAXX", delgushar_synop);
 const SHIP: Kind = kind("SHIP", "BBXX", delgushar_synop);
+const THIRD: Kind = kind("SYNOP with section 3", "AAXX", delgushar_synop);
 const METAR: Kind = kind("METAR", "METAR", delgushar_metar);
 const TREND: Kind = kind("METAR with a trend", "METAR", delgushar_metar);
 const STATE: Kind = kind("METAR with runway states", "METAR", delgushar_metar);
@@ -110,6 +111,13 @@ fn is_state(group: &[u8]) -> bool {
     let figure = |byte: &u8| byte.is_ascii_digit() || *byte == b'/';
     let state = group.ends_with(b"CLRD//") || group.iter().all(figure);
     group == b"SNOCLO" || (group.len() == 8 && state)
+}
+
+/// Reports of land stations without section 3, and those with it.
+fn by_sections(reports: Texts) -> [Texts; 2] {
+    let has_third = |text: &Vec<u8>| groups(text).any(|group| group == b"333");
+    let (thirds, plain) = reports.texts.into_iter().partition(has_third);
+    [(SYNOP, plain), (THIRD, thirds)].map(|(kind, texts)| Texts { kind, texts })
 }
 
 /// Observations with neither runway states nor a trend, those with a trend alone, and those with
@@ -539,8 +547,9 @@ fn main() {
     let mut lines = String::new();
     std::io::stdin().read_to_string(&mut lines).unwrap();
     let [synop, ship, metar, taf] = [SYNOP, SHIP, METAR, TAF].map(|kind| of_kind(kind, &lines));
+    let [synop, third] = by_sections(synop);
     let [metar, trend, state] = by_parts(metar);
-    let valid = [synop, ship, metar, trend, state, taf];
+    let valid = [synop, ship, metar, trend, state, taf, third];
     let mut rows = valid_rows(&valid);
     rows.extend(refused_rows(&valid));
     rows.extend(growth_rows());
@@ -553,9 +562,10 @@ fn main() {
             deeper(round, &mut || row.run(round));
         }
     }
-    let count = valid[0].texts.len();
+    let count = valid[1].texts.len();
+    let thirds = valid[6].texts.len();
     let [trends, states] = [3, 4].map(|at: usize| valid[at].texts.len());
-    print!("{count} reports of each kind, of the METARs {trends} with a trend and ");
+    print!("{count} reports of each kind, of the SYNOPs {thirds} with section 3, of the METARs {trends} with a trend and ");
     print!("{states} with runway states, ");
     println!("the median of {rounds} rounds.");
     print_times(&rows);

@@ -43,6 +43,8 @@ pub struct Synoptic {
     pub wind_indicator: u32,
     /// None in a land report that ended with NIL.
     pub section: Option<Section>,
+    /// Blank where 333 is absent or has nothing to say.
+    pub third: Third,
 }
 
 #[derive(Debug, Clone, PartialEq)]
@@ -91,6 +93,33 @@ pub struct Section {
     pub clouds: [Option<u32>; 4],
     /// Hour and minute of the 9 group.
     pub observed: Option<(u32, u32)>,
+}
+
+/// Section 3 of SYNOP and SHIP (request 10).
+#[derive(Debug, Clone, Default, PartialEq)]
+pub struct Third {
+    /// Tenths of a degree.
+    pub maximum: Option<i32>,
+    pub minimum: Option<i32>,
+    pub layers: Vec<CloudLayer>,
+}
+
+/// 8NChh.
+#[derive(Debug, Clone, Copy, PartialEq)]
+pub struct CloudLayer {
+    pub amount: Option<u32>,
+    pub kind: Option<u32>,
+    /// hh: its scale of table 1677 and metres.
+    pub height: Option<(HeightScale, u32)>,
+}
+
+/// "The record names which of the two scales a layer uses".
+#[derive(Debug, Clone, Copy, PartialEq)]
+pub enum HeightScale {
+    /// 00 to 89.
+    Steps,
+    /// 90 to 99.
+    Bands,
 }
 
 /// The two scales of table 4377.
@@ -1124,6 +1153,23 @@ fn base_classes() -> Classes {
     (0..).zip(feet).collect()
 }
 
+/// 1677: 51 to 55 unused, 89 is read 21,001; 90 to 99 "with the feet of document 01's h scale".
+fn layer_classes(scale: HeightScale) -> Classes {
+    match scale {
+        HeightScale::Steps => {
+            let mut classes: Classes = (0..=50).map(|code| (code, code * 30)).collect();
+            classes.extend((56..=80).map(|code| (code, 1800 + (code - 56) * 300)));
+            classes.extend((81..=88).map(|code| (code, 10_500 + (code - 81) * 1500)));
+            classes.push((89, 21_001));
+            classes
+        }
+        HeightScale::Bands => {
+            let classes = base_classes().into_iter();
+            classes.map(|(code, foot)| (90 + code, foot)).collect()
+        }
+    }
+}
+
 /// VVVV.
 fn visibility_classes() -> Classes {
     let mut classes: Classes = (0..=800).step_by(50).map(|foot| (foot, foot)).collect();
@@ -1192,15 +1238,15 @@ fn read_land(cut: &Cut) -> Result<Report, Refusal> {
     let (day, hour, wind_indicator) = at_position(cut, 1, is_five_figures, read_date)?;
     let station = at_position(cut, 2, is_five_figures, required)?;
     let nil = cut.groups.get(3).is_some_and(|group| group.bytes == b"NIL");
-    let (section, rest) = if nil {
+    let (section, third, rest) = if nil {
         // "a group .. after NIL or CNL, a stop word too" is 4.
         if let Some(group) = cut.groups.get(4) {
             return Err((4, group.at));
         }
-        (None, cut.end()?)
+        (None, Third::default(), cut.end()?)
     } else {
-        let (section, rest) = read_section(cut, 3)?;
-        (Some(section), rest)
+        let (section, third, rest) = read_section(cut, 3)?;
+        (Some(section), third, rest)
     };
     let content = Content::Synoptic(Synoptic {
         origin: Origin::Land { station },
@@ -1208,6 +1254,7 @@ fn read_land(cut: &Cut) -> Result<Report, Refusal> {
         hour,
         wind_indicator,
         section,
+        third,
     });
     Ok(Report { content, rest })
 }
@@ -1219,7 +1266,7 @@ fn read_ship(cut: &Cut) -> Result<Report, Refusal> {
     let (day, hour, wind_indicator) = at_position(cut, 2, is_five_figures, read_date)?;
     let latitude = at_position(cut, 3, is_latitude, read_latitude)?;
     let (south, west, longitude) = at_position(cut, 4, is_five_figures, read_longitude)?;
-    let (section, rest) = read_section(cut, 5)?;
+    let (section, third, rest) = read_section(cut, 5)?;
     let origin = Origin::Sea {
         call_sign,
         latitude: if south { -latitude } else { latitude },
@@ -1236,6 +1283,7 @@ fn read_ship(cut: &Cut) -> Result<Report, Refusal> {
         hour,
         wind_indicator,
         section: Some(section),
+        third,
     });
     Ok(Report { content, rest })
 }
@@ -1273,8 +1321,8 @@ fn read_longitude(group: &[u8]) -> Result<(bool, bool, i32), u8> {
     Ok((south, west, tenths as i32))
 }
 
-/// Section 1, from the index of iRixhVV on.
-fn read_section(cut: &Cut, index: usize) -> Result<(Section, usize), Refusal> {
+/// Section 1, from the index of iRixhVV on, and section 3: "Group 333 no longer stops reading".
+fn read_section(cut: &Cut, index: usize) -> Result<(Section, Third, usize), Refusal> {
     let mut section = at_position(cut, index, is_five_figures, read_indicators)?;
     let (cover, wind) = at_position(cut, index + 1, is_five_figures, read_cover_and_wind)?;
     section.cloud_cover = cover;
@@ -1282,7 +1330,84 @@ fn read_section(cut: &Cut, index: usize) -> Result<(Section, usize), Refusal> {
     let mut walk = Walk::over(section_places(&section), 0);
     let mut take = |slot, group: &[u8]| take_in_section(&mut section, slot, group);
     let rest = walk_groups(cut, index + 2, &mut walk, stops_synoptic, &mut take)?;
-    Ok((section, rest))
+    let word = cut.groups.iter().position(|group| group.at == rest);
+    match word {
+        Some(word) if cut.groups[word].bytes == b"333" => {
+            let (third, rest) = read_third(cut, word + 1)?;
+            Ok((section, third, rest))
+        }
+        _ => Ok((section, Third::default(), rest)),
+    }
+}
+
+/// Section 3, from the index after 333 on: "222 before or inside it, 444, 555, a second 333 and any
+/// group inside 333 with none of these three shapes" stop the reading; it is no 4 (ruling 10.4).
+fn read_third(cut: &Cut, from: usize) -> Result<(Third, usize), Refusal> {
+    let mut third = Third::default();
+    let mut reached = 0;
+    for group in &cut.groups[from..] {
+        let order = b"128".iter().position(|first| group.bytes[0] == *first);
+        let (Some(order), true) = (order, is_five_figures(group.bytes)) else {
+            return Ok((third, group.at));
+        };
+        if stops_synoptic(group.bytes) {
+            return Ok((third, group.at));
+        }
+        // "the three keep to refusal 6": only 8NChh may stand again.
+        if order + 1 < reached || (order + 1 == reached && order < 2) {
+            return Err((6, group.at));
+        }
+        reached = order + 1;
+        take_in_third(&mut third, group.bytes).map_err(|number| (number, group.at))?;
+    }
+    Ok((third, cut.end()?))
+}
+
+/// A group of slashes reads as absent, yet it has stood (ruling 10.2); "8//// is no layer".
+fn take_in_third(third: &mut Third, group: &[u8]) -> Result<(), u8> {
+    if all_slashes(&group[1..]) {
+        return Ok(());
+    }
+    match group[0] {
+        b'1' => third.maximum = Some(read_signed(group)?),
+        b'2' => third.minimum = Some(read_signed(group)?),
+        _ => {
+            // "a fifth layer is 9", before 5 (ruling 10.1).
+            if third.layers.len() == 4 {
+                return Err(9);
+            }
+            let layer = read_cloud_layer(group)?;
+            agree_on_heights(third, &layer)?;
+            third.layers.push(layer);
+        }
+    }
+    Ok(())
+}
+
+/// 8NChh: "N, C and hh may each be missing".
+fn read_cloud_layer(group: &[u8]) -> Result<CloudLayer, u8> {
+    let amount = optional(&group[1..2])?;
+    let kind = optional(&group[2..3])?;
+    let height = match optional(&group[3..])? {
+        Some(code) => {
+            let scale = if code < 90 { HeightScale::Steps } else { HeightScale::Bands };
+            Some((scale, foot_of(&layer_classes(scale), code)?))
+        }
+        None => None,
+    };
+    Ok(CloudLayer { amount, kind, height })
+}
+
+/// "heights within one scale that fall are 7", held against all earlier ones (ruling 10.7).
+fn agree_on_heights(third: &Third, layer: &CloudLayer) -> Result<(), u8> {
+    let Some((scale, metres)) = layer.height else {
+        return Ok(());
+    };
+    let mut earlier = third.layers.iter().filter_map(|layer| layer.height);
+    if earlier.any(|(other, foot)| other == scale && foot > metres) {
+        return Err(7);
+    }
+    Ok(())
 }
 
 /// iRixhVV: "iR 0-4, ix 1-7"; either scale of 4377 in either report (ruling 21).
@@ -2132,7 +2257,10 @@ fn write_synoptic(groups: &mut Vec<String>, synoptic: &Synoptic) {
         }
     }
     match &synoptic.section {
-        Some(section) => write_section(groups, section),
+        Some(section) => {
+            write_section(groups, section);
+            write_third(groups, &synoptic.third);
+        }
         None => groups.push("NIL".to_string()),
     }
 }
@@ -2203,6 +2331,25 @@ fn write_section_end(groups: &mut Vec<String>, section: &Section) {
     }
     if let Some((hour, minute)) = section.observed {
         groups.push(format!("9{hour:02}{minute:02}"));
+    }
+}
+
+/// "a 333 with no group reads as absent", and canonical text has none (ruling 10.3).
+fn write_third(groups: &mut Vec<String>, third: &Third) {
+    let mut own = Vec::new();
+    if let Some(tenths) = third.maximum {
+        own.push(format!("1{}", signed(tenths)));
+    }
+    if let Some(tenths) = third.minimum {
+        own.push(format!("2{}", signed(tenths)));
+    }
+    for layer in &third.layers {
+        let height = layer.height.map(|(scale, metres)| code_of(&layer_classes(scale), metres));
+        own.push(format!("8{}{}{}", figures(layer.amount, 1), figures(layer.kind, 1), figures(height, 2)));
+    }
+    if !own.is_empty() {
+        groups.push("333".to_string());
+        groups.extend(own);
     }
 }
 

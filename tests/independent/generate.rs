@@ -170,6 +170,34 @@ fn push_section(random: &mut Random, extent: Extent, groups: &mut Vec<String>) {
             groups.push(numbered_group(random, figure));
         }
     }
+    if extent == Extent::Longest || (extent == Extent::Usual && random.one_in(3)) {
+        push_third(random, extent, groups);
+    }
+}
+
+/// Section 3: 333, the maximum, the minimum and layers with heights that do not fall.
+fn push_third(random: &mut Random, extent: Extent, groups: &mut Vec<String>) {
+    groups.push("333".to_string());
+    for first in [1, 2] {
+        if extent.holds(random) {
+            let slashes = extent == Extent::Usual && random.one_in(8);
+            let rest = if slashes { "////".to_string() } else { signed(random) };
+            groups.push(format!("{}{}", first, rest));
+        }
+    }
+    let layers = match extent {
+        Extent::Longest => 4,
+        _ => random.below(5),
+    };
+    let mut heights: Vec<String> = (0..layers).map(|_| visibility_code(random)).collect();
+    heights.sort();
+    for height in heights {
+        let amount = random.figure_or_slash();
+        groups.push(format!("8{}{}{}", amount, random.figures(0, 9, 1), height));
+        if extent == Extent::Usual && random.one_in(12) {
+            groups.push("8////".to_string());
+        }
+    }
 }
 
 /// VV: 00-50, 56-89, 90-99 or slashes.

@@ -67,6 +67,20 @@ fn depth() -> Scale {
     s
 }
 
+/// Table 1677 by steps; 51 to 55 are unused, and 89 is read 21,001.
+fn layer_steps() -> Scale {
+    let mut s: Scale = (0..=50).map(|code| (code * 30, format!("{code:02}"))).collect();
+    s.extend((56..=80).zip((1_800..).step_by(300)).map(|(code, m)| (m, code.to_string())));
+    s.extend((81..=88).zip((10_500..).step_by(1_500)).map(|(code, m)| (m, code.to_string())));
+    s.push((21_001, "89".into()));
+    s
+}
+
+/// Table 1677 by bands, with the feet of document 01's h scale.
+fn layer_bands() -> Scale {
+    base().into_iter().map(|(m, h)| (m, format!("9{h}"))).collect()
+}
+
 fn figure(s: &Scale, metres: u32) -> String {
     if metres > 99_999 {
         return "out of range".into();
@@ -244,6 +258,8 @@ fn seen() {
     readings(&visibility(), &[750, 4_000, 4_050, 9_000, 10_000]);
     readings(&runway(), &[0, 50, 375, 2_000, 2_001]);
     readings(&depth(), &[0, 89, 90, 91, 100, 350, 400]);
+    readings(&layer_steps(), &[0, 1, 1_470, 1_500, 1_800, 9_000, 10_500, 21_000, 21_001]);
+    readings(&layer_bands(), &[0, 50, 2_000, 2_500, 2_501]);
     for t in [10_130, 10_135, 99_990] {
         line(tenths(t), if t % 10 == 0 { format!("{} to {}", tenths(t), tenths(t + 9)) } else { "nothing".into() });
     }
@@ -274,6 +290,12 @@ fn main() {
     heading("1079, mm");
     values(&depth(), &[0, 1, 89, 90, 91, 99, 100, 149, 150, 399, 400, 99999, 100000]);
     figures(&depth(), 2, &[0, 1, 89, 90, 91, 92, 93, 97, 98, 99]);
+    heading("1677 by steps");
+    values(&layer_steps(), &[0, 29, 30, 1499, 1500, 1799, 1800, 2099, 8999, 9000, 10499, 10500, 20999, 21000, 21001, 99999, 100000]);
+    figures(&layer_steps(), 2, &[0, 1, 50, 51, 55, 56, 80, 81, 88, 89, 90, 99]);
+    heading("1677 by bands");
+    values(&layer_bands(), &[0, 49, 50, 99, 599, 600, 2499, 2500, 99999, 100000]);
+    figures(&layer_bands(), 2, &[0, 9, 89, 90, 91, 95, 98, 99]);
     heading("aerodrome temperature, degrees");
     temperatures();
     heading("sTTT, degrees");

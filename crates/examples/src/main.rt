@@ -171,6 +171,42 @@ fn depths() {
     rows::figures(Scale::Depth, &[0, 1, 89, 90, 91, 92, 93, 97, 98, 99]);
 }
 
+fn layers() {
+    print::heading(b"1677 by steps");
+    rows::values(
+        Scale::LayerSteps,
+        &[
+            0,
+            29,
+            30,
+            1499,
+            1500,
+            1799,
+            1800,
+            2099,
+            8999,
+            9000,
+            10499,
+            10500,
+            20999,
+            21000,
+            21001,
+            99999,
+            100000,
+        ],
+    );
+    rows::figures(
+        Scale::LayerSteps,
+        &[0, 1, 50, 51, 55, 56, 80, 81, 88, 89, 90, 99],
+    );
+    print::heading(b"1677 by bands");
+    rows::values(
+        Scale::LayerBands,
+        &[0, 49, 50, 99, 599, 600, 2499, 2500, 99999, 100000],
+    );
+    rows::figures(Scale::LayerBands, &[0, 9, 89, 90, 91, 95, 98, 99]);
+}
+
 fn temperatures() {
     print::heading(b"aerodrome temperature, degrees");
     rows::temperatures(
@@ -273,6 +309,11 @@ fn seen() {
     rows::readings(Scale::Visibility, &[750, 4000, 4050, 9000, 10000]);
     rows::readings(Scale::Runway, &[0, 50, 375, 2000, 2001]);
     rows::readings(Scale::Depth, &[0, 89, 90, 91, 100, 350, 400]);
+    rows::readings(
+        Scale::LayerSteps,
+        &[0, 1, 1470, 1500, 1800, 9000, 10500, 21000, 21001],
+    );
+    rows::readings(Scale::LayerBands, &[0, 50, 2000, 2500, 2501]);
     rows::readings(Scale::Pressure, &[10130, 10135, 99990]);
 }
 
@@ -299,6 +340,7 @@ fn main() {
     visibilities();
     runways();
     depths();
+    layers();
     temperatures();
     pressures();
     rains();

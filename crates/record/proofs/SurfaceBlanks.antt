@@ -2,6 +2,7 @@
 -- Assumes nothing.
 use mathlib.Core.Path.{_≡_, refl}
 use mathlib.Core.Bool.{true, false≢true}
+use mathlib.Core.List.{List, [], _∷_}
 use lib.ListN.{length}
 use borrow.Author.Tests.{eqb-true, not-true}
 use Rattle.shapes.proofs.Patterns.{both}
@@ -24,10 +25,17 @@ use Rattle.record.specs.declared.surface.Observed.{Observed}
 use Rattle.record.specs.declared.surface.Observed.the-variants as observed
 use Rattle.record.specs.declared.surface.Surface.{Surface}
 use Rattle.record.specs.declared.surface.Site.{Site}
+use Rattle.record.specs.declared.surface.BaseHeight.{BaseHeight}
+use Rattle.record.specs.declared.surface.BaseHeight.the-variants as height
+use Rattle.record.specs.declared.surface.CloudLayer.{CloudLayer}
+use Rattle.record.specs.declared.surface.CloudLayers.{CloudLayers}
+use Rattle.record.specs.declared.surface.Section3.{Section3}
 use Rattle.record.specs.declared.surface.Synop.{Synop}
-use Rattle.record.specs.Blank.{blankSign, blankPosition, blankTime, blankSite, blankSurface, blankSynop}
-use Rattle.record.specs.SilentSurface.{noSign, noPosition, noTime, noSight, noMoist, noLevel, noChange, noFall, noWeather, noClouds, noClock, noSite, noSurface, isBlankSynop}
+use Rattle.record.specs.Arrays.{Each, SynopArrays}
+use Rattle.record.specs.Blank.{blankSign, blankPosition, blankTime, blankSite, blankSurface, blankLayer, blankLayers, blankSection3, blankSynop}
+use Rattle.record.specs.SilentSurface.{noSign, noPosition, noTime, noSight, noMoist, noLevel, noChange, noFall, noWeather, noClouds, noClock, noSite, noSurface, noHeight, isBlankLayer, noLayers, noSection3, isBlankSynop}
 use Rattle.record.proofs.Blanks.{number-blank, tenths-blank, direction-blank, speed-blank, letters-blank}
+use Rattle.record.proofs.Counted.{blank-each}
 
 -- ---- the groups
 
@@ -129,9 +137,41 @@ site-blank s nine e =
     let sign = both _ _ (position .0) in
     λ i. record { station = number-blank (s .station) (sign .0) i; sign = sign-blank (s .sign) nine (sign .1) i; position = position-blank (s .position) (position .1) i; time = time-blank (s .time) (time .1) i; nil = not-true (s .nil) (nil .1) i }
 
-pub synop-blank : (r : Synop) → length (r .site .sign .letters) ≡ 9 → isBlankSynop r ≡ true → r ≡ blankSynop
+-- ---- section 3
+
+height-blank : (h : BaseHeight) → noHeight h ≡ true → h ≡ height.Missing
+height-blank height.Missing e = refl
+height-blank (height.Steps m) e = absurd (false≢true e)
+height-blank (height.Bands m) e = absurd (false≢true e)
+
+pub layer-blank : (l : CloudLayer) → isBlankLayer l ≡ true → l ≡ blankLayer
+layer-blank l e =
+    let t = both _ _ e in
+    let s = both _ _ (t .0) in
+    λ i. record { amount = number-blank (l .amount) (s .0) i; cloud = number-blank (l .cloud) (s .1) i; height = height-blank (l .height) (t .1) i }
+
+any : (ls : List CloudLayer) → Each (λ (l : CloudLayer). Unit {0}) ls
+any [] = tt
+any (l ∷ ls) = (tt, any ls)
+
+layers-blank : (ls : CloudLayers) → length (ls .items) ≡ 4 → noLayers ls ≡ true → ls ≡ blankLayers
+layers-blank ls four e =
+    let t = both _ _ e in
+    let items = blank-each (λ (l : CloudLayer). Unit {0}) isBlankLayer blankLayer (λ l a h. layer-blank l h) (ls .items) (any (ls .items)) (t .1) in
+    λ i. record { items = (rw four at items) i; count = eqb-true (ls .count) 0 (t .0) i }
+
+pub section3-blank : (s : Section3) → length (s .layers .items) ≡ 4 → noSection3 s ≡ true → s ≡ blankSection3
+section3-blank s four e =
+    let layers = both _ _ e in
+    let air = both _ _ (layers .0) in
+    λ i. record { maximum = record { temperature = tenths-blank (s .maximum .temperature) (air .0) i }; minimum = record { temperature = tenths-blank (s .minimum .temperature) (air .1) i }; layers = layers-blank (s .layers) four (layers .1) i }
+
+-- ---- the whole
+
+pub synop-blank : (r : Synop) → SynopArrays r → isBlankSynop r ≡ true → r ≡ blankSynop
 unfolding isBlankSynop
-synop-blank r nine e =
-    let surface = both _ _ e in
+synop-blank r arrays e =
+    let third = both _ _ e in
+    let surface = both _ _ (third .0) in
     let site = both _ _ (surface .0) in
-    λ i. record { ship = not-true (r .ship) (site .0) i; site = site-blank (r .site) nine (site .1) i; surface = surface-blank (r .surface) (surface .1) i }
+    λ i. record { ship = not-true (r .ship) (site .0) i; site = site-blank (r .site) (arrays .letters) (site .1) i; surface = surface-blank (r .surface) (surface .1) i; section3 = section3-blank (r .section3) (arrays .layers) (third .1) i }

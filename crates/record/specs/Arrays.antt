@@ -9,6 +9,7 @@ use Rattle.record.specs.declared.aerodrome.TrendChange.{TrendChange}
 use Rattle.record.specs.declared.aerodrome.Metar.{Metar}
 use Rattle.record.specs.declared.aerodrome.Change.{Change}
 use Rattle.record.specs.declared.aerodrome.Taf.{Taf}
+use Rattle.record.specs.declared.surface.Synop.{Synop}
 
 pub record BodyArrays (b : Body) : Type 0 where
   pub weathers : length (b .weathers .items) ≡ 3
@@ -42,3 +43,7 @@ pub record TafArrays (t : Taf) : Type 0 where
   pub body : BodyArrays (t .leg .body)
   pub changes : length (t .changes .items) ≡ 16
   pub each : EachArrays (t .changes .items)
+
+pub record SynopArrays (r : Synop) : Type 0 where
+  pub letters : length (r .site .sign .letters) ≡ 9
+  pub layers : length (r .section3 .layers .items) ≡ 4

@@ -15,6 +15,10 @@ use Rattle.record.specs.declared.surface.AtLevel.the-variants as at-leve
 use Rattle.record.specs.declared.surface.PressureChange.the-variants as change
 use Rattle.record.specs.declared.surface.Fall.the-variants as fall
 use Rattle.record.specs.declared.surface.Observed.the-variants as observed
+use Rattle.record.specs.declared.surface.BaseHeight.the-variants as height
+use Rattle.record.specs.declared.surface.CloudLayer.{CloudLayer}
+use Rattle.record.specs.declared.surface.CloudLayers.{CloudLayers}
+use Rattle.record.specs.declared.surface.Section3.{Section3}
 use Rattle.record.specs.declared.surface.Surface.{Surface}
 use Rattle.record.specs.declared.surface.Site.{Site}
 use Rattle.record.specs.declared.surface.Synop.{Synop}
@@ -45,8 +49,17 @@ blankSurface =
       clock = record { is = observed.Missing };
     }
 
+abbrev pub blankLayer : CloudLayer
+blankLayer = record { amount = number.Missing; cloud = number.Missing; height = height.Missing }
+
+abbrev pub blankLayers : CloudLayers
+blankLayers = record { items = replicate 4 blankLayer; count = 0 }
+
+abbrev pub blankSection3 : Section3
+blankSection3 = record { maximum = record { temperature = tenths.Missing }; minimum = record { temperature = tenths.Missing }; layers = blankLayers }
+
 abbrev pub blankSite : Site
 blankSite = record { station = number.Missing; sign = blankSign; position = blankPosition; time = blankTime; nil = false }
 
 abbrev pub blankSynop : Synop
-blankSynop = record { ship = false; site = blankSite; surface = blankSurface }
+blankSynop = record { ship = false; site = blankSite; surface = blankSurface; section3 = blankSection3 }

@@ -18,6 +18,8 @@ use Rattle.record.specs.declared.surface.CallSign.{CallSign}
 use Rattle.record.specs.declared.surface.Position.{Position}
 use Rattle.record.specs.declared.surface.Time.{Time}
 use Rattle.record.specs.declared.surface.Site.{Site}
+use Rattle.record.specs.declared.surface.CloudLayers.{CloudLayers}
+use Rattle.record.specs.declared.surface.Section3.{Section3}
 use Rattle.record.specs.declared.surface.Synop.{Synop}
 
 abbrev pub setIndicators : Indicators → Surface → Surface
@@ -69,7 +71,19 @@ abbrev pub setNil : Bool → Site → Site
 setNil x s = record { station = s .station; sign = s .sign; position = s .position; time = s .time; nil = x }
 
 abbrev pub setSite : Site → Synop → Synop
-setSite x r = record { ship = r .ship; site = x; surface = r .surface }
+setSite x r = record { ship = r .ship; site = x; surface = r .surface; section3 = r .section3 }
 
 abbrev pub setSurface : Surface → Synop → Synop
-setSurface x r = record { ship = r .ship; site = r .site; surface = x }
+setSurface x r = record { ship = r .ship; site = r .site; surface = x; section3 = r .section3 }
+
+abbrev pub setSection3 : Section3 → Synop → Synop
+setSection3 x r = record { ship = r .ship; site = r .site; surface = r .surface; section3 = x }
+
+abbrev pub setMaximum : Air → Section3 → Section3
+setMaximum x s = record { maximum = x; minimum = s .minimum; layers = s .layers }
+
+abbrev pub setMinimum : Air → Section3 → Section3
+setMinimum x s = record { maximum = s .maximum; minimum = x; layers = s .layers }
+
+abbrev pub setLayers : CloudLayers → Section3 → Section3
+setLayers x s = record { maximum = s .maximum; minimum = s .minimum; layers = x }

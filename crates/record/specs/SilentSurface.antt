@@ -2,6 +2,7 @@
 -- Assumes nothing: these are definitions.
 use mathlib.Core.Bool.{Bool, true, false, not, _&&_}
 use lib.Dec.{eqb}
+use Rattle.figures.specs.Figures.{every}
 use Rattle.record.specs.declared.surface.CallSign.{CallSign}
 use Rattle.record.specs.declared.surface.Position.{Position}
 use Rattle.record.specs.declared.surface.Time.{Time}
@@ -21,6 +22,11 @@ use Rattle.record.specs.declared.surface.Weather.{Weather}
 use Rattle.record.specs.declared.surface.Clouds.{Clouds}
 use Rattle.record.specs.declared.surface.Observed.{Observed}
 use Rattle.record.specs.declared.surface.Observed.the-variants as observed
+use Rattle.record.specs.declared.surface.BaseHeight.{BaseHeight}
+use Rattle.record.specs.declared.surface.BaseHeight.the-variants as height
+use Rattle.record.specs.declared.surface.CloudLayer.{CloudLayer}
+use Rattle.record.specs.declared.surface.CloudLayers.{CloudLayers}
+use Rattle.record.specs.declared.surface.Section3.{Section3}
 use Rattle.record.specs.declared.surface.Surface.{Surface}
 use Rattle.record.specs.declared.surface.Site.{Site}
 use Rattle.record.specs.declared.surface.Synop.{Synop}
@@ -76,6 +82,22 @@ abbrev pub noClock : Observed → Bool
 noClock observed.Missing = true
 noClock (observed.At h m) = false
 
+-- ---- section 3
+
+abbrev pub noHeight : BaseHeight → Bool
+noHeight height.Missing = true
+noHeight (height.Steps m) = false
+noHeight (height.Bands m) = false
+
+abbrev pub isBlankLayer : CloudLayer → Bool
+isBlankLayer l = isMissing (l .amount) && isMissing (l .cloud) && noHeight (l .height)
+
+abbrev pub noLayers : CloudLayers → Bool
+noLayers ls = eqb (ls .count) 0 && every isBlankLayer (ls .items)
+
+abbrev pub noSection3 : Section3 → Bool
+noSection3 s = noTenths (s .maximum .temperature) && noTenths (s .minimum .temperature) && noLayers (s .layers)
+
 -- ---- the report
 
 abbrev pub noSite : Site → Bool
@@ -89,4 +111,4 @@ noSurface s =
     && noClock (s .clock .is)
 
 unfoldable pub isBlankSynop : Synop → Bool
-isBlankSynop r = not (r .ship) && noSite (r .site) && noSurface (r .surface)
+isBlankSynop r = not (r .ship) && noSite (r .site) && noSurface (r .surface) && noSection3 (r .section3)

@@ -1,8 +1,11 @@
 // The blank record of a SYNOP or SHIP.
 use crate::surface::Air;
 use crate::surface::AtLevel;
+use crate::surface::BaseHeight;
 use crate::surface::CallSign;
 use crate::surface::Clock;
+use crate::surface::CloudLayer;
+use crate::surface::CloudLayers;
 use crate::surface::Clouds;
 use crate::surface::Fall;
 use crate::surface::Indicators;
@@ -14,6 +17,7 @@ use crate::surface::Position;
 use crate::surface::Pressure;
 use crate::surface::PressureChange;
 use crate::surface::Rainfall;
+use crate::surface::Section3;
 use crate::surface::Sight;
 use crate::surface::Site;
 use crate::surface::Surface;
@@ -27,7 +31,7 @@ use crate::values::Number;
 use crate::values::Speed;
 use crate::values::Tenths;
 ghost use mathlib.Core.Path.{_≡_};
-ghost use Rattle.record.specs.Blank.{blankSite, blankSurface, blankSynop};
+ghost use Rattle.record.specs.Blank.{blankSite, blankSurface, blankSection3, blankSynop};
 
 pub fn blank_site() -> Site
     ensures { λ r. ⌜ r ≡ blankSite ⌝ }
@@ -110,14 +114,36 @@ pub fn blank_surface() -> Surface
     }
 }
 
+pub fn blank_section3() -> Section3
+    ensures { λ r. ⌜ r ≡ blankSection3 ⌝ }
+{
+    let blank = CloudLayer {
+        amount: Number::Missing,
+        cloud: Number::Missing,
+        height: BaseHeight::Missing,
+    };
+    let items = [blank; 4];
+    Section3 {
+        maximum: Air {
+            temperature: Tenths::Missing,
+        },
+        minimum: Air {
+            temperature: Tenths::Missing,
+        },
+        layers: CloudLayers { items, count: 0 },
+    }
+}
+
 pub fn blank_synop() -> Synop
     ensures { λ r. ⌜ r ≡ blankSynop ⌝ }
 {
     let site = blank_site();
     let surface = blank_surface();
+    let section3 = blank_section3();
     Synop {
         ship: false,
         site,
         surface,
+        section3,
     }
 }

@@ -2,7 +2,10 @@
 // Two to four tests of single values are joined by `&&`, nested to the right: such a method is proved with no file.
 use crate::letters::are_blank_from;
 use crate::surface::AtLevel;
+use crate::surface::BaseHeight;
 use crate::surface::CallSign;
+use crate::surface::CloudLayer;
+use crate::surface::CloudLayers;
 use crate::surface::Clouds;
 use crate::surface::Fall;
 use crate::surface::Indicators;
@@ -10,6 +13,7 @@ use crate::surface::Moist;
 use crate::surface::Observed;
 use crate::surface::Position;
 use crate::surface::PressureChange;
+use crate::surface::Section3;
 use crate::surface::Sight;
 use crate::surface::Site;
 use crate::surface::Surface;
@@ -19,9 +23,10 @@ use crate::surface::Weather;
 use crate::surface::Wind;
 ghost use mathlib.Core.Path.{_≡_};
 ghost use lib.ListN.{drop};
+ghost use Rattle.figures.specs.Figures.{every};
 ghost use Rattle.record.specs.Missing.{noLetters};
 ghost use Rattle.record.specs.SilentSurface.{noSign, noPosition, noTime, noSight, noIndicators, noWind, noMoist, noLevel, noChange, noFall, noWeather, noClouds, noClock};
-ghost use Rattle.record.specs.SilentSurface.{noSite, noSurface, isBlankSynop};
+ghost use Rattle.record.specs.SilentSurface.{noHeight, isBlankLayer, noLayers, noSite, noSurface, noSection3, isBlankSynop};
 
 impl CallSign {
     // The slots from number `from` on are blank.
@@ -175,6 +180,67 @@ impl Observed {
     }
 }
 
+impl BaseHeight {
+    pub fn is_missing(self) -> bool
+        ensures { λ r. ⌜ r ≡ noHeight self ⌝ }
+    {
+        match self {
+            BaseHeight::Missing => true,
+            BaseHeight::Steps(_) => false,
+            BaseHeight::Bands(_) => false,
+        }
+    }
+}
+
+impl CloudLayer {
+    pub fn is_blank(self) -> bool
+        ensures { λ r. ⌜ r ≡ isBlankLayer self ⌝ }
+    {
+        let amount = self.amount;
+        let cloud = self.cloud;
+        let height = self.height;
+        amount.is_missing() && (cloud.is_missing() && height.is_missing())
+    }
+}
+
+impl CloudLayers {
+    // The layers from number `from` on are blank.
+    pub fn is_blank_from(self, from: usize) -> bool
+        ensures { λ r. ⌜ r ≡ every isBlankLayer (drop from (self .items)) ⌝ }
+    {
+        let items = self.items;
+        let mut i = from;
+        while i < 4 {
+            let one = items[i];
+            if one.is_blank() {
+                i += 1;
+            } else {
+                return false;
+            }
+        }
+        true
+    }
+
+    pub fn is_blank(self) -> bool
+        ensures { λ r. ⌜ r ≡ noLayers self ⌝ }
+    {
+        (self.count == 0) & self.is_blank_from(0)
+    }
+}
+
+impl Section3 {
+    pub fn is_blank(self) -> bool
+        ensures { λ r. ⌜ r ≡ noSection3 self ⌝ }
+    {
+        let maximum = self.maximum;
+        let highest = maximum.temperature;
+        let minimum = self.minimum;
+        let lowest = minimum.temperature;
+        let layers = self.layers;
+        highest.is_missing() & lowest.is_missing() & layers.is_blank()
+    }
+}
+
 impl Surface {
     pub fn is_blank(self) -> bool
         ensures { λ r. ⌜ r ≡ noSurface self ⌝ }
@@ -223,7 +289,8 @@ impl Synop {
     {
         let site = self.site;
         let surface = self.surface;
+        let section3 = self.section3;
         let ship = self.ship;
-        !ship & site.is_blank() & surface.is_blank()
+        !ship & site.is_blank() & surface.is_blank() & section3.is_blank()
     }
 }

@@ -46,7 +46,7 @@ pub struct Wind {
     pub speed: Speed,
 }
 
-// 1sTTT
+// 1sTTT; in section 3 2sTTT too
 pub struct Air {
     pub temperature: Tenths,
 }
@@ -123,6 +123,35 @@ pub struct Clock {
     pub is: Observed,
 }
 
+// hh of section 3: the height of a layer's base in metres, on the scale of table 1677 that it is written on.
+pub enum BaseHeight {
+    Missing,
+    // by steps, 00 to 89
+    Steps(u32),
+    // by bands, 90 to 99
+    Bands(u32),
+}
+
+// 8NChh of section 3: the amount of a layer, the kind of its cloud, and the height of its base.
+pub struct CloudLayer {
+    pub amount: Number,
+    pub cloud: Number,
+    pub height: BaseHeight,
+}
+
+// At most four, from the first slot on.
+pub struct CloudLayers {
+    pub items: [CloudLayer; 4],
+    pub count: usize,
+}
+
+// Section 3, 333: the maximum, 1sTTT, the minimum, 2sTTT, and layers, 8NChh.
+pub struct Section3 {
+    pub maximum: Air,
+    pub minimum: Air,
+    pub layers: CloudLayers,
+}
+
 // What a SYNOP or SHIP says after its place.
 pub struct Surface {
     pub indicators: Indicators,
@@ -152,4 +181,5 @@ pub struct Synop {
     pub ship: bool,
     pub site: Site,
     pub surface: Surface,
+    pub section3: Section3,
 }

@@ -22,6 +22,9 @@ use Rattle.record.specs.declared.aerodrome.Metar.{Metar}
 use Rattle.record.specs.declared.aerodrome.Change.{Change}
 use Rattle.record.specs.declared.aerodrome.Edition.{Edition}
 use Rattle.record.specs.declared.aerodrome.Taf.{Taf}
+use Rattle.record.specs.declared.surface.CloudLayer.{CloudLayer}
+use Rattle.record.specs.declared.surface.Section3.{Section3}
+use Rattle.section3.specs.Write as section3
 use Rattle.synop_groups.specs.Judge as surface
 use Rattle.elements.specs.Wind.{judgeWind, judgeVariation}
 use Rattle.elements.specs.Visibility.{judgeVisibility}
@@ -76,9 +79,17 @@ unfolding synop.judgeSection surface.judgeAir surface.judgeMoisture surface.judg
     surface.judgeRainfall surface.judgeWeather surface.judgeClouds surface.judgeClock
 section n s = search made depth 10
 
+layers-cause : (before ls : List CloudLayer) → Caused (section3.judgeEach before ls)
+layers-cause before [] = search made
+layers-cause before (l ∷ ls) = let x = layers-cause (before ++ (l ∷ [])) ls in search made
+
+third : (s : Section3) → Caused (section3.judgeSection3 s)
+unfolding section3.judgeSection3 section3.judgeLayers surface.judgeAir
+third s = search (made, layers-cause) depth 8
+
 pub surface-causes : (r : Synop) → Caused (synop.judgeOf r)
 unfolding synop.judgeOf synop.judgeSurface surface.judgeIndicators surface.judgeWind
-surface-causes r = search (made, site, section) depth 8
+surface-causes r = search (made, site, section, third) depth 10
 
 -- ---- what METAR and TAF share; wind and visibility are one judgement each
 

@@ -47,14 +47,14 @@ abbrev instant : Number → ℕ → Number → Instant
 instant d h m = record { day = d; hour = number.Is h; minute = m }
 
 -- LEMD 010101Z
-abbrev headed : Leg
+abbrev pub headed : Leg
 headed = setTime (instant (number.Is 1) 1 (number.Is 1)) (setStation (record { letters = bytes "LEMD" }) blankLeg)
 
 abbrev of : Edition → Leg → Report
 of e r = forecastReport (record { edition = e; leg = r; changes = blankTaf .changes })
 
 -- from the 1st at 01 to an hour, with a day or without
-abbrev until : Number → ℕ → Period
+abbrev pub until : Number → ℕ → Period
 until d h = record { from = instant (number.Is 1) 1 number.Missing; to = instant d h number.Missing }
 
 -- a calm of 5 knots, which disagrees, and BECMG with a day, which its form does not have
@@ -71,9 +71,8 @@ calm =
 abbrev becoming : Change
 becoming = record { opening = opening.Becoming; period = until number.Missing 2; body = record { wind = blankBody .wind; visibility = blankBody .visibility; weathers = blankBody .weathers; nsw = true; sky = blankBody .sky } }
 
-abbrev changing : Report
-changing =
-    forecastReport (record { edition = edition.Of2005; leg = setBody calm (setPeriod (until number.Missing 2) headed); changes = record { items = becoming ∷ replicate 15 blankChange; count = 1 } })
+abbrev pub changing : Taf
+changing = record { edition = edition.Of2005; leg = setBody calm (setPeriod (until number.Missing 2) headed); changes = record { items = becoming ∷ replicate 15 blankChange; count = 1 } }
 
 -- METAR LEMD 010101Z NIL whose part for TAF names 2005
 abbrev observed : Report
@@ -99,7 +98,7 @@ pub editions-judged : map (λ (x : Edition × Report). judgeIn (x .0) (x .1))
     ∷ (edition.Of2005, of edition.Of2005 (setCancelled true (setPeriod (until (number.Is 1) 5) headed)))
     ∷ (edition.Of2005, of edition.Of2005 (setCancelled true (setPeriod (until number.Missing 50) headed)))
     ∷ (edition.Of2005, of edition.Of2005 (setCancelled true (setPeriod (until number.Missing 62) headed)))
-    ∷ (edition.Of2005, changing)
+    ∷ (edition.Of2005, forecastReport changing)
     ∷ [])
     ≡ judged.Refused refusal.Value ∷ judged.Refused refusal.Value ∷ judged.Fine ∷ judged.Refused refusal.Value ∷ judged.Refused refusal.Value ∷ judged.Refused refusal.Value ∷ judged.Fine
     ∷ judged.Refused refusal.Disagreement ∷ []

@@ -28,11 +28,11 @@ use Rattle.text.specs.Groups as groups
 use Rattle.text.specs.Text as text
 use Rattle.shapes.specs.Pattern as pattern
 use Rattle.shapes.specs.Shape as shape
-use Rattle.places.specs.Engine as engine
 use Rattle.places.specs.Parts as parts
 use Rattle.places.specs.Seek as seek
 use Rattle.scales.specs.Degrees as degrees
 use Rattle.scales.specs.Depth as deposit
+use Rattle.scales.specs.Layers as layered
 use Rattle.scales.specs.Metres as metres
 use Rattle.scales.specs.Rounded as rounded
 use Rattle.scales.specs.Scale as scale
@@ -42,6 +42,8 @@ use Rattle.synop_groups.specs.Judge as surface-judge
 use Rattle.synop_groups.specs.Reads as surface-reads
 use Rattle.synop_groups.specs.Shows as surface-shows
 use Rattle.synop_row.specs.Row as synop-row
+use Rattle.section3.specs.Row as section3
+use Rattle.section3.specs.Write as section3-write
 use Rattle.synop_section.specs.Answer as section
 use Rattle.synop.specs.Read as synop-read
 use Rattle.synop.specs.Write as synop-write
@@ -85,6 +87,14 @@ examples =
     ∷ reads "AAXX 24124 99901 43/97 80412" "AAXX 24124 99901 43/97 80412="
     ∷ refuses "BBXX D5LT 24124 99900 71800 43/// 80499 00123 11000" 5 46
     ∷ reads "BBXX D5LT 24124 99000 71800 43/// 80499 00123=" "BBXX D5LT 24124 99000 11800 43/// 80499 00123="
+    ∷ reads "AAXX 24124 99901 43/// 80412 333 8//// 81500 8//// 82589 8/590 845// 8//// X= Y" "AAXX 24124 99901 43/// 80412 333 81500 82589 8/590 845//="
+    ∷ reads "BBXX ABC 24124 99001 10001 43/// ///// 333 11123 20012" "BBXX ABC 24124 99001 10001 43/// ///// 333 11123 20012="
+    ∷ reads "AAXX 24124 99901 43/// 80412 333 1//// 8////" "AAXX 24124 99901 43/// 80412="
+    ∷ refuses "AAXX 24124 99901 43/// 80412 333 81500 82500 83500 84500 81551" 9 57
+    ∷ refuses "AAXX 24124 99901 43/// 80412 333 8//// 10123" 6 39
+    ∷ refuses "AAXX 24124 99901 43/// 80412 333 29050" 5 33
+    ∷ refuses "AAXX 24124 99901 43/// 80412 333 81530 815// 81591 81529" 7 51
+    ∷ reads "AAXX 24124 99901 43/// 80412 333 10123 22212 20123" "AAXX 24124 99901 43/// 80412 333 10123="
     ∷ reads "METAR LEMD 011200Z 00000KT 010V020 CAVOK 15/10 Q1013" "METAR LEMD 011200Z 00000KT 010V020 CAVOK 15/10 Q1013="
     ∷ refuses "METAR METAR LEMD" 6 6
     ∷ reads "METAR AUTO 011200Z 27010KT 9999 15/10 Q1013" "METAR AUTO 011200Z 27010KT 9999 15/10 Q1013="
@@ -159,20 +169,22 @@ unfolding figures.figures figures.scan figures.fieldAt figures.numberText figure
     text.equalsAt text.bytesOf text.junkFrom text.tailOf
     pattern.low pattern.high pattern.fits pattern.hasPattern pattern.hasAny
     shape.leading shape.split shape.partsOf shape.begins shape.valueOf shape.pickOf shape.scanParts shape.answered shape.scanOf shape.hasShape shape.filled shape.printParts shape.printOf shape.spellings
-    engine.step engine.run
     parts.runTo parts.further parts.reportOf
     seek.seek seek.anywhere seek.findOf seek.owed
     degrees.signedReading degrees.wholeDegrees degrees.degreesOf degrees.degreesReading
     deposit.depth
+    layered.layerSteps layered.layerBands
     metres.land metres.sea metres.base metres.metresFigure metres.metresReading metres.visibility metres.runway metres.cloud metres.sameRange metres.rangeFigure metres.rangeReading
     rounded.rainFigure rounded.rainReading rounded.directionFigure rounded.directionReading rounded.pressureFigure rounded.pressureReading
     scale.classIn scale.readIn scale.run
     silent-surface.noSurface silent-surface.isBlankSynop
     silent-aerodrome.isBlankBody silent-aerodrome.noObservation silent-aerodrome.isBlankObservation silent-aerodrome.isBlankMetar silent-aerodrome.isBlankTaf
-    surface-judge.judgeTime surface-judge.judgeStation surface-judge.judgeSign surface-judge.judgePosition surface-judge.judgeIndicators surface-judge.judgeWind surface-judge.judgeAir surface-judge.judgeMoisture surface-judge.judgePressure surface-judge.judgeLevel surface-judge.judgeTendency surface-judge.judgeRainfall surface-judge.judgeWeather surface-judge.judgeClouds surface-judge.judgeClock
-    surface-reads.timeOf surface-reads.saidTime surface-reads.saidStation surface-reads.latitudeIs surface-reads.saidLatitude surface-reads.positionOf surface-reads.saidLongitude surface-reads.indicatorsOf surface-reads.saidIndicators surface-reads.windBy surface-reads.saidWind surface-reads.speedIs surface-reads.saidSpeed surface-reads.airIs surface-reads.saidAir surface-reads.moistureIs surface-reads.saidMoisture surface-reads.saidPressure surface-reads.levelIs surface-reads.saidLevel surface-reads.tendencyIs surface-reads.saidTendency surface-reads.saidRainfall surface-reads.saidWeather surface-reads.saidClouds surface-reads.clockIs surface-reads.saidClock
-    surface-shows.showTime surface-shows.showStation surface-shows.showSign surface-shows.showLatitude surface-shows.showLongitude surface-shows.showIndicators surface-shows.showWind surface-shows.showSpeed surface-shows.showAir surface-shows.showMoisture surface-shows.showPressure surface-shows.showLevel surface-shows.showTendency surface-shows.showRainfall surface-shows.weatherText surface-shows.showWeather surface-shows.cloudsText surface-shows.showClouds surface-shows.showClock
+    surface-judge.judgeTime surface-judge.judgeStation surface-judge.judgeSign surface-judge.judgePosition surface-judge.judgeIndicators surface-judge.judgeWind surface-judge.judgeAir surface-judge.judgeMoisture surface-judge.judgePressure surface-judge.judgeLevel surface-judge.judgeTendency surface-judge.judgeRainfall surface-judge.judgeWeather surface-judge.judgeClouds surface-judge.judgeClock surface-judge.layerFits
+    surface-reads.timeOf surface-reads.saidTime surface-reads.saidStation surface-reads.latitudeIs surface-reads.saidLatitude surface-reads.positionOf surface-reads.saidLongitude surface-reads.indicatorsOf surface-reads.saidIndicators surface-reads.windBy surface-reads.saidWind surface-reads.speedIs surface-reads.saidSpeed surface-reads.airIs surface-reads.saidAir surface-reads.moistureIs surface-reads.saidMoisture surface-reads.saidPressure surface-reads.levelIs surface-reads.saidLevel surface-reads.tendencyIs surface-reads.saidTendency surface-reads.saidRainfall surface-reads.saidWeather surface-reads.saidClouds surface-reads.clockIs surface-reads.saidClock surface-reads.saidLayer
+    surface-shows.showTime surface-shows.showStation surface-shows.showSign surface-shows.showLatitude surface-shows.showLongitude surface-shows.showIndicators surface-shows.showWind surface-shows.showSpeed surface-shows.showAir surface-shows.showMoisture surface-shows.showPressure surface-shows.showLevel surface-shows.showTendency surface-shows.showRainfall surface-shows.weatherText surface-shows.showWeather surface-shows.cloudsText surface-shows.showClouds surface-shows.showClock surface-shows.showMinimum surface-shows.showLayer
     synop-row.needsOf synop-row.withSaid synop-row.row synop-row.stopWords
+    section3.row section3.ownShapes section3.halts section3.layerAt section3.showLayers
+    section3-write.judgeLayers section3-write.judgeSection3 section3-write.showSection3
     section.section
     synop-read.withHead synop-read.signOf synop-read.posts synop-read.walk synop-read.groupsRead
     synop-write.foreignBlank synop-write.judgeSite synop-write.judgeSection synop-write.judgeSurface synop-write.judgeOf synop-write.siteGroups synop-write.surfaceGroups synop-write.groupsOf synop-write.canonicalOf

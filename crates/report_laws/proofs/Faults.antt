@@ -6,8 +6,10 @@ use mathlib.Core.Path.{refl}
 use mathlib.Core.Bool.{Bool, true, false, cond, _&&_}
 use mathlib.Core.List.{List, [], _∷_}
 use native.Mathlib.Omega.{arith}
-use lib.ListN.{length}
+use lib.ListN.{length, take}
+use lib.Dec.{leb}
 use lib.IntN.{ℤ}
+use Rattle.figures.specs.Quote.{bytes}
 use Rattle.figures.specs.declared.kinds.Field.{Field}
 use Rattle.figures.specs.declared.kinds.Field.the-variants as field
 use Rattle.text.specs.declared.kinds.Refusal.the-variants as refusal
@@ -25,6 +27,7 @@ use Rattle.scales.specs.declared.kinds.Rain.{Rain}
 use Rattle.scales.specs.declared.kinds.RainReading.{RainReading}
 use Rattle.scales.specs.declared.kinds.RainReading.the-variants as amount
 use Rattle.shapes.specs.declared.kinds.Value.{Value}
+use Rattle.shapes.specs.Pattern.{hasPattern}
 use Rattle.places.specs.Engine.{Group, Read, Bad, then, Outcome}
 use Rattle.places.specs.Parts.{Word, Bars}
 use Rattle.record.specs.declared.values.Number.{Number}
@@ -43,12 +46,20 @@ use Rattle.record.specs.Observation.{blankObservation}
 use Rattle.record.specs.declared.surface.Position.{Position}
 use Rattle.record.specs.declared.surface.Surface.{Surface}
 use Rattle.record.specs.declared.surface.Synop.{Synop}
+use Rattle.record.specs.declared.surface.CloudLayers.{CloudLayers}
+use Rattle.record.specs.declared.surface.Section3.{Section3}
+use Rattle.record.specs.Blank.{blankSurface}
 use Rattle.synop_groups.specs.declared.kinds.Said.{Said}
+use Rattle.synop_groups.specs.declared.kinds.Said.the-variants as said
 use Rattle.synop_groups.specs.Reads as surface
 use Rattle.synop_row.specs.declared.kinds.Needs.{Needs}
 use Rattle.synop_row.specs.Row.{withSaid}
 use Rattle.synop_row.specs.Row as synop-row
-use Rattle.synop_section.specs.Answer.{begun, ontoReport, section}
+use Rattle.synop_section.specs.Answer as section
+use Rattle.synop_section.specs.Answer.{begun}
+use Rattle.section3.specs.declared.kinds.Told.{Told}
+use Rattle.section3.specs.declared.kinds.Told.the-variants as third
+use Rattle.section3.specs.Row as section3
 use Rattle.synop.specs.Read as synop
 use Rattle.elements.specs.Parts.{figured, mayMiss, used}
 use Rattle.elements.specs.Wind as wind
@@ -74,7 +85,7 @@ use Rattle.taf.specs.Read as taf
 use Rattle.report_record.specs.declared.kinds.Name.{Name}
 use Rattle.report_record.specs.declared.kinds.Name.the-variants as name
 use Rattle.report.specs.Read.{word, nameBy, firstName, afterBytes, nameOf}
-use Rattle.report_laws.proofs.Placed.{Each, _&_, Fair, Fairly, good, bad, Placed, done, fault, Within, TailWithin, groups-within, BytesWithin, bytes-within, FairPlace, FairRow, FairWord, ends, opens, bars, FairPart, run-placed, report-placed}
+use Rattle.report_laws.proofs.Placed.{Each, _&_, Fair, Fairly, good, bad, Placed, done, fault, Within, TailWithin, groups-within, BytesWithin, bytes-within, FairPlace, FairRow, FairWord, ends, opens, bars, FairPart, report-placed}
 
 -- ---- what a group says, put together
 module _ {A : Type 0} where
@@ -421,6 +432,90 @@ section-row n =
     & (λ k g s. search added depth 8)
     & tt
 
+-- ---- section 3
+
+-- what a group of it says: a refusal is a reader's
+abbrev FairTold : Told → Type 0
+FairTold third.Nothing = Unit {0}
+FairTold (third.Refused f) = Fair f
+FairTold (third.Maximum a) = Unit {0}
+FairTold (third.Minimum a) = Unit {0}
+FairTold (third.Layer l) = Unit {0}
+
+told-fair : (s : Surface) (b : Bool) (x : Said) → Adds s x → FairTold (section3.toldBy (section3.airBy b) x)
+unfolding withSaid
+told-fair s b (said.Refused f) p = refused p
+  where
+    refused : Fairly {R = Surface} (Bad f) → Fair f
+    refused (bad _ h) = h
+told-fair s b (said.Time t) p = tt
+told-fair s b (said.Station n) p = tt
+told-fair s b (said.Position x) p = tt
+told-fair s b (said.Indicators i) p = tt
+told-fair s b (said.Wind w) p = tt
+told-fair s b (said.Speed n) p = tt
+told-fair s true (said.Air a) p = tt
+told-fair s false (said.Air a) p = tt
+told-fair s b (said.Moisture m) p = tt
+told-fair s b (said.Pressure x) p = tt
+told-fair s b (said.Level l) p = tt
+told-fair s b (said.Tendency t) p = tt
+told-fair s b (said.Rainfall r) p = tt
+told-fair s b (said.Weather w) p = tt
+told-fair s b (said.Clouds c) p = tt
+told-fair s b (said.Clock c) p = tt
+told-fair s b (said.Layer l) p = tt
+
+told-either : (b : Bool) (x y : Told) → FairTold x → FairTold y → FairTold (cond b x y)
+told-either true x y p q = p
+told-either false x y p q = q
+
+risen-fair : (ls : CloudLayers) (x : Told) → FairTold x → FairTold (section3.risen ls x)
+risen-fair ls third.Nothing p = tt
+risen-fair ls (third.Refused f) p = p
+risen-fair ls (third.Maximum a) p = tt
+risen-fair ls (third.Minimum a) p = tt
+risen-fair ls (third.Layer l) p = told-either (section3.rises (take (ls .count) (ls .items)) l) (third.Layer l) (third.Refused refusal.Disagreement) tt refl
+
+tells : (x : Told) → FairTold x → (s : Section3) → Fairly (section3.withTold x s)
+tells third.Nothing p s = good _
+tells (third.Refused f) p s = bad f p
+tells (third.Maximum a) p s = good _
+tells (third.Minimum a) p s = good _
+tells (third.Layer l) p s = good _
+
+module _ (s : Surface) (g : Group) where
+  air-adds : Adds s (surface.saidAir g)
+  unfolding withSaid surface.saidAir surface.airIs
+  air-adds = search added depth 8
+
+  layer-adds : Adds s (surface.saidLayer g)
+  unfolding withSaid surface.saidLayer
+  layer-adds = search added depth 12
+
+air-told : (b : Bool) (g : Group) → FairTold (section3.toldBy (section3.airBy b) (surface.saidAir g))
+air-told b g = told-fair blankSurface b (surface.saidAir g) (air-adds blankSurface g)
+
+layer-told : (ls : CloudLayers) (g : Group) → FairTold (section3.layerAt ls g)
+unfolding section3.layerAt
+layer-told ls g =
+    let said = section3.toldBy (section3.airBy false) (surface.saidLayer g) in
+    let after = section3.risen ls said in
+    told-either (hasPattern g (bytes "8////")) third.Nothing (cond (leb 4 (ls .count)) (third.Refused refusal.Limit) after) tt
+    (told-either (leb 4 (ls .count)) (third.Refused refusal.Limit) after refl (risen-fair ls said (told-fair blankSurface false (surface.saidLayer g) (layer-adds blankSurface g))))
+
+third-row : FairRow section3.row
+unfolding section3.row
+third-row =
+    (λ k g s. tells (section3.toldBy (section3.airBy false) (surface.saidAir g)) (air-told false g) s)
+    & (λ k g s. tells (section3.toldBy (section3.airBy true) (surface.saidAir g)) (air-told true g) s)
+    & (λ k g s. tells (section3.layerAt (s .layers) g) (layer-told (s .layers) g) s)
+    & tt
+
+-- 333 opens section 3, any other stop word ends the reading
+word-fair : (g : Group) → FairWord (section.wordOf g)
+word-fair g = word-either (hasPattern g synop-row.section3Word) (opens _ (good _)) ends
+
 -- ---- the groups through Nddff, known by their position
 
 abbrev FairPost : synop.Post → Type 0
@@ -452,13 +547,11 @@ posts-fair true =
     & tt
 
 module _ (n : ℕ) (tail : Tail) (end : ℕ) (w : TailWithin n tail) (h : end ≤ n) where
-  section-placed : (r : Synop) (gs : List Piece) → Within n gs → Placed n (section r tail end gs)
-  unfolding section
-  section-placed r gs v = go _ (run-placed n tail end w h (synop-row.row (synop-row.needsOf (r .surface))) (section-row _) synop-row.stopWords gs v 0 0 (r .surface))
-    where
-      go : (o : Outcome Surface) → Placed n o → Placed n (ontoReport r o)
-      go _ (done rest s u) = done rest _ u
-      go _ (fault f at a u) = fault f at a u
+  section-placed : (r : Synop) (gs : List Piece) → Within n gs → Placed n (section.section r tail end gs)
+  unfolding section.section
+  section-placed r gs v =
+      report-placed n tail end w h section.parts (λ t o. record { row = third-row; word = λ u g. ends }) 1 _
+      (record { row = section-row (synop-row.needsOf (r .surface)); word = λ u g. word-fair g }) (r .surface) gs v
 
   short-placed : (u : Tail) → TailWithin n u → Placed n (synop.cutShort u end)
   short-placed (Junk at) v = fault refusal.Shape at refl v

@@ -13,4 +13,5 @@ pub mod PoorLibraries
 pub mod Examples
 pub mod StateExamples
 pub mod EditionExamples
+pub mod Section3Examples
 pub mod OneBody

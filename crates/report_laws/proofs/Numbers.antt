@@ -5,7 +5,7 @@ use Prim.Native.Nat.{ℕ, _≤_}
 use mathlib.Core.Path.{_≡_, refl, sym, ap, _∙_}
 use mathlib.Core.Bool.{Bool, true, false}
 use mathlib.Core.List.{List, [], _∷_, _++_, map}
-use lib.ListN.{getD, List·getD-map}
+use lib.ListN.{getD, take, List·getD-map}
 use lib.Dec.{eqb}
 use lib.IntN.{ℤ}
 use lib.Signed.{leZ}
@@ -14,11 +14,13 @@ use Rattle.scales.specs.declared.kinds.Range.{Range}
 use Rattle.scales.specs.Scale.{Scale, footOf}
 use Rattle.scales.specs.Metres as scale
 use Rattle.scales.specs.Depth as deposit
+use Rattle.scales.specs.Layers as layered
 use Rattle.scales.specs.Rounded.{roundedRain, rainRank}
 use Rattle.scales.proofs.Laws.{Lawful}
 use Rattle.scales.proofs.Down.{Down, down}
 use Rattle.scales.proofs.MetresLaws.{land-laws, sea-laws, base-laws, visibility-laws, runway-laws, cloud-laws}
 use Rattle.scales.proofs.DepthLaws.{depth-laws}
+use Rattle.scales.proofs.LayersLaws.{steps-laws, bands-laws}
 use Rattle.scales.proofs.DegreesLaws.{degrees-order}
 use Rattle.scales.proofs.PressureLaws.{pressure-order}
 use Rattle.record.specs.declared.values.Number.{Number}
@@ -33,7 +35,11 @@ use Rattle.record.specs.declared.surface.Sight.{Sight}
 use Rattle.record.specs.declared.surface.Sight.the-variants as sight
 use Rattle.record.specs.declared.surface.Fall.{Fall}
 use Rattle.record.specs.declared.surface.Fall.the-variants as fall
+use Rattle.record.specs.declared.surface.BaseHeight.{BaseHeight}
+use Rattle.record.specs.declared.surface.BaseHeight.the-variants as height
+use Rattle.record.specs.declared.surface.CloudLayer.{CloudLayer}
 use Rattle.record.specs.declared.surface.Surface.{Surface}
+use Rattle.record.specs.declared.surface.Synop.{Synop}
 use Rattle.record.specs.declared.aerodrome.Extremes.{Extremes}
 use Rattle.record.specs.declared.aerodrome.Extremes.the-variants as extremes
 use Rattle.record.specs.declared.aerodrome.Unit.{Unit}
@@ -59,7 +65,7 @@ use Rattle.record.specs.declared.aerodrome.Edition.{Edition}
 use Rattle.record.specs.declared.aerodrome.Taf.{Taf}
 use Rattle.record.specs.Classes as classes
 use Rattle.record.specs.Missing.{noSpeed}
-use Rattle.synop_groups.specs.Classes.{classBase, classSight, classFall}
+use Rattle.synop_groups.specs.Classes.{classBase, classSight, classFall, classHeight, classLayer as classCloudLayer}
 use Rattle.elements.specs.Wind.{classSpeed, speedRank, classExtremes}
 use Rattle.elements.specs.Visibility.{classView}
 use Rattle.elements.specs.Sky.{classLayer, classCover, classSky}
@@ -76,10 +82,10 @@ use Rattle.report_record.specs.declared.kinds.Kind.{Kind}
 use Rattle.report_record.specs.declared.kinds.Kind.the-variants as kind
 use Rattle.report_record.specs.declared.kinds.Report.{Report}
 
--- ---- the six scales in metres and the depth of deposits, in millimetres, which round down
+-- ---- the six scales in metres, the heights of layers in section 3, and the depth of deposits, in millimetres, which round down
 
 pub data Table : Type 0 where
-  -- 4377 land and sea, 1600 h, VVVV, RVR, 1690, 1079
+  -- 4377 land and sea, 1600 h, VVVV, RVR, 1690, 1079, 1677 by steps and by bands
   land : Table
   sea : Table
   base : Table
@@ -87,6 +93,8 @@ pub data Table : Type 0 where
   runway : Table
   cloud : Table
   depth : Table
+  steps : Table
+  bands : Table
 
 -- the figures of each, when two are one, the scale and its laws
 abbrev pub Figures : Table → Type 0
@@ -97,6 +105,8 @@ Figures visibility = ℕ
 Figures runway = Range
 Figures cloud = ℕ
 Figures depth = ℕ
+Figures steps = ℕ
+Figures bands = ℕ
 
 abbrev pub scaleOf : (t : Table) → Scale (Figures t)
 scaleOf land = scale.land
@@ -106,6 +116,8 @@ scaleOf visibility = scale.visibility
 scaleOf runway = scale.runway
 scaleOf cloud = scale.cloud
 scaleOf depth = deposit.depth
+scaleOf steps = layered.layerSteps
+scaleOf bands = layered.layerBands
 
 abbrev pub sameOf : (t : Table) → Figures t → Figures t → Bool
 sameOf land = eqb
@@ -115,6 +127,8 @@ sameOf visibility = eqb
 sameOf runway = scale.sameRange
 sameOf cloud = eqb
 sameOf depth = eqb
+sameOf steps = eqb
+sameOf bands = eqb
 
 pub lawsOf : (t : Table) → Lawful (sameOf t) (scaleOf t)
 lawsOf land = land-laws
@@ -124,6 +138,8 @@ lawsOf visibility = visibility-laws
 lawsOf runway = runway-laws
 lawsOf cloud = cloud-laws
 lawsOf depth = depth-laws
+lawsOf steps = steps-laws
+lawsOf bands = bands-laws
 
 -- what a value is read back as: the foot of its class
 abbrev pub footOn : Table → ℕ → ℕ
@@ -157,6 +173,33 @@ surfaceNumbers visibility s = []
 surfaceNumbers runway s = []
 surfaceNumbers cloud s = []
 surfaceNumbers depth s = []
+surfaceNumbers steps s = []
+surfaceNumbers bands s = []
+
+abbrev pub stepsMetres : BaseHeight → Number
+stepsMetres height.Missing = number.Missing
+stepsMetres (height.Steps m) = number.Is m
+stepsMetres (height.Bands m) = number.Missing
+
+abbrev pub bandsMetres : BaseHeight → Number
+bandsMetres height.Missing = number.Missing
+bandsMetres (height.Steps m) = number.Missing
+bandsMetres (height.Bands m) = number.Is m
+
+-- of section 3: the heights of the layers that count
+abbrev pub section3Numbers : Table → List CloudLayer → List Number
+section3Numbers land ls = []
+section3Numbers sea ls = []
+section3Numbers base ls = []
+section3Numbers visibility ls = []
+section3Numbers runway ls = []
+section3Numbers cloud ls = []
+section3Numbers depth ls = []
+section3Numbers steps ls = map (λ (l : CloudLayer). stepsMetres (l .height)) ls
+section3Numbers bands ls = map (λ (l : CloudLayer). bandsMetres (l .height)) ls
+
+abbrev pub synopNumbers : Table → Synop → List Number
+synopNumbers t r = surfaceNumbers t (r .surface) ++ section3Numbers t (take (r .section3 .layers .count) (r .section3 .layers .items))
 
 abbrev pub verticalOf : Cover → Number
 verticalOf cover.Layers = number.Missing
@@ -178,6 +221,8 @@ bodyNumbers visibility b = viewMetres (b .visibility .is) ∷ []
 bodyNumbers runway b = []
 bodyNumbers cloud b = skyHeights (b .sky)
 bodyNumbers depth b = []
+bodyNumbers steps b = []
+bodyNumbers bands b = []
 
 -- of one body after the other
 abbrev pub bodiesNumbers : Table → List Body → List Number
@@ -202,6 +247,8 @@ runwayNumbers visibility o = []
 runwayNumbers runway o = map (λ (w : Runway). w .range) (o .runways .items)
 runwayNumbers cloud o = []
 runwayNumbers depth o = map (λ (s : RunwayState). depthOf (s .condition)) (o .states .items)
+runwayNumbers steps o = []
+runwayNumbers bands o = []
 
 -- the observation's body, then those of the trend's changes
 abbrev pub observedBodies : Metar → List Body
@@ -219,7 +266,7 @@ forecastNumbers t r = bodiesNumbers t (forecastBodies r)
 
 abbrev pub numbersBy : Kind → Table → Report → List Number
 numbersBy kind.Missing t r = []
-numbersBy kind.Surface t r = surfaceNumbers t (r .surface .surface)
+numbersBy kind.Surface t r = synopNumbers t (r .surface)
 numbersBy kind.Observed t r = observedNumbers t (r .observed)
 numbersBy kind.Forecast t r = forecastNumbers t (r .forecast)
 
@@ -351,6 +398,8 @@ body-is visibility b = rw (view-is (b .visibility .is))
 body-is runway b = refl
 body-is cloud b = sky-is (b .sky)
 body-is depth b = refl
+body-is steps b = refl
+body-is bands b = refl
 
 bodies-is : (t : Table) (bs : List Body) → bodiesNumbers t (map classBody bs) ≡ map (classOn t) (bodiesNumbers t bs)
 bodies-is t [] = refl
@@ -374,8 +423,10 @@ runway-is visibility o q e f = refl
 runway-is runway o q e f = rw (e, map-square (λ (w : Runway). w .range) classRunway (classOn runway) (λ w. refl) (o .runways .items))
 runway-is cloud o q e f = refl
 runway-is depth o q e f = rw (f, map-square (λ (s : RunwayState). depthOf (s .condition)) classState (classOn depth) (λ s. depth-is (s .condition)) (o .states .items))
+runway-is steps o q e f = refl
+runway-is bands o q e f = refl
 
-pub surface-numbers : (t : Table) (s q : Surface) → q .indicators .sight ≡ classSight (s .indicators .sight) → q .indicators .base ≡ classBase (s .indicators .base)
+surface-numbers : (t : Table) (s q : Surface) → q .indicators .sight ≡ classSight (s .indicators .sight) → q .indicators .base ≡ classBase (s .indicators .base)
     → surfaceNumbers t q ≡ map (classOn t) (surfaceNumbers t s)
 surface-numbers land s q e f = rw (e, sight-land (s .indicators .sight))
 surface-numbers sea s q e f = rw (e, sight-sea (s .indicators .sight))
@@ -384,6 +435,39 @@ surface-numbers visibility s q e f = refl
 surface-numbers runway s q e f = refl
 surface-numbers cloud s q e f = refl
 surface-numbers depth s q e f = refl
+surface-numbers steps s q e f = refl
+surface-numbers bands s q e f = refl
+
+steps-is : (h : BaseHeight) → stepsMetres (classHeight h) ≡ classOn steps (stepsMetres h)
+steps-is height.Missing = refl
+steps-is (height.Steps m) = refl
+steps-is (height.Bands m) = refl
+
+bands-is : (h : BaseHeight) → bandsMetres (classHeight h) ≡ classOn bands (bandsMetres h)
+bands-is height.Missing = refl
+bands-is (height.Steps m) = refl
+bands-is (height.Bands m) = refl
+
+section3-is : (t : Table) (ls : List CloudLayer) → section3Numbers t (map classCloudLayer ls) ≡ map (classOn t) (section3Numbers t ls)
+section3-is land ls = refl
+section3-is sea ls = refl
+section3-is base ls = refl
+section3-is visibility ls = refl
+section3-is runway ls = refl
+section3-is cloud ls = refl
+section3-is depth ls = refl
+section3-is steps ls = map-square (λ (l : CloudLayer). stepsMetres (l .height)) classCloudLayer (classOn steps) (λ l. steps-is (l .height)) ls
+section3-is bands ls = map-square (λ (l : CloudLayer). bandsMetres (l .height)) classCloudLayer (classOn bands) (λ l. bands-is (l .height)) ls
+
+pub synop-numbers : (t : Table) (r q : Synop) → q .surface .indicators .sight ≡ classSight (r .surface .indicators .sight)
+    → q .surface .indicators .base ≡ classBase (r .surface .indicators .base)
+    → take (q .section3 .layers .count) (q .section3 .layers .items) ≡ map classCloudLayer (take (r .section3 .layers .count) (r .section3 .layers .items))
+    → synopNumbers t q ≡ map (classOn t) (synopNumbers t r)
+synop-numbers t r q e f layers =
+    let counted = take (r .section3 .layers .count) (r .section3 .layers .items) in
+    ap (λ (l : List Number). l ++ section3Numbers t (take (q .section3 .layers .count) (q .section3 .layers .items))) (surface-numbers t (r .surface) (q .surface) e f)
+    ∙ ap (λ (l : List Number). map (classOn t) (surfaceNumbers t (r .surface)) ++ l) (ap (section3Numbers t) layers ∙ section3-is t counted)
+    ∙ sym (map-append (classOn t) (surfaceNumbers t (r .surface)) (section3Numbers t counted))
 
 -- a body and those of the changes, each read back as its class
 with-changes : {A : Type 0} (of : A → Body) (f : A → A) → ((x : A) → of (f x) ≡ classBody (of x)) → (b c : Body) (xs ys : List A) → c ≡ classBody b → ys ≡ map f xs

@@ -19,11 +19,10 @@ use Rattle.text.specs.Refusals.{numberOf}
 use Rattle.text.specs.Bytes.{parting, inner, allowed, lead}
 use Rattle.text.specs.Groups.{Piece, groupsIn, groupsFrom, pastParting}
 use Rattle.text.specs.Text.{equalsAt, bytesOf, junkFrom, tailOf}
-use Rattle.shapes.specs.Pattern.{Pattern, hasAny}
 use Rattle.places.specs.declared.kinds.Found.{Found}
 use Rattle.places.specs.declared.kinds.Found.the-variants.{Take, Skips, Full, Earlier, Unknown}
-use Rattle.places.specs.Seek.{findOf, owed}
-use Rattle.places.specs.Engine.{Group, Read, Good, Bad, Place, placeAt, standsOf, mustsOf, taken, judged, Step, On, Halt, Stop, step, carry, Outcome, Done, Fault, finish, over, closed, run}
+use Rattle.places.specs.Seek.{findOf}
+use Rattle.places.specs.Engine.{Group, Read, Good, Bad, Place, placeAt, standsOf, taken, judged, Step, On, Halt, Stop, Outcome, Done, Fault, finish}
 use Rattle.places.specs.Parts.{Exits, stepBy, carryTo, runTo, Begun, Word, Ends, Opens, Bars, Part, Parts, Further, turned, ended, unless, owes, partExits, partFrom, afterFirst, begins, further, reportOf}
 
 -- something of each element of a list, in its order
@@ -191,24 +190,6 @@ module _ {T : Type 0} (n : ℕ) where
   ended-placed : (tail : Tail) (end : ℕ) → TailWithin n tail → end ≤ n → (owes : Bool) (t : T) → Placed n (ended tail end owes t)
   ended-placed (Junk at) end w h owes t = fault refusal.Shape at refl w
   ended-placed Clear end w h owes t = finish-placed owes end t h
-
--- ---- a reading against one row
-module _ {R : Type 0} (n : ℕ) (tail : Tail) (end : ℕ) (w : TailWithin n tail) (h : end ≤ n) (row : List (Place R)) (fair : FairRow row) (words : List Pattern) where
-  over-placed : (u : Tail) → TailWithin n u → (c k : ℕ) (r : R) → Placed n (over row u end c k r)
-  over-placed (Junk at) v c k r = fault refusal.Shape at refl v
-  over-placed Clear v c k r = finish-placed n (owed k (drop c (mustsOf row))) end r h
-
-  pub run-placed : (gs : List Piece) → Within n gs → (c k : ℕ) (r : R) → Placed n (run row words tail end c k r gs)
-  unfolding run step
-  run-placed [] v c k r = over-placed tail w c k r
-  run-placed (g ∷ gs) v c k r =
-      go (step row words c k r (g .bytes)) (step-fair row fair (leb (length row) c) (hasAny words (g .bytes)) r (g .bytes) (findOf (standsOf row (g .bytes)) c k)) (run-placed gs (v .1))
-    where
-      go : (s : Step R) → FairStep s → ((c k : ℕ) (r : R) → Placed n (run row words tail end c k r gs))
-          → Placed n (carry s (g .start) (closed row (g .start) c k r) (λ c′ k′ r′. run row words tail end c′ k′ r′ gs))
-      go (On c′ k′ r′) s ih = ih c′ k′ r′
-      go Halt s ih = finish-placed n (owed k (drop c (mustsOf row))) (g .start) r (v .0)
-      go (Stop f) s ih = fault f (g .start) s (v .0)
 
 -- ---- a report of parts
 

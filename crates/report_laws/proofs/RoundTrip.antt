@@ -47,7 +47,7 @@ use Rattle.report_record.specs.declared.kinds.Kind.{Kind}
 use Rattle.report_record.specs.declared.kinds.Kind.the-variants as kind
 use Rattle.report_record.specs.declared.kinds.Report.{Report}
 use Rattle.report_record.specs.Record.{surfaceReport, observedReport, forecastReport, accepted}
-use Rattle.record.specs.Arrays.{MetarArrays, TafArrays}
+use Rattle.record.specs.Arrays.{SynopArrays, MetarArrays, TafArrays}
 use Rattle.record.specs.Classes.{classDirection}
 use Rattle.record.specs.SilentSurface.{noSurface, isBlankSynop}
 use Rattle.record.specs.SilentAerodrome.{isBlankBody, noObservation, isBlankObservation, isBlankMetar, isSameEdition, isBlankTaf}
@@ -58,11 +58,11 @@ use Rattle.record.proofs.AerodromeBlanks.{edition-same, same-edition, metar-bla
 use Rattle.report.specs.Read.{readIn}
 use Rattle.report.specs.Write.{judgeBy, judgeIn, canonicalOf, classedOf}
 use Rattle.report_laws.proofs.ByName.{surfaceWord, observedWord, forecastWord, Named, SurfaceText, ObservedText, ForecastText, read-surface, read-observed, read-forecast}
-use Rattle.report_laws.proofs.Numbers.{Table, classOn, numbersOf, temperaturesOf, pressuresOf, observedBodies, forecastBodies, classUnitSpeed, speedsOf, extremeDirections, trendDirection, changeDirection, directionsOf, rainsOf, surface-numbers, observed-bodies, forecast-bodies, observed-numbers, forecast-numbers, bodies-speeds, trend-direction, change-direction, observed-directions, forecast-directions, amount-is}
+use Rattle.report_laws.proofs.Numbers.{Table, classOn, numbersOf, temperaturesOf, pressuresOf, observedBodies, forecastBodies, classUnitSpeed, speedsOf, extremeDirections, trendDirection, changeDirection, directionsOf, rainsOf, synop-numbers, observed-bodies, forecast-bodies, observed-numbers, forecast-numbers, bodies-speeds, trend-direction, change-direction, observed-directions, forecast-directions, amount-is}
 
 -- The record's arrays have the lengths of the code's arrays.
 pub record Arrays (r : Report) : Type 0 where
-  pub sign : length (r .surface .site .sign .letters) ≡ 9
+  pub surface : SynopArrays (r .surface)
   pub observed : MetarArrays (r .observed)
   pub forecast : TafArrays (r .forecast)
 
@@ -70,7 +70,7 @@ pub record Arrays (r : Report) : Type 0 where
 
 -- in the edition that is chosen, which a TAF's record then names
 pub data Fair (chosen : Edition) : Report → Type 0 where
-  surface : (s : Synop) → length (s .site .sign .letters) ≡ 9 → synop.judgeOf s ≡ judged.Fine → Fair chosen (surfaceReport s)
+  surface : (s : Synop) → SynopArrays s → synop.judgeOf s ≡ judged.Fine → Fair chosen (surfaceReport s)
   observed : (m : Metar) → MetarArrays m → metar.judgeOf m ≡ judged.Fine → Fair chosen (observedReport m)
   forecast : (t : Taf) → TafArrays t → chosen ≡ t .edition → taf.judgeOf t ≡ judged.Fine → Fair chosen (forecastReport t)
 
@@ -94,16 +94,16 @@ fair chosen r arrays e = go (r .kind) refl e
     go kind.Surface is e =
         let j = and-then (judge (isBlankMetar (r .observed) && isBlankTaf (r .forecast)) true) (synop.judgeOf (r .surface)) e in
         let b = both (isBlankMetar (r .observed)) (isBlankTaf (r .forecast)) (fine _ true (j .0) .0) in
-        same is refl (metar-blank (r .observed) (arrays .observed) (b .0)) (taf-blank (r .forecast) (arrays .forecast) (b .1)) (surface (r .surface) (arrays .sign) (j .1))
+        same is refl (metar-blank (r .observed) (arrays .observed) (b .0)) (taf-blank (r .forecast) (arrays .forecast) (b .1)) (surface (r .surface) (arrays .surface) (j .1))
     go kind.Observed is e =
         let j = and-then (judge (isBlankSynop (r .surface) && isBlankTaf (r .forecast)) true) (metar.judgeOf (r .observed)) e in
         let b = both (isBlankSynop (r .surface)) (isBlankTaf (r .forecast)) (fine _ true (j .0) .0) in
-        same is (synop-blank (r .surface) (arrays .sign) (b .0)) refl (taf-blank (r .forecast) (arrays .forecast) (b .1)) (observed (r .observed) (arrays .observed) (j .1))
+        same is (synop-blank (r .surface) (arrays .surface) (b .0)) refl (taf-blank (r .forecast) (arrays .forecast) (b .1)) (observed (r .observed) (arrays .observed) (j .1))
     go kind.Forecast is e =
         let j = and-then (judge (isBlankSynop (r .surface) && isBlankMetar (r .observed)) true) (taf.judgeIn chosen (r .forecast)) e in
         let own = of-edition chosen (r .forecast) (j .1) in
         let b = both (isBlankSynop (r .surface)) (isBlankMetar (r .observed)) (fine _ true (j .0) .0) in
-        same is (synop-blank (r .surface) (arrays .sign) (b .0)) (metar-blank (r .observed) (arrays .observed) (b .1)) refl (forecast (r .forecast) (arrays .forecast) (own .0) (own .1))
+        same is (synop-blank (r .surface) (arrays .surface) (b .0)) (metar-blank (r .observed) (arrays .observed) (b .1)) refl (forecast (r .forecast) (arrays .forecast) (own .0) (own .1))
 
 -- ---- it is read back
 
@@ -129,16 +129,16 @@ unfolding hasPattern fits low high
 observed-word true = refl
 observed-word false = refl
 
-module _ (s : Synop) (nine : length (s .site .sign .letters) ≡ 9) (e : synop.judgeOf s ≡ judged.Fine) where
+module _ (s : Synop) (arrays : SynopArrays s) (e : synop.judgeOf s ≡ judged.Fine) where
   surface-named : Named (synop.canonicalOf s) (surfaceWord (s .ship))
   unfolding synop.canonicalOf
   surface-named =
       let are = synop-text.groups-are (s .ship) s refl in
-      let short = synop-text.length-canonical s nine e in
-      rw are (joined _ _ _ (surface-word (s .ship)) (rw are at (synop-text.groups-sizes s nine e)) (omega (arith, rw are at short)))
+      let short = synop-text.length-canonical s arrays e in
+      rw are (joined _ _ _ (surface-word (s .ship)) (rw are at (synop-text.groups-sizes s arrays e)) (omega (arith, rw are at short)))
 
   surface-text : SurfaceText (synop.canonicalOf s) (Done (length (synop.canonicalOf s)) (synop.classedOf s))
-  surface-text = let n = surface-named in record { ship = s .ship; named = n; comes = rw (n .groups) at (synop-text.read-canonical s nine e) }
+  surface-text = let n = surface-named in record { ship = s .ship; named = n; comes = rw (n .groups) at (synop-text.read-canonical s arrays e) }
 
 module _ (m : Metar) (arrays : MetarArrays m) (e : metar.judgeOf m ≡ judged.Fine) where
   observed-named : Named (metar.canonicalOf m) (observedWord (m .observation .special))
@@ -158,7 +158,7 @@ module _ (t : Taf) (arrays : TafArrays t) (e : taf.judgeOf t ≡ judged.Fine) wh
 
 pub comes-back : {chosen : Edition} {r : Report} → Fair chosen r → readIn chosen (canonicalOf r) ≡ accepted (length (canonicalOf r)) (classedOf r)
 unfolding canonicalOf classedOf
-comes-back {chosen} (surface s nine e) = read-surface chosen (surface-text s nine e)
+comes-back {chosen} (surface s arrays e) = read-surface chosen (surface-text s arrays e)
 comes-back {chosen} (observed m arrays e) = read-observed chosen (observed-text m arrays e)
 comes-back (forecast t arrays own e) = rw own (read-forecast (t .edition) (forecast-text t arrays e))
 
@@ -186,19 +186,19 @@ same-named t = refl
 
 pub fair-fine : {chosen : Edition} {r : Report} → Fair chosen r → judgeIn chosen r ≡ judged.Fine
 unfolding judgeIn
-fair-fine (surface s nine e) = rw (blank-metar, blank-taf, e)
+fair-fine (surface s arrays e) = rw (blank-metar, blank-taf, e)
 fair-fine (observed m arrays e) = rw (blank-synop, blank-taf, e)
 fair-fine (forecast t arrays own e) = rw (blank-synop, blank-metar, edition-fine _ t own e)
 
 pub fine-again : {chosen : Edition} {r : Report} → Fair chosen r → judgeIn chosen (classedOf r) ≡ judged.Fine
 unfolding judgeIn classedOf
-fine-again (surface s nine e) = rw (blank-metar, blank-taf, synop-text.classed-fine s e)
+fine-again (surface s arrays e) = rw (blank-metar, blank-taf, synop-text.classed-fine s arrays e)
 fine-again (observed m arrays e) = rw (blank-synop, blank-taf, metar-text.classed-fine m arrays e)
 fine-again (forecast t arrays own e) = rw (blank-synop, blank-metar, edition-fine _ (taf.classedOf t) (own ∙ sym (same-named t)) (taf-text.classed-fine t arrays e))
 
 pub text-again : {chosen : Edition} {r : Report} → Fair chosen r → canonicalOf (classedOf r) ≡ canonicalOf r
 unfolding canonicalOf classedOf
-text-again (surface s nine e) = synop-text.written-again s e
+text-again (surface s arrays e) = synop-text.written-again s arrays e
 text-again (observed m arrays e) = metar-text.written-again m arrays e
 text-again (forecast t arrays own e) = taf-text.written-again t arrays e
 
@@ -211,7 +211,7 @@ pub data Kept : Report → Report → Type 0 where
 
 pub kept : {chosen : Edition} {r : Report} → Fair chosen r → Kept r (classedOf r)
 unfolding classedOf
-kept (surface s nine e) = surface-kept (synop-promise.promise s nine e .1)
+kept (surface s arrays e) = surface-kept (synop-promise.promise s arrays e .1)
 kept (observed m arrays e) = observed-kept (metar-promise.promise m arrays e .1)
 kept (forecast t arrays own e) = forecast-kept (taf-promise.promise t arrays e .1)
 
@@ -219,13 +219,13 @@ kept (forecast t arrays own e) = forecast-kept (taf-promise.promise t arrays e .
 
 pub numbers-back : (t : Table) {chosen : Edition} {r : Report} → Fair chosen r → numbersOf t (classedOf r) ≡ map (classOn t) (numbersOf t r)
 unfolding classedOf synop.classedOf metar.classedOf metar.classObservation taf.classedOf observed-row.row forecast-row.row
-numbers-back t (surface s nine e) = surface-numbers t (s .surface) (synop.classedOf s .surface) refl refl
+numbers-back t (surface s arrays e) = synop-numbers t s (synop.classedOf s) refl refl (synop-text.layers-back s arrays e)
 numbers-back t (observed m arrays e) = observed-numbers t m (metar.classedOf m) refl (metar-promise.states-items m arrays e) (observed-bodies m (metar.classedOf m) refl (metar-promise.items-classed m arrays e))
 numbers-back t (forecast f arrays own e) = forecast-numbers t f (taf.classedOf f) (forecast-bodies f (taf.classedOf f) refl (taf-promise.items-classed f arrays e))
 
 pub speeds-back : {chosen : Edition} {r : Report} → Fair chosen r → speedsOf (classedOf r) ≡ map classUnitSpeed (speedsOf r)
 unfolding classedOf metar.classedOf metar.classObservation taf.classedOf observed-row.row forecast-row.row
-speeds-back (surface s nine e) = refl
+speeds-back (surface s arrays e) = refl
 speeds-back (observed m arrays e) =
     bodies-speeds (observedBodies m) (observedBodies (metar.classedOf m)) (observed-bodies m (metar.classedOf m) refl (metar-promise.items-classed m arrays e))
 speeds-back (forecast f arrays own e) =
@@ -233,25 +233,25 @@ speeds-back (forecast f arrays own e) =
 
 pub directions-back : {chosen : Edition} {r : Report} → Fair chosen r → directionsOf (classedOf r) ≡ map classDirection (directionsOf r)
 unfolding classedOf synop.classedOf metar.classedOf metar.classObservation taf.classedOf observed-row.row forecast-row.row
-directions-back (surface s nine e) = refl
+directions-back (surface s arrays e) = refl
 directions-back (observed m arrays e) = observed-directions m (metar.classedOf m) refl refl (metar-promise.items-classed m arrays e)
 directions-back (forecast f arrays own e) = forecast-directions f (taf.classedOf f) refl (taf-promise.items-classed f arrays e)
 
 pub temperatures-back : {chosen : Edition} {r : Report} → Fair chosen r → temperaturesOf (classedOf r) ≡ map classTenths (temperaturesOf r)
 unfolding classedOf metar.classedOf metar.classObservation observed-row.row
-temperatures-back (surface s nine e) = refl
+temperatures-back (surface s arrays e) = refl
 temperatures-back (observed m arrays e) = refl
 temperatures-back (forecast f arrays own e) = refl
 
 pub pressures-back : {chosen : Edition} {r : Report} → Fair chosen r → pressuresOf (classedOf r) ≡ map classPressure (pressuresOf r)
 unfolding classedOf metar.classedOf metar.classObservation observed-row.row
-pressures-back (surface s nine e) = refl
+pressures-back (surface s arrays e) = refl
 pressures-back (observed m arrays e) = refl
 pressures-back (forecast f arrays own e) = refl
 
 pub rains-back : {chosen : Edition} {r : Report} → Fair chosen r → rainsOf (classedOf r) ≡ map roundedRain (rainsOf r)
 unfolding classedOf synop.classedOf
-rains-back (surface s nine e) = amount-is (s .surface .rainfall .is)
+rains-back (surface s arrays e) = amount-is (s .surface .rainfall .is)
 rains-back (observed m arrays e) = refl
 rains-back (forecast f arrays own e) = refl
 
@@ -295,7 +295,7 @@ append-near (more x a) b = more x (append-near a b)
 
 pub directions-near : {chosen : Edition} {r : Report} → Fair chosen r → EachRead DirectionNear (directionsOf r) (directionsOf (classedOf r))
 unfolding classedOf
-directions-near (surface s nine e) = more (synop-promise.promise s nine e .1 .surface .direction) none
+directions-near (surface s arrays e) = more (synop-promise.promise s arrays e .1 .surface .direction) none
 directions-near (observed m arrays e) =
     let p = metar-promise.promise m arrays e .1 in
     let changes = items-near trendDirection trend.classChange trend-direction (λ c d r. r .body .wind .direction) (m .trend .count) (m .trend .items) (metar.classedOf m .trend .items) (metar-promise.items-classed m arrays e) (p .changes) (p .past) in

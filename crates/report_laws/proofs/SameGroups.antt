@@ -29,17 +29,17 @@ use Rattle.text.proofs.Groups.{part-is, part-nothing, past-end, inner-not-parti
 use Rattle.text.proofs.Texts.{bytes-sound, junk-none, trimmed-start, trimmed-equals, trimmed-last}
 use Rattle.text.proofs.Joins.{round-trip-bytes, length-join, join-tail, join-sound}
 use Rattle.shapes.specs.Pattern.{Pattern}
-use Rattle.places.specs.Seek.{owed}
-use Rattle.places.specs.Engine.{Group, Read, Good, Bad, Place, mustsOf, Step, On, Halt, Stop, step, carry, Outcome, Done, Fault, finish, over, closed, run}
+use Rattle.places.specs.Engine.{Group, Read, Good, Bad, Place, Step, On, Halt, Stop, Outcome, Done, Fault, finish}
 use Rattle.places.specs.Parts.{Exits, stepBy, carryTo, runTo, Begun, Word, Ends, Opens, Bars, Part, Parts, Further, turned, ended, unless, owes, partExits, partFrom, afterFirst, begins, further, reportOf}
-use Rattle.record.specs.declared.surface.Surface.{Surface}
 use Rattle.record.specs.declared.surface.Synop.{Synop}
+use Rattle.record.specs.Set.{setSurface}
 use Rattle.record.specs.Observation.{blankObservation}
 use Rattle.record.specs.declared.aerodrome.Edition.{Edition}
 use Rattle.record.specs.declared.aerodrome.Edition.the-variants as edition
 use Rattle.record.specs.Taf.{blankLeg}
 use Rattle.synop_row.specs.Row as synop-row
-use Rattle.synop_section.specs.Answer.{begun, ontoReport, section}
+use Rattle.synop_section.specs.Answer as section
+use Rattle.synop_section.specs.Answer.{begun}
 use Rattle.synop.specs.Read as synop
 use Rattle.trend.specs.Read as trend
 use Rattle.metar.specs.Read as metar
@@ -127,25 +127,6 @@ module _ {R X : Type 0} (Q : X → X → Type 0) (row : List (Place R)) (halts :
       go (Stop f) ih = at-fault f p q
 
 module _ (J : Type 0) {u v : Tail} (tails : Tails J u v) (m n : ℕ) where
-  -- ---- a reading against one row
-  module _ {R : Type 0} (row : List (Place R)) (words : List Pattern) where
-    over-alike : {u v : Tail} → Tails J u v → (c k : ℕ) (r : R) → Alike J (over row u m c k r) (over row v n c k r)
-    over-alike clear c k r = finish-alike J (owed k (drop c (mustsOf row))) m n r
-    over-alike (junk a b) c k r = both-fault refusal.Shape a b
-    over-alike (freed j a) c k r = trailing j a (closed row n c k r)
-
-    run-alike : {gs hs : List Piece} → Same gs hs → (c k : ℕ) (r : R) → Alike J (run row words u m c k r gs) (run row words v n c k r hs)
-    unfolding run
-    run-alike none c k r = over-alike tails c k r
-    run-alike (more g p q gs hs s) c k r = go (step row words c k r g) (λ c′ k′ r′. run-alike s c′ k′ r′)
-      where
-        go : (e : Step R) → ((c k : ℕ) (r : R) → Alike J (run row words u m c k r gs) (run row words v n c k r hs))
-            → Alike J (carry e p (closed row p c k r) (λ c′ k′ r′. run row words u m c′ k′ r′ gs))
-            (carry e q (closed row q c k r) (λ c′ k′ r′. run row words v n c′ k′ r′ hs))
-        go (On c′ k′ r′) ih = ih c′ k′ r′
-        go Halt ih = finish-alike J (owed k (drop c (mustsOf row))) p q r
-        go (Stop f) ih = both-fault f p q
-
   -- ---- a report of parts
   module _ {T P W : Type 0} where
     abbrev AlikeFurther : Further T P W → Further T P W → Type 0
@@ -199,14 +180,9 @@ module _ (J : Type 0) {u v : Tail} (tails : Tails J u v) (m n : ℕ) where
   forecast-alike chosen s = report-alike (taf.changes chosen) 16 (taf.mainPart chosen) blankLeg s
 
   -- ---- SYNOP and SHIP
-  section-alike : (r : Synop) {gs hs : List Piece} → Same gs hs → Alike J (section r u m gs) (section r v n hs)
-  unfolding section
-  section-alike r s = go (run-alike (synop-row.row (synop-row.needsOf (r .surface))) synop-row.stopWords s 0 0 (r .surface))
-    where
-      go : {o o′ : Outcome Surface} → Alike J o o′ → Alike J (ontoReport r o) (ontoReport r o′)
-      go (both-done a b x) = both-done a b _
-      go (both-fault f a b) = both-fault f a b
-      go (trailing j a o) = trailing j a (ontoReport r o)
+  section-alike : (r : Synop) {gs hs : List Piece} → Same gs hs → Alike J (section.section r u m gs) (section.section r v n hs)
+  unfolding section.section
+  section-alike r s = report-alike section.parts 1 (section.firstPart (synop-row.needsOf (r .surface)) (λ u. setSurface u r)) (r .surface) s
 
   short-alike : {u v : Tail} → Tails J u v → Alike J (synop.cutShort u m) (synop.cutShort v n)
   short-alike clear = both-fault refusal.Absence m n

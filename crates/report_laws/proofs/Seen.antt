@@ -46,7 +46,7 @@ use Rattle.report_laws.proofs.Numbers.{Table, visibility, Figures, scal
 use Rattle.report_laws.proofs.RoundTrip.{Arrays, Fair, surface, observed, forecast, fair}
 use Rattle.report_laws.proofs.Demands.{Exactly, back, classes-read, temperatures-read, pressures-read}
 
--- the figure that a value is written as, and what a figure is read as, on each of the six scales in metres
+-- the figure that a value is written as, and what a figure is read as, on each scale that rounds down
 abbrev pub figureOn : (t : Table) → ℕ → Figures t
 figureOn t v = figureOf (scaleOf t) v
 
@@ -77,14 +77,14 @@ module _ (m : Metar) (arrays : MetarArrays m) (e : metar.judgeOf m ≡ judged.Fi
       go false n = judging.fine (optional isPressure (m .observation .qnh .is)) true (fair-observation m e n .qnh) .0
 
 all-temperatures : {chosen : Edition} {r : Report} → Fair chosen r → every tenthsFit (temperaturesOf r) ≡ true
-all-temperatures (surface s nine e) = refl
+all-temperatures (surface s arrays e) = refl
 all-temperatures (observed m arrays e) =
     let b = and-eq-true-iff (tenthsFit (m .observation .temperatures .air)) (tenthsFit (m .observation .temperatures .dew)) .0 (temperatures-fit m arrays e) in
     rw (b .0, b .1)
 all-temperatures (forecast t arrays own e) = refl
 
 all-pressures : {chosen : Edition} {r : Report} → Fair chosen r → every (optional isPressure) (pressuresOf r) ≡ true
-all-pressures (surface s nine e) = refl
+all-pressures (surface s arrays e) = refl
 all-pressures (observed m arrays e) = rw (pressure-fits m arrays e)
 all-pressures (forecast t arrays own e) = refl
 

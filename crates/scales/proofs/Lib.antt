@@ -6,6 +6,7 @@ pub mod DepthLaws
 pub mod DirectionLaws
 pub mod Down
 pub mod Laws
+pub mod LayersLaws
 pub mod Listed
 pub mod MetresLaws
 pub mod MetresRounds

@@ -9,6 +9,7 @@ use lib.Dec.{eqb}
 use Rattle.scales.specs.Scale.{Scale, Foot, figureOf, footOf, readOf}
 use Rattle.scales.specs.Metres.{land, sea, base, visibility, runway, cloud, sameRange, metresFigure, metresReading, rangeFigure, rangeReading}
 use Rattle.scales.specs.Depth.{depth}
+use Rattle.scales.specs.Layers.{layerSteps, layerBands}
 use Rattle.scales.specs.Rounded.{pressureFigure, pressureReading}
 use Rattle.scales.specs.declared.kinds.Figure.the-variants as figure
 use Rattle.scales.specs.declared.kinds.Reading.the-variants as reading
@@ -18,6 +19,7 @@ use Rattle.scales.proofs.Answers.{figure-told, range-told}
 use Rattle.scales.proofs.MetresLaws.{land-laws, sea-laws, base-laws, visibility-laws, runway-laws, cloud-laws}
 use Rattle.scales.proofs.MetresRounds.{MetresRounds, foot-of, land-rounds, sea-rounds, base-rounds, visibility-rounds, runway-rounds, cloud-rounds}
 use Rattle.scales.proofs.DepthLaws.{depth-laws, depth-rounds}
+use Rattle.scales.proofs.LayersLaws.{steps-laws, steps-rounds, bands-laws, bands-rounds}
 use Rattle.scales.proofs.PressureScale.{pressures, pressures-laws, pressures-rounds}
 use Rattle.scales.proofs.PressureLaws.{figure-is, reading-is}
 
@@ -58,7 +60,7 @@ unfolding metresReading
 by-scale s laws rounds =
     likewise (λ v f w. sym (figure-told s v w)) (λ f m r. foot-of (readOf eqb s f) m r) (rounds .own) (nearest-feet laws)
 
--- ---- each scale that rounds down: 4377 land and sea, 1600, VVVV, RVR, 1690, the depth of deposits and Q
+-- ---- each scale that rounds down: 4377 land and sea, 1600, VVVV, RVR, 1690, the depth of deposits, 1677 by steps and by bands, and Q
 pub land-nearest : MetresNearest land
 land-nearest = by-scale land land-laws land-rounds
 
@@ -81,6 +83,12 @@ cloud-nearest = by-scale cloud cloud-laws cloud-rounds
 
 pub depth-nearest : MetresNearest depth
 depth-nearest = by-scale depth depth-laws depth-rounds
+
+pub steps-nearest : MetresNearest layerSteps
+steps-nearest = by-scale layerSteps steps-laws steps-rounds
+
+pub bands-nearest : MetresNearest layerBands
+bands-nearest = by-scale layerBands bands-laws bands-rounds
 
 pub pressure-nearest : NothingNearer (λ v f. pressureFigure v ≡ figure.Is f) (λ f m. pressureReading f ≡ reading.Is m)
 pressure-nearest =

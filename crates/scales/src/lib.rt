@@ -3,6 +3,7 @@ pub mod degrees;
 pub mod depth;
 pub mod direction;
 pub mod kinds;
+pub mod layers;
 pub mod metres;
 pub mod pressure;
 pub mod rain;

@@ -1,5 +1,6 @@
--- What may have been seen on the six scales in metres and of the depth of deposits. The laws of the loop that finds a class by its limits; that it finds the classes of each scale, by a
--- test that is computed over the whole scale; and that the values of the class are exactly those that come back as its reading.
+-- What may have been seen on the six scales in metres, of the heights of layers and of the depth of deposits. The laws of the loop that finds a class by its
+-- limits; that it finds the classes of each scale, by a test that is computed over the whole scale; and that the values of the class are exactly those that
+-- come back as its reading.
 -- Assumes nothing.
 use mathlib.Core.Path.{_≡_, refl, sym, ap, _∙_}
 use mathlib.Core.Bool.{Bool, true, false, cond, _&&_, and-eq-true-iff, false≢true}
@@ -14,9 +15,10 @@ use lib.Seq.{drop-cons}
 use borrow.Author.Tests.{lt-ltb, le-leb, lt-leb, leb-true, eqb-true, ne-eqb}
 use Rattle.figures.proofs.Impossible.{impossible}
 use Rattle.figures.specs.Figures.{every}
-use Rattle.scales.specs.Scale.{Class, Scale, classIn, lengthIn, lengthOf, figureOf, footOf, rising, run}
+use Rattle.scales.specs.Scale.{Class, Scale, Length, classIn, lengthIn, lengthOf, figureOf, footOf, rising, run}
 use Rattle.scales.specs.Metres.{metresFigure, metresReading, rangeFigure, rangeReading, land, sea, base, visibility, runway, cloud}
 use Rattle.scales.specs.Depth.{depth}
+use Rattle.scales.specs.Layers.{raised, layerSteps, layerBands}
 use Rattle.scales.specs.declared.kinds.Figure.{Figure}
 use Rattle.scales.specs.declared.kinds.Figure.the-variants as figure
 use Rattle.scales.specs.declared.kinds.Reading.{Reading}
@@ -26,6 +28,7 @@ use Rattle.scales.specs.declared.kinds.RangeFigure.{RangeFigure}
 use Rattle.scales.specs.declared.kinds.RangeFigure.the-variants as written
 use Rattle.scales.proofs.Laws.{Lawful, reached}
 use Rattle.scales.proofs.Runs.{under, onto, rises}
+use Rattle.scales.proofs.LayersLaws.{class-raised, length-raised}
 use Rattle.scales.proofs.Answers.{figure-told, range-told, metres-read}
 use Rattle.scales.proofs.MetresLaws.{runway-laws}
 use Rattle.scales.proofs.MetresRounds.{MetresRounds, runway-rounds}
@@ -178,3 +181,19 @@ cloud-follows = refl
 pub depth-follows : follows (classBy (90 ∷ 100 ∷ 400 ∷ []) (0 ∷ 9 ∷ 49 ∷ [])) (depth .lowest) (depth .above) ≡ true
 unfolding depth run follows classBy
 depth-follows = refl
+
+pub steps-follows : follows (classBy (1500 ∷ 1800 ∷ 9000 ∷ 21000 ∷ 21001 ∷ []) (29 ∷ 299 ∷ 299 ∷ 1499 ∷ 0 ∷ [])) (layerSteps .lowest) (layerSteps .above) ≡ true
+unfolding layerSteps run follows classBy
+steps-follows = refl
+
+-- what may have been seen by bands is what may have been seen on 1600 h: the figures alone are others
+raised-seen : (n : ℕ) (s : Scale ℕ) (m : ℕ) → seenOn s m ≡ seenOn (raised n s) m
+unfolding seenOn
+raised-seen n s m =
+    let foot : footOf s m ≡ footOf (raised n s) m = ap (λ (c : Class ℕ). c .foot) (sym (class-raised n s m)) in
+    ap (λ (f : ℕ). cond (eqb f m) (fromFoot m (lengthOf s m)) seen.Nothing) foot
+    ∙ ap (λ (l : Length). cond (eqb (footOf (raised n s) m) m) (fromFoot m l) seen.Nothing) (sym (length-raised n s m))
+
+pub bands-seen : (m : ℕ) → seenOn base m ≡ seenOn layerBands m
+unfolding layerBands
+bands-seen m = raised-seen 90 base m

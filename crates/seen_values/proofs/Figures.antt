@@ -10,6 +10,7 @@ use borrow.Author.Tests.{le-leb}
 use Rattle.scales.specs.Scale.{Scale, figureOf}
 use Rattle.scales.specs.Metres.{metresFigure, metresReading, rangeFigure, rangeReading, land, sea, base, visibility, runway, cloud}
 use Rattle.scales.specs.Depth.{depth}
+use Rattle.scales.specs.Layers.{layerSteps, layerBands}
 use Rattle.scales.specs.Rounded.{pressureFigure, pressureReading, rainFits, rainFigure, rainReading, directionFigure, directionReading}
 use Rattle.scales.specs.Degrees.{degreesFit, degreesOf, degreesReading}
 use Rattle.scales.specs.declared.kinds.Figure.the-variants as figure
@@ -26,6 +27,7 @@ use Rattle.scales.proofs.Answers.{metres-written}
 use Rattle.scales.proofs.MetresLaws.{land-laws, sea-laws, base-laws, visibility-laws, runway-laws, cloud-laws}
 use Rattle.scales.proofs.MetresRounds.{MetresRounds, land-rounds, sea-rounds, base-rounds, visibility-rounds, runway-rounds, cloud-rounds}
 use Rattle.scales.proofs.DepthLaws.{depth-laws, depth-rounds}
+use Rattle.scales.proofs.LayersLaws.{steps-laws, steps-rounds, bands-laws, bands-rounds}
 use Rattle.scales.proofs.PressureLaws.{pressure-rounds, pressure-written}
 use Rattle.scales.proofs.RainLaws.{rain-rounds, rain-written}
 use Rattle.scales.proofs.DirectionLaws.{direction-rounds, direction-written}
@@ -47,7 +49,7 @@ module _ {A F : Type 0} {Writes : A → F → Type 0} {Reads : F → A → Type 
         rw same at w,
   )
 
--- ---- the six scales in metres, and the depth of deposits
+-- ---- the six scales in metres, the depth of deposits and the heights of layers
 abbrev pub MetresFigures : Scale ℕ → Type 0
 MetresFigures s = (f m v : ℕ) → metresReading s f ≡ reading.Is m → v ≤ 99999 → (metresFigure s v ≡ figure.Is f) ↔ Within (seenOn s m) v
 
@@ -84,6 +86,12 @@ cloud-figures = by-scale cloud cloud-laws cloud-rounds
 
 pub depth-figures : MetresFigures depth
 depth-figures = by-scale depth depth-laws depth-rounds
+
+pub steps-figures : MetresFigures layerSteps
+steps-figures = by-scale layerSteps steps-laws steps-rounds
+
+pub bands-figures : MetresFigures layerBands
+bands-figures = by-scale layerBands bands-laws bands-rounds
 
 -- ---- Q, rain, direction, aerodrome temperature
 pub pressure-figures : (f m v : ℕ) → pressureReading f ≡ reading.Is m → v ≤ 99999 → (pressureFigure v ≡ figure.Is f) ↔ Within (seenPressure m) v

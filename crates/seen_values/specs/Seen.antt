@@ -13,7 +13,7 @@ Within (seen.Between least greatest) v = (least ≤ v) × (v ≤ greatest)
 Within (seen.From least) v = least ≤ v
 Within seen.Nothing v = ⊥
 
--- ---- the six scales in metres, and the depth of deposits in millimetres: "its length runs to the next foot, the last class is open above"
+-- ---- the six scales in metres, the heights of layers, and the depth of deposits in millimetres: "its length runs to the next foot, the last class is open above"
 abbrev pub fromFoot : ℕ → Length → Seen
 fromFoot m (Of l) = seen.Between m (m + l - 1)
 fromFoot m Open = seen.From m

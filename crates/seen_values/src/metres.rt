@@ -1,15 +1,17 @@
-// The six scales in metres, and the depth of deposits in millimetres: a value may be any from the reading, which is its class's foot, up to the next foot.
+// The six scales in metres, the heights of layers by table 1677, and the depth of deposits in millimetres: a value may be any from the reading, which is its class's foot, up to the next foot.
 use crate::kinds::Seen;
 use scales::depth;
 use scales::kinds::Figure;
 use scales::kinds::RangeFigure;
 use scales::kinds::Reading;
+use scales::layers;
 use scales::metres;
 ghost use mathlib.Core.Path.{_≡_};
 ghost use mathlib.Core.Bool.{true};
 ghost use Rattle.figures.specs.Figures.{every};
 ghost use Rattle.scales.specs.Metres.{land, sea, base, visibility, runway, cloud};
 ghost use Rattle.scales.specs.Depth.{depth};
+ghost use Rattle.scales.specs.Layers.{layerSteps, layerBands};
 ghost use Rattle.seen_values.specs.Seen.{seenOn};
 ghost use Rattle.seen_values.specs.Steps.{ifFoot, classBy, isUpTo99999};
 
@@ -133,4 +135,27 @@ pub fn depth_seen(millimetres: u32) -> Seen
         Figure::Is(figure) => if_foot(millimetres, depth::depth_reading(figure), class),
         Figure::OutOfRange => Seen::Nothing,
     }
+}
+
+// ---- 1677, by steps and by bands
+
+pub fn steps_seen(metres: u32) -> Seen
+    ensures { λ r. ⌜ r ≡ seenOn layerSteps metres ⌝ }
+{
+    let class = class_by(
+        metres,
+        &[1500, 1800, 9000, 21000, 21001],
+        &[29, 299, 299, 1499, 0],
+    );
+    match layers::steps_figure(metres) {
+        Figure::Is(figure) => if_foot(metres, layers::steps_reading(figure), class),
+        Figure::OutOfRange => Seen::Nothing,
+    }
+}
+
+// The feet are those of 1600 h.
+pub fn bands_seen(metres: u32) -> Seen
+    ensures { λ r. ⌜ r ≡ seenOn layerBands metres ⌝ }
+{
+    base_seen(metres)
 }

@@ -67,7 +67,7 @@ module _ (p : Name) (g : Group) (r : Synop) (x : Said) (is : x ≡ saidBy p (r .
   post-bad e = says ∙ rw e
 
   post-good : {s : Site} {u : Surface} → OneOf right (tagOf saids.the-type x) → s ≡ siteOnto x (r .site) → u ≡ saidOnto x (r .surface)
-      → postOf p .read g r ≡ Good (synopOf (r .ship) s u)
+      → postOf p .read g r ≡ Good (synopOf (r .ship) s u (r .section3))
   unfolding withHead
   post-good told a b = says ∙ rw (added x told (r .surface), a, b)
 
@@ -127,6 +127,6 @@ module _ (ship : Bool) (n : ℕ) (r : Synop) (t : List ℕ) (at : ℕ) where
           walks-bad e = goes ∙ rw (a, b, post-bad p g r x told e)
 
           pub walks-on : {s : Site} {u : Surface} → OneOf right (tagOf saids.the-type x) → s ≡ siteOnto x (r .site) → u ≡ saidOnto x (r .surface)
-              → walks ship n r t at ≡ walks ship (n + 1) (synopOf (r .ship) s u) t to
+              → walks ship n r t at ≡ walks ship (n + 1) (synopOf (r .ship) s u (r .section3)) t to
           unfolding walks
           walks-on one d e = goes ∙ rw (a, b, post-good p g r x told one d e)

@@ -5,6 +5,7 @@ use mathlib.Core.List.{List, [], _∷_}
 use Rattle.places.specs.Engine.{Group}
 use Rattle.record.specs.declared.surface.Position.{Position}
 use Rattle.record.specs.declared.surface.Site.{Site}
+use Rattle.record.specs.declared.surface.Section3.{Section3}
 use Rattle.record.specs.declared.surface.Surface.{Surface}
 use Rattle.record.specs.declared.surface.Synop.{Synop}
 use Rattle.synop_groups.specs.declared.kinds.Said.{Said}
@@ -36,5 +37,5 @@ saidBy (name.Indicators land) p g = saidIndicators g
 saidBy name.Wind p g = saidWind g
 
 -- a report of its parts
-abbrev pub synopOf : Bool → Site → Surface → Synop
-synopOf ship site surface = record { ship = ship; site = site; surface = surface }
+abbrev pub synopOf : Bool → Site → Surface → Section3 → Synop
+synopOf ship site surface section3 = record { ship = ship; site = site; surface = surface; section3 = section3 }

@@ -60,6 +60,7 @@ siteOnto (said.Rainfall x) s = s
 siteOnto (said.Weather w) s = s
 siteOnto (said.Clouds c) s = s
 siteOnto (said.Clock c) s = s
+siteOnto (said.Layer l) s = s
 
 -- the report with what a group says, or the group's refusal; what it says of the surface is added as in section 1
 unfoldable pub withHead : Said → Synop → Read Synop

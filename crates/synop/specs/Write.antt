@@ -17,19 +17,20 @@ use Rattle.record.specs.declared.surface.Surface.{Surface}
 use Rattle.record.specs.declared.surface.Synop.{Synop}
 use Rattle.synop_groups.specs.Shows.{showTime, showStation, showSign, showLatitude, showLongitude, showIndicators, showWind}
 use Rattle.record.specs.Missing.{isMissing}
-use Rattle.record.specs.SilentSurface.{noSign, noPosition, noSurface}
+use Rattle.record.specs.SilentSurface.{noSign, noPosition, noSurface, noSection3}
 use Rattle.synop_groups.specs.Judge.{judgeTime, judgeStation, judgeSign, judgePosition, judgeIndicators, judgeWind, judgeAir, judgeMoisture, judgePressure, judgeLevel, judgeTendency, judgeRainfall, judgeWeather, judgeClouds, judgeClock}
 use Rattle.synop_groups.specs.Classes.{classIndicators, classWind, classRainfall}
+use Rattle.section3.specs.Write.{judgeSection3, showSection3, classSection3}
 use Rattle.synop_row.specs.declared.kinds.Needs.{Needs}
 use Rattle.synop_row.specs.Row.{needsOf, row}
 
 -- ---- foreign fields: "a field foreign to the kind (or to NIL, CNL) that is not blank"
 
--- a land report has no call sign and no position, a ship no station number and no NIL; a NIL report has nothing after its station
+-- a land report has no call sign and no position, a ship no station number and no NIL; a NIL report has nothing after its station, so no section 3 either
 unfoldable pub foreignBlank : Synop → Bool
 foreignBlank r =
     cond (r .ship) (isMissing (r .site .station) && not (r .site .nil)) (noSign (r .site .sign) && noPosition (r .site .position))
-    && (not (r .site .nil) || noSurface (r .surface))
+    && (not (r .site .nil) || (noSurface (r .surface) && noSection3 (r .section3)))
 
 -- ---- "The writer judges foreign fields first, then the others in written order, 11 before 7 at each"
 
@@ -55,7 +56,9 @@ unfoldable pub judgeSurface : Surface → Judged
 judgeSurface s = andThen (judgeIndicators (s .indicators)) (andThen (judgeWind (s .wind)) (judgeSection (needsOf s) s))
 
 unfoldable pub judgeOf : Synop → Judged
-judgeOf r = andThen (foreign r) (andThen (judgeSite r) (cond (r .site .nil) judged.Fine (judgeSurface (r .surface))))
+judgeOf r =
+    andThen (foreign r)
+    (andThen (judgeSite r) (cond (r .site .nil) judged.Fine (andThen (judgeSurface (r .surface)) (judgeSection3 (r .section3)))))
 
 -- ---- THE CANONICAL TEXT OF A RECORD
 
@@ -69,7 +72,7 @@ unfoldable pub surfaceGroups : Surface → List Group
 surfaceGroups s = showIndicators (s .indicators) ∷ showWind (s .wind) ∷ written (row (needsOf s)) s
 
 unfoldable pub groupsOf : Synop → List Group
-groupsOf r = siteGroups r ++ cond (r .site .nil) (bytes "NIL" ∷ []) (surfaceGroups (r .surface))
+groupsOf r = siteGroups r ++ cond (r .site .nil) (bytes "NIL" ∷ []) (surfaceGroups (r .surface) ++ showSection3 (r .section3))
 
 unfoldable pub canonicalOf : Synop → List ℕ
 canonicalOf r = join (groupsOf r)
@@ -95,6 +98,7 @@ classedOf r =
             clouds = r .surface .clouds;
             clock = r .surface .clock;
           };
+      section3 = classSection3 (r .section3);
     }
 
 -- ---- the writer's answer, and the lent buffer afterwards

@@ -1,5 +1,6 @@
 // Reading a SYNOP or SHIP, from behind AAXX or BBXX on: the groups known by position, then section 1 or what follows NIL.
 use crate::head;
+use record::surface::Section3;
 use record::surface::Site;
 use record::surface::Surface;
 use record::surface::Synop;
@@ -53,13 +54,14 @@ fn end_short(text: &[u8]) -> Reading
     }
 }
 
-fn synop_of(ship: bool, site: Site, surface: Surface) -> Synop
-    ensures { λ r. ⌜ r ≡ synopOf ship site surface ⌝ }
+fn synop_of(ship: bool, site: Site, surface: Surface, section3: Section3) -> Synop
+    ensures { λ r. ⌜ r ≡ synopOf ship site surface section3 ⌝ }
 {
     Synop {
         ship,
         site,
         surface,
+        section3,
     }
 }
 
@@ -70,6 +72,7 @@ fn read_posts(text: &[u8], at: usize, report: Synop) -> Reading
     let ship = report.ship;
     let mut site = report.site;
     let mut surface = report.surface;
+    let section3 = report.section3;
     let count = head::count_of(ship);
     let mut number = 0;
     let mut from = at;
@@ -80,7 +83,7 @@ fn read_posts(text: &[u8], at: usize, report: Synop) -> Reading
         let g = text::part(text, start, end);
         let post = head::post_at(ship, number);
         if head::is_nil(post, g) {
-            return read_nil(text, end, synop_of(ship, site, surface));
+            return read_nil(text, end, synop_of(ship, site, surface, section3));
         }
         if head::has_shape(post, g) {
             let position = site.position;
@@ -96,7 +99,7 @@ fn read_posts(text: &[u8], at: usize, report: Synop) -> Reading
             return answer::refuse(Refusal::Shape, start);
         }
     }
-    section::read_section(text, from, synop_of(ship, site, surface))
+    section::read_section(text, from, synop_of(ship, site, surface, section3))
 }
 
 // What the groups come to, from a position behind AAXX or, of a ship, BBXX on. A ship's call sign comes before the groups known by position, which are

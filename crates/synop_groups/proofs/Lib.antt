@@ -4,5 +4,6 @@ pub mod RoundTripParts
 pub mod RoundTripFields
 pub mod RoundTripScales
 pub mod RoundTripHead
+pub mod RoundTripLayer
 pub mod RoundTrip
 pub mod MarkedRows

@@ -29,17 +29,22 @@ use Rattle.figures.proofs.Signs.{signed-in, magnitude-fits}
 use Rattle.scales.specs.declared.kinds.Reading.{Reading}
 use Rattle.scales.specs.declared.kinds.Reading.the-variants as reading
 use Rattle.scales.specs.Metres.{land, sea, base, metresReading}
+use Rattle.scales.specs.Layers.{layerSteps, layerBands}
 use Rattle.record.specs.declared.values.Number.{Number}
 use Rattle.record.specs.declared.values.Number.the-variants as number
 use Rattle.record.specs.declared.surface.Sight.{Sight}
 use Rattle.record.specs.declared.surface.Sight.the-variants as sight
+use Rattle.record.specs.declared.surface.BaseHeight.{BaseHeight}
+use Rattle.record.specs.declared.surface.BaseHeight.the-variants as height
 use Rattle.synop_groups.specs.declared.kinds.Said.{Said}
 use Rattle.synop_groups.specs.declared.read.Part.{Part}
 use Rattle.synop_groups.specs.declared.read.Part.the-variants as parts
 use Rattle.synop_groups.specs.declared.read.Seen.{Seen}
 use Rattle.synop_groups.specs.declared.read.Seen.the-variants as sights
-use Rattle.synop_groups.specs.Reads.{Group, wrong, figured, mayMiss, missing, part, used, baseOf, sightOf, agree}
-use Rattle.synop_groups.specs.Parts.{partOf, heightPart, basePart, seenBy, sightFor, sightPart}
+use Rattle.synop_groups.specs.declared.read.Based.{Based}
+use Rattle.synop_groups.specs.declared.read.Based.the-variants as bases
+use Rattle.synop_groups.specs.Reads.{Group, wrong, figured, mayMiss, missing, part, used, baseOf, sightOf, heightOf, agree}
+use Rattle.synop_groups.specs.Parts.{partOf, heightPart, basePart, seenBy, sightFor, sightPart, basedBy, heightFor, layerPart}
 
 -- ---- a number field e, found to be f
 
@@ -154,6 +159,35 @@ module _ {r : Said} {v : Seen} (e : Field) (k : Sight → Said) (asked : v ≡ s
   pub sight-unknown : v ≡ sights.Wrong → r ≡ wrong → r ≡ sightOf e k
   sight-unknown is h = rw (sight-is e k, ← asked, is) h
 
+-- ---- the height of a layer's base e, found to be v
+
+abbrev basedAs : Based → (BaseHeight → Said) → Said
+basedAs (bases.Known x) k = k x
+basedAs bases.Wrong k = wrong
+
+layer-metres : (scale : ℕ → BaseHeight) (x : Reading) (k : BaseHeight → Said) → used x (λ m. k (scale m)) ≡ basedAs (basedBy scale x) k
+layer-metres scale (reading.Is m) k = refl
+layer-metres scale reading.Unused k = refl
+
+layer-either : (b : Bool) (x y : Reading) (k : BaseHeight → Said)
+    → cond b (used x (λ m. k (height.Bands m))) (used y (λ m. k (height.Steps m))) ≡ basedAs (cond b (basedBy height.Bands x) (basedBy height.Steps y)) k
+layer-either true x y k = layer-metres height.Bands x k
+layer-either false x y k = layer-metres height.Steps y k
+
+layer-is : (f : Field) (k : BaseHeight → Said) → heightOf f k ≡ basedAs (layerPart f) k
+unfolding layerPart heightFor
+layer-is (field.Number n) k = layer-either (leb 90 n) (metresReading layerBands n) (metresReading layerSteps n) k
+layer-is field.Missing k = refl
+layer-is field.Mixed k = refl
+layer-is field.Other k = refl
+
+module _ {r : Said} {v : Based} (e : Field) (k : BaseHeight → Said) (asked : v ≡ layerPart e) where
+  pub height-known : {x : BaseHeight} → v ≡ bases.Known x → r ≡ k x → r ≡ heightOf e k
+  height-known is h = rw (layer-is e k, ← asked, is) h
+
+  pub height-unknown : v ≡ bases.Wrong → r ≡ wrong → r ≡ heightOf e k
+  height-unknown is h = rw (layer-is e k, ← asked, is) h
+
 -- ---- a test
 
 module _ {A : Type 0} {r : A} (b : Bool) (x y : A) where
@@ -163,7 +197,7 @@ module _ {A : Type 0} {r : A} (b : Bool) (x y : A) where
   pub failed : b ≡ false → r ≡ y → r ≡ cond b x y
   failed t h = rw t h
 
-pub ruleset readings = (needs, figure, no-figure, there, absent, neither, is-missing, not-missing, known, unknown, base-known, base-unknown, sight-known, sight-unknown, held, failed, le-leb, lt-leb, eq-eqb, ne-eqb)
+pub ruleset readings = (needs, figure, no-figure, there, absent, neither, is-missing, not-missing, known, unknown, base-known, base-unknown, sight-known, sight-unknown, height-known, height-unknown, held, failed, le-leb, lt-leb, eq-eqb, ne-eqb)
 
 -- the code's test of a wind
 pub agree-is : (calm still : Bool) → agree calm still ≡ ((calm && still) || (not calm && not still))

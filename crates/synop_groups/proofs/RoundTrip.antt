@@ -59,7 +59,7 @@ use Rattle.text.specs.declared.kinds.Judged.the-variants as judged
 use Rattle.text.specs.Judge.{judge}
 use Rattle.text.proofs.Judging.{fine}
 use Rattle.synop_groups.specs.Reads.{Group, wrong, mayMiss, usedRain, speedIs, saidSpeed, pressureOf, isLevel, airIs, saidAir, moistureIs, saidMoisture, saidPressure, levelIs, saidLevel, tendencyIs, saidTendency, saidRainfall, saidWeather, saidClouds, clockIs, saidClock}
-use Rattle.synop_groups.specs.Shows.{moistureSpoken, fieldOf, isInThree, speedGroup, showSpeed, signText, airGroup, showAir, moistGroup, showMoisture, pressureGroup, showPressure, levelGroup, showLevel, tendencyGroup, showTendency, rainfallGroup, showRainfall, weatherText, showWeather, cloudsText, showClouds, clockGroup, showClock}
+use Rattle.synop_groups.specs.Shows.{moistureSpoken, fieldOf, isInThree, speedGroup, showSpeed, signText, signedGroup, showAir, showMinimum, minimumSpoken, moistGroup, showMoisture, pressureGroup, showPressure, levelGroup, showLevel, tendencyGroup, showTendency, rainfallGroup, showRainfall, weatherText, showWeather, cloudsText, showClouds, clockGroup, showClock}
 use Rattle.record.specs.Missing.{between, optional}
 use Rattle.record.specs.SilentSurface.{noWeather, noClouds, noFall}
 use Rattle.record.proofs.SurfaceBlanks.{weather-blank, clouds-blank}
@@ -150,16 +150,27 @@ signed-field : (t : ℤ) → natAbs t ≤ 999
     → signedReading ((signFigure t * 1000 + natAbs t) / 1000) ((signFigure t * 1000 + natAbs t) % 1000) ≡ tenths.Is t
 signed-field t h = let d = split (signFigure t) (natAbs t) h in rw (d .0, d .1) (signed-exact t h)
 
-pub air-back : (a : Air) → judgeAir a ≡ judged.Fine → Back (bytes "1####") false saidAir said.Air (blankSurface .air) a (showAir a)
-unfolding judgeAir showAir saidAir airIs
-air-back a e = go (a .temperature) e
+-- a temperature after any first figure x
+signed-back : (x : ℕ) → isFigure x ≡ true → (a : Air) → judgeAir a ≡ judged.Fine
+    → Back (x ∷ bytes "####") false saidAir said.Air (blankSurface .air) a (signedGroup x (a .temperature))
+unfolding judgeAir saidAir airIs
+signed-back x f a e = go (a .temperature) e
   where
-    go : (t : Signed) → judge (tenthsFit t) true ≡ judged.Fine → Back (bytes "1####") false saidAir said.Air (blankSurface .air) (record { temperature = t }) (airGroup t)
+    go : (t : Signed) → judge (tenthsFit t) true ≡ judged.Fine → Back (x ∷ bytes "####") false saidAir said.Air (blankSurface .air) (record { temperature = t }) (signedGroup x t)
     go signed.Missing e = none refl refl
     go (signed.Is t) e =
         let h = leb-true (natAbs t) 999 (fine _ true e .0) in
-        four-back said.Air (blankSurface .air) (record { temperature = signed.Is t }) (said.Air (blankSurface .air)) airIs 49
-        (signFigure t * 1000 + natAbs t) (signText t) refl (sign-small t h) (sign-text t h) (rw (signed-field t h))
+        four-back said.Air (blankSurface .air) (record { temperature = signed.Is t }) (said.Air (blankSurface .air)) airIs x
+        (signFigure t * 1000 + natAbs t) (signText t) f (sign-small t h) (sign-text t h) (rw (signed-field t h))
+
+pub air-back : (a : Air) → judgeAir a ≡ judged.Fine → Back (bytes "1####") false saidAir said.Air (blankSurface .air) a (showAir a)
+unfolding showAir
+air-back = signed-back 49 refl
+
+-- in section 3 the minimum too
+pub minimum-back : (a : Air) → judgeAir a ≡ judged.Fine → Back (bytes "2####") false saidAir said.Air (blankSurface .air) a (showMinimum a)
+unfolding showMinimum
+minimum-back = signed-back 50 refl
 
 -- ---- 2sTTT, 29UUU
 
@@ -201,13 +212,24 @@ unfolding hasAny
 any p g [] qs h = rw h
 any p g (q ∷ ps) qs h = or-right (hasPattern g q) (hasAny (ps ++ (p ∷ qs)) g) (any p g ps qs h)
 
+-- the bytes x and three figures
+after : (x : List ℕ) (n : ℕ) → every isFigure x ≡ true → n ≤ 999 → hasPattern (x ++ figures 3 n) (x ++ bytes "###") ≡ true
+unfolding fieldText numberText
+after x n f h = parts x (at 3 (field.Number n) ∷ []) f refl (omega arith, tt) .shaped
+
+pub minimum-covered : (a : Air) → judgeAir a ≡ judged.Fine → Each (λ g. hasAny minimumSpoken g ≡ true) (showMinimum a)
+unfolding judgeAir showMinimum
+minimum-covered a e = go (a .temperature) (fine (tenthsFit (a .temperature)) true e .0)
+  where
+    go : (t : Signed) → tenthsFit t ≡ true → Each (λ g. hasAny minimumSpoken g ≡ true) (signedGroup 50 t)
+    go signed.Missing e = tt
+    go (signed.Is (pos n)) e = (any _ _ [] (bytes "21###" ∷ []) (after (bytes "20") n refl (leb-true n 999 e)), tt)
+    go (signed.Is (negsuc n)) e = (any _ _ (bytes "20###" ∷ []) [] (after (bytes "21") (suc n) refl (leb-true (suc n) 999 e)), tt)
+
 pub moisture-covered : (m : Moisture) → judgeMoisture m ≡ judged.Fine → Each (λ g. hasAny moistureSpoken g ≡ true) (showMoisture m)
-unfolding judgeMoisture showMoisture fieldText numberText
+unfolding judgeMoisture showMoisture
 moisture-covered m e = go (m .is) (fine (moistFits (m .is)) true e .0)
   where
-    after : (x : List ℕ) (n : ℕ) → every isFigure x ≡ true → n ≤ 999 → hasPattern (x ++ figures 3 n) (x ++ bytes "###") ≡ true
-    after x n f h = parts x (at 3 (field.Number n) ∷ []) f refl (omega arith, tt) .shaped
-
     go : (w : Moist) → moistFits w ≡ true → Each (λ g. hasAny moistureSpoken g ≡ true) (moistGroup w)
     go moist.Missing e = tt
     go (moist.DewPoint (pos n)) e = (any _ _ [] (bytes "21###" ∷ bytes "29###" ∷ []) (after (bytes "20") n refl (leb-true n 999 e)), tt)

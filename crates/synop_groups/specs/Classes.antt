@@ -6,6 +6,7 @@ use lib.Dec.{leb}
 use lib.IntN.{pos}
 use Rattle.scales.specs.Scale.{footOf}
 use Rattle.scales.specs.Metres.{land, sea, base}
+use Rattle.scales.specs.Layers.{layerSteps, layerBands}
 use Rattle.scales.specs.Rounded.{roundedRain}
 use Rattle.record.specs.declared.values.Number.{Number}
 use Rattle.record.specs.declared.values.Tenths.the-variants as signed
@@ -19,6 +20,9 @@ use Rattle.record.specs.declared.surface.Wind.{Wind}
 use Rattle.record.specs.declared.surface.Fall.{Fall}
 use Rattle.record.specs.declared.surface.Fall.the-variants as fall
 use Rattle.record.specs.declared.surface.Rainfall.{Rainfall}
+use Rattle.record.specs.declared.surface.BaseHeight.{BaseHeight}
+use Rattle.record.specs.declared.surface.BaseHeight.the-variants as height
+use Rattle.record.specs.declared.surface.CloudLayer.{CloudLayer}
 use Rattle.record.specs.Classes.{classOn, classDirection}
 use Rattle.synop_groups.specs.Shows.{magnitudeOf}
 
@@ -46,6 +50,16 @@ classFall (fall.Is r t) = fall.Is (roundedRain r) t
 
 abbrev pub classRainfall : Rainfall → Rainfall
 classRainfall r = record { is = classFall (r .is) }
+
+-- ---- hh of section 3: the foot of the class, on the same scale
+
+abbrev pub classHeight : BaseHeight → BaseHeight
+classHeight height.Missing = height.Missing
+classHeight (height.Steps m) = height.Steps (footOf layerSteps m)
+classHeight (height.Bands m) = height.Bands (footOf layerBands m)
+
+abbrev pub classLayer : CloudLayer → CloudLayer
+classLayer l = record { amount = l .amount; cloud = l .cloud; height = classHeight (l .height) }
 
 -- ---- what the first of two groups leaves
 

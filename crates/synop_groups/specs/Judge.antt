@@ -46,9 +46,12 @@ use Rattle.record.specs.declared.surface.Clouds.{Clouds}
 use Rattle.record.specs.declared.surface.Observed.{Observed}
 use Rattle.record.specs.declared.surface.Observed.the-variants as observed
 use Rattle.record.specs.declared.surface.Clock.{Clock}
+use Rattle.record.specs.declared.surface.BaseHeight.{BaseHeight}
+use Rattle.record.specs.declared.surface.BaseHeight.the-variants as height
+use Rattle.record.specs.declared.surface.CloudLayer.{CloudLayer}
 use Rattle.synop_groups.specs.Reads.{isUnit, isLevel, agree}
 use Rattle.record.specs.Missing.{between, present, optional, noSpeed, isStill, noLetters}
-use Rattle.record.specs.SilentSurface.{noFall, noWeather}
+use Rattle.record.specs.SilentSurface.{noFall, noWeather, isBlankLayer}
 
 -- ---- ranges
 
@@ -197,3 +200,13 @@ clockFits (observed.At h m) = leb h 23 && leb m 59
 
 unfoldable pub judgeClock : Clock → Judged
 judgeClock c = judge (clockFits (c .is)) true
+
+-- ---- a layer of section 3: "a record's layer all missing is 11"
+
+abbrev pub heightFits : BaseHeight → Bool
+heightFits height.Missing = true
+heightFits (height.Steps m) = metres m
+heightFits (height.Bands m) = metres m
+
+unfoldable pub layerFits : CloudLayer → Bool
+layerFits l = not (isBlankLayer l) && optional (between 0 9) (l .amount) && optional (between 0 9) (l .cloud) && heightFits (l .height)

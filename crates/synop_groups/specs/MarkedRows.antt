@@ -60,6 +60,7 @@ asRefusal (said.Rainfall r) = []
 asRefusal (said.Weather w) = []
 asRefusal (said.Clouds c) = []
 asRefusal (said.Clock c) = []
+asRefusal (said.Layer l) = []
 
 -- ---- the rows: what is asked, what the definitions give, what the paper states
 pub record Row : Type 0 where

@@ -8,13 +8,18 @@ use Rattle.figures.specs.declared.kinds.Field.the-variants as field
 use Rattle.scales.specs.declared.kinds.Reading.{Reading}
 use Rattle.scales.specs.declared.kinds.Reading.the-variants as reading
 use Rattle.scales.specs.Metres.{land, sea, base, metresReading}
+use Rattle.scales.specs.Layers.{layerSteps, layerBands}
 use Rattle.record.specs.declared.values.Number.the-variants as number
 use Rattle.record.specs.declared.surface.Sight.{Sight}
 use Rattle.record.specs.declared.surface.Sight.the-variants as sight
+use Rattle.record.specs.declared.surface.BaseHeight.{BaseHeight}
+use Rattle.record.specs.declared.surface.BaseHeight.the-variants as height
 use Rattle.synop_groups.specs.declared.read.Part.{Part}
 use Rattle.synop_groups.specs.declared.read.Part.the-variants as part
 use Rattle.synop_groups.specs.declared.read.Seen.{Seen}
 use Rattle.synop_groups.specs.declared.read.Seen.the-variants as seen
+use Rattle.synop_groups.specs.declared.read.Based.{Based}
+use Rattle.synop_groups.specs.declared.read.Based.the-variants as based
 
 -- a number field that may be missing
 unfoldable pub partOf : Field → Part
@@ -47,3 +52,17 @@ sightPart (field.Number n) = sightFor n
 sightPart field.Missing = seen.Known sight.Missing
 sightPart field.Mixed = seen.Wrong
 sightPart field.Other = seen.Wrong
+
+-- the height of a layer's base, on the scale that its figure is of
+abbrev pub basedBy : (ℕ → BaseHeight) → Reading → Based
+basedBy scale (reading.Is m) = based.Known (scale m)
+basedBy scale reading.Unused = based.Wrong
+
+unfoldable pub heightFor : ℕ → Based
+heightFor n = cond (leb 90 n) (basedBy height.Bands (metresReading layerBands n)) (basedBy height.Steps (metresReading layerSteps n))
+
+unfoldable pub layerPart : Field → Based
+layerPart (field.Number n) = heightFor n
+layerPart field.Missing = based.Known height.Missing
+layerPart field.Mixed = based.Wrong
+layerPart field.Other = based.Wrong

@@ -18,7 +18,9 @@ use Rattle.scales.specs.declared.kinds.Tenths.the-variants as tenths
 use Rattle.scales.specs.declared.kinds.Rain.{Rain}
 use Rattle.scales.specs.declared.kinds.RainReading.{RainReading}
 use Rattle.scales.specs.declared.kinds.RainReading.the-variants as amount
+use Rattle.scales.specs.Scale.{Scale}
 use Rattle.scales.specs.Metres.{land, sea, base, metresReading}
+use Rattle.scales.specs.Layers.{layerSteps, layerBands}
 use Rattle.scales.specs.Rounded.{rainReading, directionReading}
 use Rattle.scales.specs.Degrees.{signedReading}
 use Rattle.record.specs.declared.values.Number.{Number}
@@ -36,6 +38,8 @@ use Rattle.record.specs.declared.surface.AtLevel.the-variants as at-level
 use Rattle.record.specs.declared.surface.PressureChange.the-variants as change
 use Rattle.record.specs.declared.surface.Fall.the-variants as fall
 use Rattle.record.specs.declared.surface.Observed.the-variants as observed
+use Rattle.record.specs.declared.surface.BaseHeight.{BaseHeight}
+use Rattle.record.specs.declared.surface.BaseHeight.the-variants as height
 use Rattle.record.specs.declared.surface.Position.{Position}
 use Rattle.synop_groups.specs.declared.kinds.Said.{Said}
 use Rattle.synop_groups.specs.declared.kinds.Said.the-variants as said
@@ -134,10 +138,14 @@ saidLongitude p g = figured (fieldAt g 0 1) (λ q. figured (fieldAt g 1 4) (λ m
 abbrev pub baseOf : Field → (Number → Said) → Said
 baseOf f k = mayMiss f (k number.Missing) (λ n. used (metresReading base n) (λ m. k (number.Is m)))
 
+-- two figures of two scales, those from 90 on of the second
+abbrev pub eitherOf : {X : Type 0} → Scale ℕ → (ℕ → X) → Scale ℕ → (ℕ → X) → X → Field → (X → Said) → Said
+eitherOf lower low upper high none f k =
+    mayMiss f (k none)
+    (λ n. cond (leb 90 n) (used (metresReading upper n) (λ m. k (high m))) (used (metresReading lower n) (λ m. k (low m))))
+
 abbrev pub sightOf : Field → (Sight → Said) → Said
-sightOf f k =
-    mayMiss f (k sight.Missing)
-    (λ n. cond (leb 90 n) (used (metresReading sea n) (λ m. k (sight.Sea m))) (used (metresReading land n) (λ m. k (sight.Land m))))
+sightOf f k = eitherOf land sight.Land sea sight.Sea sight.Missing f k
 
 unfoldable pub indicatorsOf : ℕ → ℕ → Number → Sight → Said
 indicatorsOf r x h v =
@@ -264,3 +272,13 @@ clockIs h m = cond (leb h 23 && leb m 59) (said.Clock (record { is = observed.At
 
 unfoldable pub saidClock : Group → Said
 saidClock g = figured (fieldAt g 1 2) (λ h. figured (fieldAt g 3 2) (λ m. clockIs h m))
+
+-- ---- 8NChh of section 3: "N, C and hh may each be missing, hh by table 1677"
+
+abbrev pub heightOf : Field → (BaseHeight → Said) → Said
+heightOf f k = eitherOf layerSteps height.Steps layerBands height.Bands height.Missing f k
+
+unfoldable pub saidLayer : Group → Said
+saidLayer g =
+    part (fieldAt g 1 1)
+    (λ n. part (fieldAt g 2 1) (λ c. heightOf (fieldAt g 3 2) (λ h. said.Layer (record { amount = n; cloud = c; height = h }))))

@@ -13,6 +13,7 @@ use Rattle.figures.specs.Quote.{bytes}
 use Rattle.figures.specs.Figures.{figures, fieldText}
 use Rattle.figures.specs.Signed.{negative}
 use Rattle.scales.specs.Metres.{land, sea, base, metresFigure}
+use Rattle.scales.specs.Layers.{layerSteps, layerBands}
 use Rattle.scales.specs.Rounded.{rainFigure, directionFigure}
 use Rattle.scales.specs.Fields.{fieldBy}
 use Rattle.record.specs.declared.values.Number.{Number}
@@ -49,6 +50,9 @@ use Rattle.record.specs.declared.surface.Clouds.{Clouds}
 use Rattle.record.specs.declared.surface.Observed.{Observed}
 use Rattle.record.specs.declared.surface.Observed.the-variants as observed
 use Rattle.record.specs.declared.surface.Clock.{Clock}
+use Rattle.record.specs.declared.surface.BaseHeight.{BaseHeight}
+use Rattle.record.specs.declared.surface.BaseHeight.the-variants as height
+use Rattle.record.specs.declared.surface.CloudLayer.{CloudLayer}
 use Rattle.record.specs.SilentSurface.{noWeather, noClouds}
 use Rattle.shapes.specs.Pattern.{Pattern}
 use Rattle.synop_groups.specs.Position.{quadrantOf}
@@ -134,12 +138,13 @@ speedGroup (speed.Above s) = []
 unfoldable pub showSpeed : Wind → List Group
 showSpeed w = speedGroup (w .speed)
 
-abbrev pub airGroup : Signed → List Group
-airGroup signed.Missing = []
-airGroup (signed.Is t) = (bytes "1" ++ signText t) ∷ []
+-- a first figure and sTTT
+abbrev pub signedGroup : ℕ → Signed → List Group
+signedGroup first signed.Missing = []
+signedGroup first (signed.Is t) = (first ∷ signText t) ∷ []
 
 unfoldable pub showAir : Air → List Group
-showAir a = airGroup (a .temperature)
+showAir a = signedGroup 49 (a .temperature)
 
 abbrev pub moistGroup : Moist → List Group
 moistGroup moist.Missing = []
@@ -209,3 +214,19 @@ clockGroup (observed.At h m) = (bytes "9" ++ figures 2 h ++ figures 2 m) ∷ []
 
 unfoldable pub showClock : Clock → List Group
 showClock c = clockGroup (c .is)
+
+-- ---- section 3: 1sTTT is written as in section 1; 2sTTT, never the stop word 222 with two more characters; 8NChh
+
+unfoldable pub showMinimum : Air → List Group
+showMinimum a = signedGroup 50 (a .temperature)
+
+abbrev pub minimumSpoken : List Pattern
+minimumSpoken = bytes "20###" ∷ bytes "21###" ∷ []
+
+abbrev pub heightField : BaseHeight → Field
+heightField height.Missing = field.Missing
+heightField (height.Steps m) = fieldBy (metresFigure layerSteps m)
+heightField (height.Bands m) = fieldBy (metresFigure layerBands m)
+
+unfoldable pub showLayer : CloudLayer → Group
+showLayer l = bytes "8" ++ fieldText 1 (fieldOf (l .amount)) ++ fieldText 1 (fieldOf (l .cloud)) ++ fieldText 2 (heightField (l .height))

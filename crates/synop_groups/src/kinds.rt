@@ -1,6 +1,7 @@
 // What a group of a SYNOP or SHIP says.
 use record::surface::Air;
 use record::surface::Clock;
+use record::surface::CloudLayer;
 use record::surface::Clouds;
 use record::surface::Indicators;
 use record::surface::Level;
@@ -33,4 +34,6 @@ pub enum Said {
     Weather(Weather),
     Clouds(Clouds),
     Clock(Clock),
+    // 8NChh of section 3
+    Layer(CloudLayer),
 }

@@ -7,7 +7,9 @@ use figures::kinds::Signed;
 use figures::signed;
 use record::surface::Air;
 use record::surface::AtLevel;
+use record::surface::BaseHeight;
 use record::surface::Clock;
+use record::surface::CloudLayer;
 use record::surface::Clouds;
 use record::surface::Fall;
 use record::surface::Indicators;
@@ -35,8 +37,8 @@ ghost use mathlib.Core.Path.{_≡_};
 ghost use Prim.Native.Nat.{_<_};
 ghost use Rattle.figures.specs.Figures.{fieldAt};
 ghost use Rattle.figures.specs.Signed.{withSign};
-ghost use Rattle.synop_groups.specs.Parts.{partOf, basePart, sightFor, sightPart};
-ghost use Rattle.synop_groups.specs.Reads.{wrong, disagrees, unless, readLatitude, positionOf, pressureOf, levelIs, tendencyIs, windOf, windBy, airIs, moistureIs, rainfallOf, saidTime, saidStation, saidLatitude, saidLongitude, saidIndicators, saidWind, saidSpeed, saidAir, saidMoisture, saidPressure, saidLevel, saidTendency, saidRainfall, saidWeather, saidClouds, saidClock};
+ghost use Rattle.synop_groups.specs.Parts.{partOf, basePart, sightFor, sightPart, heightFor, layerPart};
+ghost use Rattle.synop_groups.specs.Reads.{wrong, disagrees, unless, readLatitude, positionOf, pressureOf, levelIs, tendencyIs, windOf, windBy, airIs, moistureIs, rainfallOf, saidTime, saidStation, saidLatitude, saidLongitude, saidIndicators, saidWind, saidSpeed, saidAir, saidMoisture, saidPressure, saidLevel, saidTendency, saidRainfall, saidWeather, saidClouds, saidClock, saidLayer};
 
 // A part of a group that may be missing, or has a wrong figure.
 enum Part {
@@ -593,4 +595,61 @@ pub fn read_clock(g: &[u8]) -> Said
     } else {
         wrong_figure()
     }
+}
+
+// The height of a layer's base that may be missing, or has a wrong figure.
+enum Based {
+    Known(BaseHeight),
+    Wrong,
+}
+
+fn height_of(n: u32) -> Based
+    ensures { λ r. ⌜ r ≡ heightFor n ⌝ }
+{
+    if 90 <= n {
+        let r = scales::layers::bands_reading(n);
+        match r {
+            Reading::Is(m) => Based::Known(BaseHeight::Bands(m)),
+            Reading::Unused => Based::Wrong,
+        }
+    } else {
+        let r = scales::layers::steps_reading(n);
+        match r {
+            Reading::Is(m) => Based::Known(BaseHeight::Steps(m)),
+            Reading::Unused => Based::Wrong,
+        }
+    }
+}
+
+// hh, by table 1677.
+fn height_at(g: &[u8]) -> Based
+    ensures { λ r. ⌜ r ≡ layerPart (fieldAt (now (g .entry)) 3 2) ⌝ }
+{
+    let f = field(g, 3, 2);
+    match f {
+        Field::Number(n) => height_of(n),
+        Field::Missing => Based::Known(BaseHeight::Missing),
+        Field::Mixed => Based::Wrong,
+        Field::Other => Based::Wrong,
+    }
+}
+
+// 8NChh of section 3
+pub fn read_layer(g: &[u8]) -> Said
+    ensures { λ r. ⌜ r ≡ saidLayer (now (g .entry)) ⌝ }
+{
+    let Part::Known(amount) = part_at(g, 1, 1) else {
+        return wrong_figure();
+    };
+    let Part::Known(cloud) = part_at(g, 2, 1) else {
+        return wrong_figure();
+    };
+    let Based::Known(height) = height_at(g) else {
+        return wrong_figure();
+    };
+    Said::Layer(CloudLayer {
+        amount,
+        cloud,
+        height,
+    })
 }

@@ -3,8 +3,10 @@ use crate::slots::name_part;
 use figures::signed;
 use record::surface::Air;
 use record::surface::AtLevel;
+use record::surface::BaseHeight;
 use record::surface::CallSign;
 use record::surface::Clock;
+use record::surface::CloudLayer;
 use record::surface::Clouds;
 use record::surface::Fall;
 use record::surface::Indicators;
@@ -32,7 +34,7 @@ use text::kinds::Judged;
 ghost use mathlib.Core.Path.{_≡_};
 ghost use Rattle.scales.specs.Rounded.{rainFits};
 ghost use Rattle.synop_groups.specs.Judge.{unitFits, latitudeFits, longitudeFits, sightFits, speedFits, windFits, windAgrees};
-ghost use Rattle.synop_groups.specs.Judge.{tenthsFit, moistFits, levelFits, changeFits, changeSuits, changeAgrees, fallFits, clockFits};
+ghost use Rattle.synop_groups.specs.Judge.{tenthsFit, moistFits, levelFits, changeFits, changeSuits, changeAgrees, fallFits, clockFits, heightFits, layerFits};
 ghost use Rattle.synop_groups.specs.Judge.{judgeTime, judgeStation, judgeSign, judgePosition, judgeIndicators, judgeWind};
 ghost use Rattle.synop_groups.specs.Judge.{judgeAir, judgeMoisture, judgePressure, judgeLevel, judgeTendency, judgeRainfall, judgeWeather, judgeClouds, judgeClock};
 
@@ -340,4 +342,25 @@ pub fn judge_clock(c: Clock) -> Judged
 {
     let is = c.is;
     judge(clock_fits(is), true)
+}
+
+fn height_fits(h: BaseHeight) -> bool
+    ensures { λ r. ⌜ r ≡ heightFits h ⌝ }
+{
+    match h {
+        BaseHeight::Missing => true,
+        BaseHeight::Steps(m) => m <= 99999,
+        BaseHeight::Bands(m) => m <= 99999,
+    }
+}
+
+// A layer of section 3 that says something, each part in its range.
+pub fn layer_fits(l: CloudLayer) -> bool
+    ensures { λ r. ⌜ r ≡ layerFits l ⌝ }
+{
+    let amount = l.amount;
+    let cloud = l.cloud;
+    let height = l.height;
+    let told = !l.is_blank() & amount.is_missing_or_between(0, 9);
+    told & cloud.is_missing_or_between(0, 9) & height_fits(height)
 }

@@ -8,8 +8,10 @@ use figures::put::put_text;
 use figures::signed;
 use record::surface::Air;
 use record::surface::AtLevel;
+use record::surface::BaseHeight;
 use record::surface::CallSign;
 use record::surface::Clock;
+use record::surface::CloudLayer;
 use record::surface::Clouds;
 use record::surface::Fall;
 use record::surface::Indicators;
@@ -33,6 +35,8 @@ use record::values::Tenths;
 use scales::direction::direction_figure;
 use scales::kinds::Figure;
 use scales::kinds::Rain;
+use scales::layers::bands_figure;
+use scales::layers::steps_figure;
 use scales::metres::base_figure;
 use scales::metres::land_figure;
 use scales::metres::sea_figure;
@@ -54,7 +58,7 @@ ghost use Rattle.scales.specs.Fields.{fieldBy};
 ghost use Rattle.synop_groups.specs.Shows.{fieldOf, magnitudeOf, signedValue, signText};
 ghost use Rattle.synop_groups.specs.Shows.{baseField, sightField, directionField, speedField, weatherText, cloudsText};
 ghost use Rattle.synop_groups.specs.Shows.{showTime, showStation, showSign, showLatitude, showLongitude, showIndicators, showWind, showSpeed, showAir, showMoisture, showPressure};
-ghost use Rattle.synop_groups.specs.Shows.{showLevel, showTendency, showRainfall, showWeather, showClouds, showClock};
+ghost use Rattle.synop_groups.specs.Shows.{showLevel, showTendency, showRainfall, showWeather, showClouds, showClock, showMinimum, heightField, showLayer};
 
 fn field_of(n: Number) -> Field
     ensures { λ r. ⌜ r ≡ fieldOf n ⌝ }
@@ -434,4 +438,41 @@ pub fn put_clock(out: &mut [u8], at: usize, c: Clock) -> usize
         Observed::Missing => at,
         Observed::At { hour, minute } => put_two(out, at, b'9', 2, hour, 2, minute),
     }
+}
+
+// ---- section 3
+
+// 2sTTT
+pub fn put_minimum(out: &mut [u8], at: usize, a: Air) -> usize
+    ensures { λ r. ⌜ Put (now (out .entry)) at (written at (showMinimum a)) r (now (out .exit)) ⌝ }
+{
+    let temperature = a.temperature;
+    match temperature {
+        Tenths::Missing => at,
+        Tenths::Is(t) => put_signed(out, at, b'2', t),
+    }
+}
+
+fn height_field(height: BaseHeight) -> Field
+    ensures { λ r. ⌜ r ≡ heightField height ⌝ }
+{
+    match height {
+        BaseHeight::Missing => Field::Missing,
+        BaseHeight::Steps(m) => field_by(steps_figure(m)),
+        BaseHeight::Bands(m) => field_by(bands_figure(m)),
+    }
+}
+
+// 8NChh
+pub fn put_layer(out: &mut [u8], at: usize, l: CloudLayer) -> usize
+    ensures { λ r. ⌜ Put (now (out .entry)) at (written at (showLayer l ∷ [])) r (now (out .exit)) ⌝ }
+{
+    let amount = l.amount;
+    let cloud = l.cloud;
+    let height = l.height;
+    let opened = open_group(out, at);
+    let begun = put_byte(out, opened, b'8');
+    let covered = put_part(out, begun, 1, amount);
+    let named = put_part(out, covered, 1, cloud);
+    put_field(out, named, 2, height_field(height))
 }

@@ -1,11 +1,11 @@
--- Section 1 after Nddff, as a whole: what is written of a surface that is judged fine is read back as its class.
+-- Section 1 after Nddff, and section 3, as a whole: what is written of a surface and a section 3 that are judged fine is read back as their classes.
 -- Assumes nothing.
-use Prim.Native.Nat.{ℕ, _<_}
+use Prim.Native.Nat.{ℕ, _≤_, _<_}
 use Prim.Native.String.{String}
 use native.Mathlib.Omega.{arith}
 use mathlib.Core.Path.{_≡_, refl, sym, ap, _∙_}
 use mathlib.Core.Bool.{Bool, true, false, not, _&&_, false≢true}
-use mathlib.Core.List.{List, [], _∷_}
+use mathlib.Core.List.{List, [], _∷_, _++_, append-nil}
 use mathlib.Core.Logic.{⊎-elim}
 use lib.ListN.{length, replicate}
 use borrow.Author.Tests.{le-leb, lt-leb}
@@ -13,30 +13,37 @@ use Rattle.figures.specs.Quote.{bytes}
 use Rattle.text.specs.declared.kinds.Tail.the-variants.{Clear}
 use Rattle.text.specs.Groups.{Piece}
 use Rattle.text.proofs.Judging.{and-then}
-use Rattle.shapes.specs.Pattern.{Pattern, low, high, hasPattern, hasAny}
+use Rattle.shapes.specs.Pattern.{Pattern, low, high, fits, hasPattern, hasAny}
 use Rattle.places.specs.Engine.{Group, Good, Done, Place, written, putAll}
-use Rattle.places.proofs.ReadBack.{All, one-pattern, Served, groupsOf, read-back}
+use Rattle.places.specs.Parts.{Opens}
+use Rattle.places.proofs.ReadBack.{All, one-pattern, Served, groupsOf, stopsAny, plain}
 use Rattle.places.proofs.Sizes.{measured, sized-each, Sizes}
-use Rattle.places.proofs.Kept.{Kept, KeptRow, done, more, kept-spoken, kept-served, kept-sizes}
+use Rattle.places.proofs.Kept.{Kept, KeptRow, done, more, kept-spoken, kept-sizes}
+use Rattle.places.proofs.Parts.{Saying, KeptPart, unjoined, Opening, one as one-word, Last, LastAll, KeptAll, saidAll, takenAll, report-back}
 use Rattle.scales.proofs.Laws.{reached}
 use Rattle.record.specs.declared.values.Speed.{Speed}
 use Rattle.record.specs.declared.values.Speed.the-variants as speed
 use Rattle.record.specs.declared.surface.Surface.{Surface}
 use Rattle.record.specs.declared.surface.Synop.{Synop}
-use Rattle.record.specs.Set.{setSurface}
-use Rattle.record.specs.Blank.{blankSurface}
+use Rattle.record.specs.declared.surface.Section3.{Section3}
+use Rattle.record.specs.Set.{setSurface, setSection3}
+use Rattle.record.specs.Blank.{blankSurface, blankSection3}
 use Rattle.synop_groups.specs.declared.kinds.Said.{Said}
 use Rattle.text.specs.declared.kinds.Judged.the-variants as judged
 use Rattle.synop_groups.specs.Classes.{classIndicators, classWind, classRainfall}
-use Rattle.synop_groups.specs.Shows.{isInThree, speedGroup, showSpeed}
+use Rattle.synop_groups.specs.Shows.{isInThree, speedGroup, showSpeed, showAir, showMinimum}
 use Rattle.synop_groups.specs.Judge.{judgeWind, judgeAir, judgeMoisture, judgePressure, judgeLevel, judgeTendency, judgeRainfall, judgeWeather, judgeClouds, judgeClock}
 use Rattle.record.specs.SilentSurface.{noFall}
 use Rattle.synop_groups.specs.Classes.{speedInTwo, windInTwo}
 use Rattle.synop_groups.proofs.RoundTrip.{Back, none, one, Each, back-shaped, meantSpeed, speed-back, air-back, moisture-back, moisture-covered, pressure-back, level-back, tendency-back, rainfall-back, weather-back, clouds-back, clock-back, rainfall-again, rainfall-classed}
 use Rattle.synop_row.specs.declared.kinds.Needs.{Needs}
-use Rattle.synop_row.specs.Row.{needsOf, setSpeed, withSaid, placeFor, row, stopWords}
+use Rattle.synop_row.specs.Row.{needsOf, setSpeed, withSaid, placeFor, row, stopWords, section3Word}
 use Rattle.synop_row.proofs.Sound.{row-sound, row-covered}
-use Rattle.synop_section.specs.Answer.{section}
+use Rattle.section3.specs.Row.{showLayers, row as row3}
+use Rattle.section3.specs.Step.{Opened}
+use Rattle.section3.specs.Write.{judgeSection3, isSilent, showSection3, classSection3}
+use Rattle.section3.proofs.Section3Back.{kept-section3, put-section3, silent-blank}
+use Rattle.synop_section.specs.Answer.{wordOf, firstPart, parts, section}
 use Rattle.synop.specs.Write.{judgeSection}
 
 -- ---- what the row owes, place by place
@@ -199,19 +206,93 @@ pub needs-kept : (s : Surface) → needsOf (begunSurface s) ≡ needsOf s
 unfolding needsOf
 needs-kept s = rw (three-kept (s .wind .speed))
 
--- SECTION 1 OF A SURFACE THAT IS JUDGED FINE IS READ BACK, from any pieces that hold its groups.
-pub section-back : (s : Surface) (r : Synop) (end : ℕ) (gs : List Piece) → judgeWind (s .wind) ≡ judged.Fine → judgeSection (needsOf s) s ≡ judged.Fine
-    → groupsOf gs ≡ written (row (needsOf s)) s → section (setSurface (begunSurface s) r) Clear end gs ≡ Done end (setSurface (classedSurface s) r)
-unfolding section
-section-back s r end gs w e are =
+-- the first part of a report keeps the surface
+first-kept : (s : Surface) (takes : Surface → Synop) → judgeWind (s .wind) ≡ judged.Fine → judgeSection (needsOf s) s ≡ judged.Fine
+    → KeptPart (firstPart (needsOf s) takes) s (begunSurface s)
+first-kept s takes w e =
     let k = kept-row s w e in
-    let n = row (needsOf s) in
-    rw (
-      needs-kept s,
-      read-back n stopWords s (begunSurface s) (unfold row in omega arith) (row-sound (needsOf s)) (row-covered (needsOf s))
-          (kept-spoken k) (kept-served k) gs are end,
-      put-row s,
-    )
+    record {
+      words = stopWords;
+      sizes = fives;
+      some = unfold row in omega arith;
+      told = row-sound (needsOf s);
+      covered = row-covered (needsOf s);
+      kept = k;
+      plain = plain stopWords (row (needsOf s)) s (row-sound (needsOf s)) (kept-spoken k);
+      whole = refl;
+    }
+
+-- nothing in it ends the report
+first-lasts : (n : Needs) (s : Surface) → stopsAny (row n) s ≡ false
+unfolding row
+first-lasts n s = refl
+
+-- what section 3 says after 333
+abbrev third : Section3 → Saying Section3 Opened
+third x = record { words = section3Word ∷ []; kind = tt; start = blankSection3; said = x }
+
+third-stops : hasAny stopWords section3Word ≡ true
+unfolding stopWords hasAny hasPattern fits low high
+third-stops = refl
+
+third-opens : wordOf section3Word ≡ Opens (Good (record { kind = tt; start = blankSection3 }))
+unfolding hasPattern fits low high
+third-opens = refl
+
+unjoined-third : (its : List Group) → unjoined parts tt its ≡ true
+unjoined-third [] = refl
+unjoined-third (g ∷ gs) = refl
+
+module _ (s : Surface) (r : Synop) (end : ℕ) (gs : List Piece) (w : judgeWind (s .wind) ≡ judged.Fine) (e : judgeSection (needsOf s) s ≡ judged.Fine) where
+  abbrev takes : Surface → Synop
+  takes u = setSurface u r
+
+  -- with so much said after section 1
+  module _ (xs : List (Saying Section3 Opened)) (few : length xs ≤ 1) (last : Last parts (firstPart (needsOf s) takes) s xs)
+      (kept : KeptAll parts (hasAny stopWords) (λ t g. wordOf g) (setSurface (classedSurface s) r) xs) (lasts : LastAll parts (setSurface (classedSurface s) r) xs)
+      (are : groupsOf gs ≡ written (row (needsOf s)) s ++ saidAll parts (setSurface (classedSurface s) r) xs) where
+    both-back : section (setSurface (begunSurface s) r) Clear end gs ≡ Done end (takenAll parts (setSurface (classedSurface s) r) xs)
+    unfolding section row
+    both-back =
+        rw (needs-kept s) (report-back parts xs end 1 (firstPart (needsOf s) takes) s (begunSurface s) gs (first-kept s takes w e) last kept lasts few are)
+
+-- SECTION 1 AND SECTION 3 THAT ARE JUDGED FINE ARE READ BACK, from any pieces that hold their groups.
+module _ (s : Surface) (x : Section3) (r : Synop) (end : ℕ) (gs : List Piece) (blank : r .section3 ≡ blankSection3) (w : judgeWind (s .wind) ≡ judged.Fine)
+    (e : judgeSection (needsOf s) s ≡ judged.Fine) (four : length (x .layers .items) ≡ 4) (f : judgeSection3 x ≡ judged.Fine)
+    (are : groupsOf gs ≡ written (row (needsOf s)) s ++ showSection3 x) where
+  abbrev report : Synop
+  report = setSurface (classedSurface s) r
+
+  -- nothing is written of a section that has nothing to say
+  none-written : showSection3 blankSection3 ≡ []
+  unfolding showSection3 row3 showAir showMinimum showLayers
+  none-written = refl
+
+  silent : isSilent x ≡ true → section (setSurface (begunSurface s) r) Clear end gs ≡ Done end (setSection3 (classSection3 x) report)
+  silent h =
+      let b = silent-blank x four f h in
+      both-back s r end gs w e [] (omega arith) tt tt tt (are ∙ ap (λ (l : List Group). written (row (needsOf s)) s ++ l) (ap showSection3 b ∙ none-written))
+      ∙ ap (Done end) (rw (b, blank))
+
+  some-written : isSilent x ≡ false → showSection3 x ≡ (section3Word ∷ []) ++ (written row3 x ++ [])
+  unfolding showSection3
+  some-written h = rw (h, append-nil (written row3 x))
+
+  opens : Opening parts (hasAny stopWords) (λ t g. wordOf g) report tt blankSection3 (written row3 x ++ []) (section3Word ∷ [])
+  opens = one-word third-stops third-opens (unjoined-third (written row3 x ++ []))
+
+  spoken : isSilent x ≡ false → section (setSurface (begunSurface s) r) Clear end gs ≡ Done end (setSection3 (classSection3 x) report)
+  spoken h =
+      both-back s r end gs w e (third x ∷ []) (omega arith) (first-lasts (needsOf s) s) (opens, kept-section3 x four f (λ u. setSection3 u report), tt) (tt, tt)
+      (are ∙ ap (λ (l : List Group). written (row (needsOf s)) s ++ l) (some-written h))
+      ∙ ap (λ (u : Section3). Done end (setSection3 u report)) (put-section3 x)
+
+  pub section-back : section (setSurface (begunSurface s) r) Clear end gs ≡ Done end (setSection3 (classSection3 x) report)
+  section-back = go (isSilent x) refl
+    where
+      go : (b : Bool) → isSilent x ≡ b → section (setSurface (begunSurface s) r) Clear end gs ≡ Done end (setSection3 (classSection3 x) report)
+      go true h = silent h
+      go false h = spoken h
 
 -- They take at most sixty bytes.
 pub section-sizes : (s : Surface) → judgeWind (s .wind) ≡ judged.Fine → judgeSection (needsOf s) s ≡ judged.Fine → Sizes 60 (written (row (needsOf s)) s)

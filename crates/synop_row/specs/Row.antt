@@ -47,7 +47,7 @@ needsOf s =
 abbrev pub setSpeed : Speed → Surface → Surface
 setSpeed x s = setWind (record { cover = s .wind .cover; direction = s .wind .direction; speed = x }) s
 
--- the surface with what a group says, or the group's refusal; what names the place and time is no part of it
+-- the surface with what a group says, or the group's refusal; what names the place and time, and a layer of section 3, is no part of it
 unfoldable pub withSaid : Said → Surface → Read Surface
 withSaid (said.Refused f) s = Bad f
 withSaid (said.Time t) s = Good s
@@ -65,6 +65,7 @@ withSaid (said.Rainfall r) s = Good (setRainfall r s)
 withSaid (said.Weather w) s = Good (setWeather w s)
 withSaid (said.Clouds c) s = Good (setClouds c s)
 withSaid (said.Clock c) s = Good (setClock c s)
+withSaid (said.Layer l) s = Good s
 
 -- a place for one group: its pattern, the patterns of what is written there, whether a group must stand there, what the group says, how it is written,
 -- and what it is read back as
@@ -99,6 +100,10 @@ row n =
 -- "once Nddff has stood, reading stops at 222 with two more characters, 333, 444 or 555"
 unfoldable pub stopWords : List Pattern
 stopWords = bytes "222??" ∷ bytes "333" ∷ bytes "444" ∷ bytes "555" ∷ []
+
+-- document 02, No. 10: "Group 333 no longer stops reading": section 1 ends there, and section 3 follows
+abbrev pub section3Word : Pattern
+section3Word = bytes "333"
 
 -- how many groups may stand at each place, whatever was read before
 abbrev pub Mosts : List ℕ → Type 0

@@ -9,13 +9,13 @@ use record::values::Number;
 use record::values::Speed;
 use shapes::has_pattern;
 ghost use mathlib.Core.Path.{_≡_};
-ghost use Rattle.shapes.specs.Pattern.{hasAny};
+ghost use Rattle.shapes.specs.Pattern.{hasPattern, hasAny};
 ghost use mathlib.Core.Bool.{_&&_};
 ghost use lib.ListN.{drop};
 ghost use Rattle.places.specs.Seek.{answers, fitFrom, findOf};
 ghost use Rattle.places.specs.Engine.{placeAt, standsOf, mustsOf};
 ghost use Rattle.synop_groups.specs.Shows.{isInThree};
-ghost use Rattle.synop_row.specs.Row.{rainDue, weatherDue, figureIs, needsOf, row, stopWords, Mosts};
+ghost use Rattle.synop_row.specs.Row.{rainDue, weatherDue, figureIs, needsOf, row, stopWords, section3Word, Mosts};
 
 // iR 0 or 1 requires the 6 group.
 fn is_rain_due(rain: Number) -> bool
@@ -70,6 +70,13 @@ pub fn is_stop_word(g: &[u8]) -> bool
         | has_pattern(g, b"333")
         | has_pattern(g, b"444")
         | has_pattern(g, b"555")
+}
+
+// Does section 3 follow, once section 1 has nothing left to come?
+pub fn is_section3(g: &[u8]) -> bool
+    ensures { λ r. ⌜ r ≡ hasPattern (now (g .entry)) section3Word ⌝ }
+{
+    has_pattern(g, b"333")
 }
 
 // Has the group the shape of this place?

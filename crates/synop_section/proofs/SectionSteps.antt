@@ -1,55 +1,126 @@
 -- The laws of section 1: its row, and what a group says at a place.
 -- Assumes nothing.
-use Prim.Native.Nat.{ℕ, zero-le}
-use mathlib.Core.Path.{_≡_, refl, ap, _∙_}
-use mathlib.Core.Bool.{true}
+use Prim.Native.Nat.{ℕ, _+_, zero-le}
+use mathlib.Core.Path.{_≡_, refl, sym, ap, _∙_}
+use mathlib.Core.Bool.{Bool, true, false, or-false}
 use mathlib.Core.List.{List, [], _∷_}
-use lib.ListN.{List·getD-eq-default}
+use lib.ListN.{length, drop, List·getD-eq-default}
 use types.Run.{OneOf, miss}
 use denote.Enum.Declared.{tagOf}
 use Rattle.text.specs.declared.kinds.Refusal.{Refusal}
 use Rattle.text.specs.declared.kinds.Refusal.the-variants as refusal
-use Rattle.text.specs.declared.kinds.Tail.{Tail}
 use Rattle.text.specs.declared.kinds.Verdict.{Verdict}
 use Rattle.text.specs.declared.kinds.Verdict.the-variants as verdict
-use Rattle.text.specs.Groups.{Piece}
-use Rattle.places.specs.Engine.{Group, Good, Bad, Place, nowhere, placeAt, onward, Outcome, run}
-use Rattle.places.specs.Answer.{outcomeOf}
+use Rattle.text.specs.Groups.{Piece, groupsFrom, partOf}
+use Rattle.text.specs.Text.{tailOf}
+use Rattle.text.proofs.Groups.{Follows}
+use Rattle.shapes.specs.Pattern.{hasPattern, hasAny}
+use Rattle.places.specs.Seek.{owed}
+use Rattle.places.specs.Engine.{Group, Good, Bad, Place, nowhere, placeAt, mustsOf, onward, Outcome}
+use Rattle.places.specs.declared.kinds.Turn.{Turn}
+use Rattle.places.specs.declared.kinds.Turn.the-variants as turn
+use Rattle.places.specs.Answer.{outcomeOf, endVerdict}
+use Rattle.places.specs.Turn.{turnAt}
+use Rattle.places.specs.Parts.{owes, turned, unless, partFrom, begins, further, reportOf}
 use Rattle.places.proofs.Rows.{Others, beyond, endless}
 use Rattle.places.proofs.Loop.{atMost}
 use Rattle.record.specs.declared.surface.Surface.{Surface}
 use Rattle.record.specs.declared.surface.Synop.{Synop}
-use Rattle.record.specs.Set.{setSurface}
+use Rattle.record.specs.Set.{setSurface, setSection3}
+use Rattle.record.specs.Blank.{blankSection3}
+use Rattle.section3.specs.declared.kinds.Section3Read.{Section3Read}
+use Rattle.section3.specs.Step.{Section3Done}
+use Rattle.section3.proofs.Going.{reading, reads-over, reads-halt, reads-fault, reads-on, reads-bad}
 use Rattle.synop_groups.specs.declared.kinds.Said.{Said}
 use Rattle.synop_groups.specs.declared.kinds.Said.the-variants as said
 use Rattle.synop_groups.proofs.kinds.Said as saids
 use Rattle.synop_row.specs.declared.kinds.Needs.{Needs}
-use Rattle.synop_row.specs.Row.{needsOf, withSaid, row, stopWords}
+use Rattle.synop_row.specs.Row.{needsOf, withSaid, row, stopWords, section3Word}
 use Rattle.synop_row.proofs.Tests.{row-length}
 use Rattle.synop_section.specs.declared.kinds.SectionRead.{SectionRead}
-use Rattle.synop_section.specs.Answer.{ontoReport, section, answer}
-use Rattle.synop_section.specs.Section.{Says, saidOnto}
+use Rattle.synop_section.specs.declared.kinds.Next.{Next}
+use Rattle.synop_section.specs.declared.kinds.Next.the-variants as next
+use Rattle.synop_section.specs.Answer.{wordOf, firstPart, thirdPart, parts, section, answer}
+use Rattle.synop_section.specs.Section.{Says, saidOnto, later, afterSection, Leaves, SectionDone}
 
--- what section 1 comes to is a reading's end as it stands
-abbrev pub ended : Outcome Surface → Outcome Surface
-ended o = o
+-- the answer with what follows section 1: the end, or section 3
+module _ (text : List ℕ) (from : ℕ) (r : Synop) (x : SectionRead) (n : Needs) (needs : n ≡ needsOf (r .surface)) (done : SectionDone text from n (r .surface) x) where
+  taken : section r (tailOf text) (length text) (groupsFrom text from) ≡ afterSection text (setSurface (x .surface) r) (x .next)
+  unfolding section reportOf
+  taken = rw (← needs) (done (λ s. setSurface s r))
 
--- what the loop hands over, by the verdict and the surface in it
-pub handed : {x : SectionRead} {v : Verdict} {s : Surface} {o : Outcome Surface} → x ≡ record { verdict = v; surface = s } → outcomeOf v s ≡ o
-    → outcomeOf (x .verdict) (x .surface) ≡ o
-handed p q = rw p q
+  pub answered-end : {v : Verdict} → x .next ≡ next.End v
+      → answer (outcomeOf v (setSurface (x .surface) r)) ≡ answer (section r (tailOf text) (length text) (groupsFrom text from))
+  answered-end {v} is =
+      let t : section r (tailOf text) (length text) (groupsFrom text from) ≡ outcomeOf v (setSurface (x .surface) r) = taken ∙ rw is in
+      ap answer (sym t)
 
--- a verdict with a surface put onto the report
-onto : (r : Synop) (v : Verdict) (s : Surface) → outcomeOf v (setSurface s r) ≡ ontoReport r (outcomeOf v s)
-onto r (verdict.Accepted rest) s = refl
-onto r (verdict.Refused f at) s = refl
+  pub answered-third : {at : ℕ} (y : Section3Read) → x .next ≡ next.Section3 at → Section3Done text at y
+      → answer (outcomeOf (y .verdict) (setSection3 (y .section3) (setSurface (x .surface) r))) ≡ answer (section r (tailOf text) (length text) (groupsFrom text from))
+  answered-third {at} y is third =
+      let t : section r (tailOf text) (length text) (groupsFrom text from) ≡ outcomeOf (y .verdict) (setSection3 (y .section3) (setSurface (x .surface) r)) =
+      taken ∙ rw is (third (λ s. setSection3 s (setSurface (x .surface) r)) (later text 0)) in
+      ap answer (sym t)
 
--- the answer with what the groups of section 1 come to
-pub answered : (r : Synop) (x : SectionRead) (n : Needs) (tail : Tail) (end : ℕ) (gs : List Piece) → n ≡ needsOf (r .surface)
-    → outcomeOf (x .verdict) (x .surface) ≡ run (row n) stopWords tail end 0 0 (r .surface) gs
-    → answer (outcomeOf (x .verdict) (setSurface (x .surface) r)) ≡ answer (section r tail end gs)
-unfolding section
-answered r x n tail end gs p q = ap answer (onto r (x .verdict) (x .surface) ∙ ap (ontoReport r) (rw p at q))
+-- ---- a stop word
+
+-- what the word comes to, where nothing is owed and where something is
+module _ (g : Group) (start end : ℕ) (n : Needs) (c k : ℕ) {o : Bool} (is : o ≡ owed k (drop c (mustsOf (row n)))) where
+  pub leaves-owed : o ≡ true → Leaves g start end n c k (next.End (verdict.Refused refusal.Absence start))
+  leaves-owed e text r = rw (← is, e)
+
+  pub leaves-third : o ≡ false → hasPattern g section3Word ≡ true → Leaves g start end n c k (next.Section3 end)
+  unfolding further
+  leaves-third e w text r = rw (← is, e, w) (begins-third (groupsFrom text end))
+    where
+      begins-third : (gs : List Piece) → begins (tailOf text) (length text) parts (later text 0) r tt blankSection3 gs
+          ≡ partFrom (tailOf text) (length text) (thirdPart r) (later text 0) 0 0 blankSection3 gs
+      begins-third [] = refl
+      begins-third (p ∷ gs) = refl
+
+  pub leaves-rest : o ≡ false → hasPattern g section3Word ≡ false → Leaves g start end n c k (next.End (verdict.Accepted start))
+  leaves-rest e w text r = rw (← is, e, w)
+
+-- what is owed is all that section 1 needs
+pub only-owed : (n : Needs) (takes : Surface → Synop) (c k : ℕ) (s : Surface) → owes (firstPart n takes) c k s ≡ owed k (drop c (mustsOf (row n)))
+only-owed n takes c k s = or-false (owed k (drop c (mustsOf (row n))))
+
+-- ---- the loop that reads section 1, from group to group
+
+module _ (text : List ℕ) (from : ℕ) (n : Needs) (earlier : Surface) (c k : ℕ) (s : Surface) (at : ℕ)
+    (inv : (takes : Surface → Synop) → reading (firstPart n takes) (later text 1) text 0 0 earlier from ≡ reading (firstPart n takes) (later text 1) text c k s at) where
+  hands : {x : SectionRead} {v : Next} → x ≡ record { next = v; surface = s }
+      → ((takes : Surface → Synop) → reading (firstPart n takes) (later text 1) text c k s at ≡ afterSection text (takes s) v) → SectionDone text from n earlier x
+  unfolding reading
+  hands p q takes = inv takes ∙ rw p (q takes)
+
+  pub done-over : {x : SectionRead} {v : Next} → x ≡ record { next = v; surface = s }
+      → v ≡ next.End (endVerdict (tailOf text) (length text) (owed k (drop c (mustsOf (row n))))) → groupsFrom text at ≡ [] → SectionDone text from n earlier x
+  done-over p q none =
+      hands p
+      (λ takes.
+      reads-over (firstPart n takes) (later text 1) text c k s at none
+      ∙ rw q (ap (λ (b : Bool). outcomeOf (endVerdict (tailOf text) (length text) b) (takes s)) (only-owed n takes c k s)))
+
+  module _ {start end : ℕ} {g : Group} {u : Turn} (follows : Follows text at start end) (cut : g ≡ partOf text start end) (is : u ≡ turnAt (row n) (hasAny stopWords) c k g) where
+    pub done-halt : {x : SectionRead} {v : Next} → x ≡ record { next = v; surface = s } → u ≡ turn.Halt → Leaves g start end n c k v → SectionDone text from n earlier x
+    done-halt p e leaves =
+        hands p
+        (λ takes.
+        reads-halt (firstPart n takes) (later text 1) text c k s at follows cut is e
+        ∙ ap (λ (b : Bool). unless b start (turned (later text 1) (takes s) (record { start = start; bytes = g }) (groupsFrom text end) (wordOf g))) (only-owed n takes c k s)
+        ∙ leaves text (takes s))
+
+    pub done-fault : {x : SectionRead} {f : Refusal} → x ≡ record { next = next.End (verdict.Refused f start); surface = s } → u ≡ turn.Refused f → SectionDone text from n earlier x
+    done-fault p e = hands p (λ takes. reads-fault (firstPart n takes) (later text 1) text c k s at follows cut is e)
+
+    module _ {i j : ℕ} (e : u ≡ turn.At i j) where
+      pub done-bad : {x : SectionRead} {f : Refusal} → x ≡ record { next = next.End (verdict.Refused f start); surface = s } → placeAt (row n) i .read j g s ≡ Bad f → SectionDone text from n earlier x
+      done-bad p bad = hands p (λ takes. reads-bad (firstPart n takes) (later text 1) text c k s at follows cut is e bad)
+
+      pub goes-on : {s′ : Surface} {p : ℕ} → placeAt (row n) i .read j g s ≡ Good s′ → p ≡ onward (row n) i
+          → (takes : Surface → Synop) → reading (firstPart n takes) (later text 1) text 0 0 earlier from ≡ reading (firstPart n takes) (later text 1) text p (j + 1) s′ end
+      goes-on good past takes = inv takes ∙ reads-on (firstPart n takes) (later text 1) text c k s at follows cut is e good past
 
 -- ---- the row
 
@@ -80,7 +151,7 @@ said-bad n i k g s says e = says k s ∙ rw e
 
 -- whatever is no refusal is added
 abbrev pub right : List ℕ
-right = 1 ∷ 2 ∷ 3 ∷ 4 ∷ 5 ∷ 6 ∷ 7 ∷ 8 ∷ 9 ∷ 10 ∷ 11 ∷ 12 ∷ 13 ∷ 14 ∷ 15 ∷ []
+right = 1 ∷ 2 ∷ 3 ∷ 4 ∷ 5 ∷ 6 ∷ 7 ∷ 8 ∷ 9 ∷ 10 ∷ 11 ∷ 12 ∷ 13 ∷ 14 ∷ 15 ∷ 16 ∷ []
 
 pub added : (x : Said) → OneOf right (tagOf saids.the-type x) → (s : Surface) → withSaid x s ≡ Good (saidOnto x s)
 unfolding withSaid
@@ -100,6 +171,7 @@ added (said.Rainfall f) told s = refl
 added (said.Weather w) told s = refl
 added (said.Clouds c) told s = refl
 added (said.Clock c) told s = refl
+added (said.Layer l) told s = refl
 
 pub said-good : (n : Needs) (i k : ℕ) (g : Group) (s : Surface) (x : Said) {y : Surface} → Says n i g x → OneOf right (tagOf saids.the-type x) → y ≡ saidOnto x s
     → placeAt (row n) i .read k g s ≡ Good y

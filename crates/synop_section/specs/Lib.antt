@@ -1,2 +1,2 @@
-pub mod Section
 pub mod Answer
+pub mod Section

@@ -1,5 +1,6 @@
 // The answer to a text: accepted, with the record and where the unread rest begins, or refused, with a blank record.
 use crate::kinds::Reading;
+use record::blank_surface::blank_section3;
 use record::blank_surface::blank_site;
 use record::blank_surface::blank_surface;
 use record::blank_surface::blank_synop;
@@ -16,10 +17,12 @@ pub fn begin(ship: bool) -> Synop
 {
     let site = blank_site();
     let surface = blank_surface();
+    let section3 = blank_section3();
     Synop {
         ship,
         site,
         surface,
+        section3,
     }
 }
 

@@ -9,8 +9,14 @@ pub struct Reading {
     pub report: Synop,
 }
 
-// What is read of section 1: the verdict on the text, and the surface that it accepts.
+// What follows section 1: the end of the reading, or section 3, `at` behind 333.
+pub enum Next {
+    End(Verdict),
+    Section3 { at: usize },
+}
+
+// What is read of section 1: the surface, and what follows it.
 pub struct SectionRead {
-    pub verdict: Verdict,
+    pub next: Next,
     pub surface: Surface,
 }

@@ -1,5 +1,6 @@
 // Section 1 after Nddff: 00fff and the groups 1 to 9, each read at its place of the row, up to a stop word or the end.
 use crate::answer;
+use crate::kinds::Next;
 use crate::kinds::Reading;
 use crate::kinds::SectionRead;
 use places::kinds::Turn;
@@ -8,26 +9,28 @@ use record::surface::Surface;
 use record::surface::Synop;
 use record::surface::Wind;
 use record::values::Speed;
+use section3::read::read_section3;
 use synop_groups::kinds::Said;
 use synop_groups::read;
 use synop_row::kinds::Needs;
 use synop_row::row;
 use text::kinds::Cut;
 use text::kinds::Refusal;
-use text::kinds::Tail;
 use text::kinds::Verdict;
 ghost use mathlib.Core.Path.{_≡_};
-ghost use lib.ListN.{length};
+ghost use lib.ListN.{length, drop};
 ghost use Rattle.text.specs.declared.kinds.Verdict.the-variants as verdict;
 ghost use Rattle.text.specs.Text.{tailOf};
 ghost use Rattle.text.specs.Groups.{groupsFrom};
 ghost use Rattle.shapes.specs.Pattern.{hasAny};
-ghost use Rattle.places.specs.Engine.{closed, over, run};
-ghost use Rattle.places.specs.Answer.{outcomeOf};
+ghost use Rattle.places.specs.Seek.{owed};
+ghost use Rattle.places.specs.Engine.{mustsOf};
+ghost use Rattle.places.specs.Answer.{endVerdict};
 ghost use Rattle.places.specs.Turn.{turnAt};
 ghost use Rattle.synop_row.specs.Row.{row, stopWords};
 ghost use Rattle.synop_section.specs.Answer.{section, answer};
-ghost use Rattle.synop_section.specs.Section.{Says, saidOnto, Ends};
+ghost use Rattle.synop_section.specs.Section.{Says, saidOnto, Leaves, SectionDone};
+ghost use Rattle.synop_section.specs.declared.kinds.Next.the-variants as next;
 
 // What the group says at its place.
 fn said_at(place: usize, needs: Needs, g: &[u8]) -> Said
@@ -94,53 +97,50 @@ fn decide(needs: Needs, place: usize, count: usize, g: &[u8]) -> Turn
     turn_by(row::find(needs, place, count, g))
 }
 
-// Reading ends at a position of the text: a required group is absent, or the unread rest begins there.
-fn close(at: usize, needs: Needs, place: usize, count: usize) -> Verdict
-    ensures { λ v. ⌜ Ends v (closed (row needs) at place count) ⌝ }
+// A stop word, from `start` up to `end`: a required group is absent, section 3 follows, or the unread rest begins at the word.
+fn leave(g: &[u8], start: usize, end: usize, needs: Needs, place: usize, count: usize) -> Next
+    ensures { λ x. ⌜ Leaves (now (g .entry)) start end needs place count x ⌝ }
 {
     let must = row::musts_of(needs);
     if places::is_owed(&must, place, count) {
-        Verdict::Refused {
+        return Next::End(Verdict::Refused {
             refusal: Refusal::Absence,
-            place: at,
-        }
+            place: start,
+        });
+    }
+    if row::is_section3(g) {
+        Next::Section3 { at: end }
     } else {
-        Verdict::Accepted { rest: at }
+        Next::End(Verdict::Accepted { rest: start })
     }
 }
 
 // The groups are over: what follows the "=" is refused first, an absence last.
-fn finish(text: &[u8], needs: Needs, place: usize, count: usize) -> Verdict
-    ensures { λ v. ⌜ Ends v (over (row needs) (tailOf (now (text .entry))) (length (now (text .entry))) place count) ⌝ }
+fn finish(text: &[u8], needs: Needs, place: usize, count: usize) -> Next
+    ensures { λ x. ⌜ x ≡ next.End (endVerdict (tailOf (now (text .entry))) (length (now (text .entry))) (owed count (drop place (mustsOf (row needs))))) ⌝ }
 {
-    let tail = text::tail(text);
-    match tail {
-        Tail::Junk(junk) => Verdict::Refused {
-            refusal: Refusal::Shape,
-            place: junk,
-        },
-        Tail::Clear => close(text.len(), needs, place, count),
-    }
+    let must = row::musts_of(needs);
+    Next::End(places::end_verdict(text, places::is_owed(&must, place, count)))
 }
 
-// ---- the surface with the verdict, which the loop hands over in one piece
+// ---- the surface with what follows it, which the loop hands over in one piece
 
-fn end_section(verdict: Verdict, surface: Surface) -> SectionRead
-    ensures { λ r. ⌜ r ≡ record { verdict = verdict; surface = surface } ⌝ }
+fn end_section(next: Next, surface: Surface) -> SectionRead
+    ensures { λ r. ⌜ r ≡ record { next = next; surface = surface } ⌝ }
 {
-    SectionRead { verdict, surface }
+    SectionRead { next, surface }
 }
 
 fn refuse_section(refusal: Refusal, place: usize, surface: Surface) -> SectionRead
-    ensures { λ r. ⌜ r ≡ record { verdict = verdict.Refused refusal place; surface = surface } ⌝ }
+    ensures { λ r. ⌜ r ≡ record { next = next.End (verdict.Refused refusal place); surface = surface } ⌝ }
 {
-    end_section(Verdict::Refused { refusal, place }, surface)
+    end_section(Next::End(Verdict::Refused { refusal, place }), surface)
 }
 
 // The groups of section 1 from a position of the text on. The surface is the loop's own: what each group says goes into it, and nothing of it is asked to
 // find the group's place.
 fn read_groups(text: &[u8], from: usize, needs: Needs, earlier: Surface) -> SectionRead
-    ensures { λ r. ⌜ outcomeOf (r .verdict) (r .surface) ≡ run (row needs) stopWords (tailOf (now (text .entry))) (length (now (text .entry))) 0 0 earlier (groupsFrom (now (text .entry)) from) ⌝ }
+    ensures { λ r. ⌜ SectionDone (now (text .entry)) from needs earlier r ⌝ }
 {
     let mut surface = earlier;
     let mut place = 0;
@@ -153,7 +153,9 @@ fn read_groups(text: &[u8], from: usize, needs: Needs, earlier: Surface) -> Sect
         let g = text::part(text, start, end);
         let turn = decide(needs, place, count, g);
         match turn {
-            Turn::Halt => return end_section(close(start, needs, place, count), surface),
+            Turn::Halt => {
+                return end_section(leave(g, start, end, needs, place, count), surface);
+            }
             Turn::Refused(refusal) => return refuse_section(refusal, start, surface),
             Turn::At {
                 place: there,
@@ -173,16 +175,25 @@ fn read_groups(text: &[u8], from: usize, needs: Needs, earlier: Surface) -> Sect
     end_section(finish(text, needs, place, count), surface)
 }
 
-// Section 1 from a position of the text on. The report is put together once, behind the loop, so that the loop copies none.
+// Section 1 from a position of the text on, and section 3 where it follows. The report is put together once, behind the loops, so that they copy none.
 pub fn read_section(text: &[u8], from: usize, report: Synop) -> Reading
     ensures { λ r. ⌜ r ≡ answer (section report (tailOf (now (text .entry))) (length (now (text .entry))) (groupsFrom (now (text .entry)) from)) ⌝ }
 {
     let earlier = report.surface;
     let needs = row::needs_of(earlier);
     let read = read_groups(text, from, needs, earlier);
-    let verdict = read.verdict;
+    let next = read.next;
     let surface = read.surface;
     let mut r = report;
     r.surface = surface;
-    answer::by_verdict(verdict, r)
+    match next {
+        Next::End(verdict) => answer::by_verdict(verdict, r),
+        Next::Section3 { at } => {
+            let third = read_section3(text, at);
+            let verdict = third.verdict;
+            let section3 = third.section3;
+            r.section3 = section3;
+            answer::by_verdict(verdict, r)
+        }
+    }
 }

@@ -1,7 +1,9 @@
 // What the writer judges of a record before it writes anything: foreign fields first, then the others in written order.
+use record::surface::Section3;
 use record::surface::Site;
 use record::surface::Surface;
 use record::surface::Synop;
+use section3::judge::judge_section3;
 use synop_groups_judge::judge::judge_air;
 use synop_groups_judge::judge::judge_clock;
 use synop_groups_judge::judge::judge_clouds;
@@ -25,6 +27,8 @@ use text::kinds::Refusal;
 ghost use mathlib.Core.Path.{_≡_};
 ghost use mathlib.Core.Bool.{cond, not, _&&_};
 ghost use Rattle.text.specs.declared.kinds.Judged.the-variants as judged;
+ghost use Rattle.text.specs.Judge.{andThen};
+ghost use Rattle.section3.specs.Write.{judgeSection3};
 ghost use Rattle.record.specs.Missing.{isMissing};
 ghost use Rattle.record.specs.SilentSurface.{noSign, noPosition};
 ghost use Rattle.synop.specs.Write.{foreignBlank, foreign, judgeSite, judgeSection, judgeSurface, judgeOf};
@@ -52,7 +56,8 @@ fn foreign_blank(r: Synop) -> bool
     let site = r.site;
     let nil = site.nil;
     let surface = r.surface;
-    site_suits(ship, site) & (!nil | surface.is_blank())
+    let section3 = r.section3;
+    site_suits(ship, site) & (!nil | (surface.is_blank() & section3.is_blank()))
 }
 
 fn judge_foreign(r: Synop) -> Judged
@@ -115,11 +120,15 @@ fn judge_surface(s: Surface) -> Judged
     and_then(judge_indicators(indicators), blown)
 }
 
-// A NIL report has no surface to judge.
-fn judge_rest(nil: bool, s: Surface) -> Judged
-    ensures { λ j. ⌜ j ≡ cond nil judged.Fine (judgeSurface s) ⌝ }
+// A NIL report has no surface and no section 3 to judge.
+fn judge_rest(nil: bool, s: Surface, x: Section3) -> Judged
+    ensures { λ j. ⌜ j ≡ cond nil judged.Fine (andThen (judgeSurface s) (judgeSection3 x)) ⌝ }
 {
-    if nil { Judged::Fine } else { judge_surface(s) }
+    if nil {
+        Judged::Fine
+    } else {
+        and_then(judge_surface(s), judge_section3(x))
+    }
 }
 
 pub fn judge(r: Synop) -> Judged
@@ -128,6 +137,7 @@ pub fn judge(r: Synop) -> Judged
     let site = r.site;
     let nil = site.nil;
     let surface = r.surface;
-    let stood = and_then(judge_site(r), judge_rest(nil, surface));
+    let section3 = r.section3;
+    let stood = and_then(judge_site(r), judge_rest(nil, surface, section3));
     and_then(judge_foreign(r), stood)
 }

@@ -1,8 +1,10 @@
 // A record written as its canonical text, over a lent buffer: all of it, or nothing.
 use crate::judge::judge;
+use record::surface::Section3;
 use record::surface::Site;
 use record::surface::Surface;
 use record::surface::Synop;
+use section3::write::put_section3;
 use synop_groups_write::write::put_air;
 use synop_groups_write::write::put_clock;
 use synop_groups_write::write::put_clouds;
@@ -38,6 +40,7 @@ ghost use Rattle.places.specs.Engine.{written as groupsAt};
 ghost use Rattle.text.specs.declared.kinds.Judged.the-variants as judged;
 ghost use Rattle.synop_groups.specs.Shows.{showTime, showStation, showSign, showLatitude, showLongitude};
 ghost use Rattle.synop_row.specs.Row.{row};
+ghost use Rattle.section3.specs.Write.{showSection3};
 ghost use Rattle.synop.specs.Write.{judgeOf, siteGroups, surfaceGroups, groupsOf, writtenOf, bufferOf};
 
 // AAXX YYGGiw IIiii
@@ -116,14 +119,15 @@ fn put_surface(out: &mut [u8], at: usize, s: Surface) -> usize
     put_section(out, blown, needs, s)
 }
 
-// NIL, or the surface.
-fn put_rest(out: &mut [u8], at: usize, nil: bool, s: Surface) -> usize
-    ensures { λ r. ⌜ Put (now (out .entry)) at (written at (cond nil (bytes "NIL" ∷ []) (surfaceGroups s))) r (now (out .exit)) ⌝ }
+// NIL, or the surface and section 3.
+fn put_rest(out: &mut [u8], at: usize, nil: bool, s: Surface, x: Section3) -> usize
+    ensures { λ r. ⌜ Put (now (out .entry)) at (written at (cond nil (bytes "NIL" ∷ []) (surfaceGroups s ++ showSection3 x))) r (now (out .exit)) ⌝ }
 {
     if nil {
         put_group(out, at, b"NIL")
     } else {
-        put_surface(out, at, s)
+        let told = put_surface(out, at, s);
+        put_section3(out, told, x)
     }
 }
 
@@ -134,17 +138,18 @@ fn put_report(out: &mut [u8], r: Synop) -> usize
     let site = r.site;
     let nil = site.nil;
     let surface = r.surface;
+    let section3 = r.section3;
     let placed = put_site(out, r);
-    let told = put_rest(out, placed, nil, surface);
+    let told = put_rest(out, placed, nil, surface, section3);
     close_report(out, told)
 }
 
-// A record that is judged fine: its text, at most 105 bytes, is made first, so that its length is known before the lent buffer is touched.
+// A record that is judged fine: its text, at most 145 bytes, is made first, so that its length is known before the lent buffer is touched.
 fn write_fine(r: Synop, out: &mut [u8]) -> Written
     requires { ⌜ judgeOf r ≡ judged.Fine ⌝ }
     ensures { λ w. ⌜ (w ≡ writtenOf r (length (now (out .entry)))) × (now (out .exit) ≡ bufferOf r (now (out .entry))) ⌝ }
 {
-    let mut text = [0u8; 128];
+    let mut text = [0u8; 160];
     let end = put_report(&mut text, r);
     deliver(&text[..end], out)
 }

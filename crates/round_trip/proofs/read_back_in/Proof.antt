@@ -23,13 +23,14 @@ arrays c =
     let r = c .args .report in
     let parts = c .good .1 .0 .1 .1 in
     let sign = parts .1 .0 .1 .1 .1 .0 .1 .1 .1 .0 in
+    let section3 = parts .1 .0 .1 .1 .1 .1 .1 .0 in
     let observation = parts .1 .1 .0 .1 .1 .0 .1 .1 in
     let runways = observation .1 .1 .1 .1 .1 .1 .1 .1 in
     let trend = parts .1 .1 .0 .1 .1 .1 .0 .1 .1 .0 in
     let leg = parts .1 .1 .1 .0 .1 .1 .1 .0 .1 .1 in
     let changes = parts .1 .1 .1 .0 .1 .1 .1 .1 .0 .1 .1 .0 in
     record {
-      sign = simp length-map at (sign .1 .1 .0 .1 .0 .1);
+      surface = record { letters = simp length-map at (sign .1 .1 .0 .1 .0 .1); layers = simp length-map at (section3 .1 .1 .1 .1 .0 .1 .1 .0 .1 .0 .1) };
       observed =
           record {
             observation =

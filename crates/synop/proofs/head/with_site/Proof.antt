@@ -16,7 +16,7 @@ use Rattle.synop.proofs.head.with_site.Tie as tie
 
 -- what names neither the place nor the time leaves the site as it is
 abbrev elsewhere : List ℕ
-elsewhere = 0 ∷ 4 ∷ 5 ∷ 6 ∷ 7 ∷ 8 ∷ 9 ∷ 10 ∷ 11 ∷ 12 ∷ 13 ∷ 14 ∷ 15 ∷ []
+elsewhere = 0 ∷ 4 ∷ 5 ∷ 6 ∷ 7 ∷ 8 ∷ 9 ∷ 10 ∷ 11 ∷ 12 ∷ 13 ∷ 14 ∷ 15 ∷ 16 ∷ []
 
 others : (x : Said) → OneOf elsewhere (tagOf says.the-type x) → (s : Site) → s ≡ siteOnto x s
 others (said.Refused f) told s = refl
@@ -35,6 +35,7 @@ others (said.Rainfall f) told s = refl
 others (said.Weather w) told s = refl
 others (said.Clouds c) told s = refl
 others (said.Clock c) told s = refl
+others (said.Layer l) told s = refl
 
 pub with-site-spec : {M : Type 1} → statement M
 with-site-spec =

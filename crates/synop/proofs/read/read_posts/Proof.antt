@@ -17,20 +17,20 @@ use Rattle.synop.proofs.read.read_posts.Statement.{statement}
 use Rattle.synop.proofs.read.read_posts.Tie as tie
 
 abbrev Inv : tie.InvT-loop
-Inv text at ship site₀ surface₀ count number₀ from₀ site surface number from =
-    (answer (walk (map postOf (named ship)) (synopOf ship site₀ surface₀) (tailOf text) (length text) (groupsFrom text at))
-    ≡ walks ship number (synopOf ship site surface) text from)
+Inv text at ship site₀ surface₀ section3 count number₀ from₀ site surface number from =
+    (answer (walk (map postOf (named ship)) (synopOf ship site₀ surface₀ section3) (tailOf text) (length text) (groupsFrom text at))
+    ≡ walks ship number (synopOf ship site surface section3) text from)
     × (count ≡ length (named ship))
 
 abbrev μ : tie.MeasureT-loop
-μ text at ship site₀ surface₀ count number₀ from₀ site surface number from = count - number
+μ text at ship site₀ surface₀ section3 count number₀ from₀ site surface number from = count - number
 
 -- in the loop a post is still to come
-here : (c : tie.In-loop Inv μ) → c .before .loop .number < length (named (c .before .before .before .before .before .before .args .report .ship))
+here : (c : tie.In-loop Inv μ) → c .before .loop .number < length (named (c .before .before .before .before .before .before .before .args .report .ship))
 here c = rw (c .before .loop .inv .1) at (c .loop-test .taken)
 
 -- past the next group's cut
-follows : (c : tie.After-known-told Inv μ) → Follows (c .before .before .before .before .before .before .before .before .before .before .args .text .now) (c .before .before .before .before .before .loop .from) (c .before .start .given .0 .0) (c .before .start .given .0 .1 .0)
+follows : (c : tie.After-known-told Inv μ) → Follows (c .before .before .before .before .before .before .before .before .before .before .before .args .text .now) (c .before .before .before .before .before .loop .from) (c .before .start .given .0 .0) (c .before .start .given .0 .1 .0)
 follows c = when-group _ _ _ _ (sym (c .before .start .given .1) ∙ c .before .before .before .next-group .ensures)
 
 pub read-posts-spec : {M : Type 1} → statement M
@@ -50,7 +50,7 @@ read-posts-spec =
     c .refuse .ensures
     ∙ sym (c .before .before .before .before .before .before .before .before .before .before .before .before .before .before .before .before .before .loop .inv .0 ∙ walks-bad _ _ _ _ _ (here (c .before .before .before .before .before .before .before .before .before .before .before .before .before .before .before .before)) (follows (c .before .before .before .before .before .before .before .before .before .before .before .before)) (c .before .before .before .before .before .before .before .before .before .before .before .part .ensures) (c .before .before .before .before .before .before .before .before .before .before .post-at .ensures) (sym (c .before .before .before .before .before .before .before .before .before .is-nil .ensures) ∙ c .before .before .before .before .before .before .before .before .if1 .left) (sym (c .before .before .before .before .before .before .before .has-shape .ensures) ∙ c .before .before .before .before .before .before .if2 .taken) (c .before .before .before .before .said-by .ensures) (c .before .before .said .given .1)))
     (λ c κs. search needs) (λ c κs. search needs)
-    (λ c. omega (arith, here (c .before .before .before .before .before .before .before .before .before .before .before .before .before .before .before), few-posts (c .before .before .before .before .before .before .before .before .before .before .before .before .before .before .before .before .before .before .before .before .before .args .report .ship)))
+    (λ c. omega (arith, here (c .before .before .before .before .before .before .before .before .before .before .before .before .before .before .before), few-posts (c .before .before .before .before .before .before .before .before .before .before .before .before .before .before .before .before .before .before .before .before .before .before .args .report .ship)))
     (λ c. omega (arith, c .before .before .before .before .before .before .before .before .before .before .before .before .before .before .before .loop-test .taken))
     (λ c. (
       c .before .before .before .before .before .before .before .before .before .before .before .before .before .before .before .before .loop .inv .0

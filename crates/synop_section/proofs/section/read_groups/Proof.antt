@@ -5,21 +5,22 @@ use Prim.Native.Nat.{_-_}
 use native.Mathlib.Omega.{arith}
 use mathlib.Core.Path.{_≡_, refl, sym, _∙_}
 use lib.ListN.{length}
-use Rattle.text.specs.Text.{tailOf}
-use Rattle.text.specs.Groups.{groupsFrom}
 use Rattle.text.proofs.Groups.{Follows, when-group, when-end, from-end}
 use Rattle.shapes.specs.Pattern.{hasAny}
-use Rattle.places.specs.Engine.{run}
-use Rattle.places.proofs.Going.{going}
-use Rattle.places.proofs.Loop.{turn-room, goes-on, reads-over, reads-on, reads-bad, reads-halt, reads-fault}
+use Rattle.places.proofs.Loop.{turn-room}
+use Rattle.record.specs.declared.surface.Surface.{Surface}
+use Rattle.record.specs.declared.surface.Synop.{Synop}
 use Rattle.synop_row.specs.Row.{row, stopWords}
-use Rattle.synop_section.proofs.SectionSteps.{ended, handed, row-few, row-endless, said-good, said-bad}
+use Rattle.section3.proofs.Going.{reading}
+use Rattle.synop_section.specs.Answer.{firstPart}
+use Rattle.synop_section.specs.Section.{later}
+use Rattle.synop_section.proofs.SectionSteps.{done-over, done-halt, done-fault, done-bad, goes-on, row-few, row-endless, said-good, said-bad}
 use Rattle.synop_section.proofs.section.read_groups.Statement.{statement}
 use Rattle.synop_section.proofs.section.read_groups.Tie as tie
 
 abbrev Inv : tie.InvT-loop
-Inv text from needs surface₀ place₀ count₀ at₀ surface place count at =
-    run (row needs) stopWords (tailOf text) (length text) 0 0 surface₀ (groupsFrom text from) ≡ goes-on ended (row needs) stopWords text place count surface at
+Inv text from needs surface₀ place₀ count₀ at₀ surface place count at = (takes : Surface → Synop)
+    → reading (firstPart needs takes) (later text 1) text 0 0 surface₀ from ≡ reading (firstPart needs takes) (later text 1) text place count surface at
 
 abbrev μ : tie.MeasureT-loop
 μ text from needs surface₀ place₀ count₀ at₀ surface place count at = length text - at
@@ -32,19 +33,19 @@ pub read-groups-spec : {M : Type 1} → statement M
 read-groups-spec =
     tie.close
     (tie.spec Inv μ
-    (λ c. unfold goes-on going in refl)
+    (λ c takes. refl)
     (λ c κs. search needs) (λ c. search needs) (λ c. search needs) (λ c κs. search needs) (λ c κs. search needs)
-    (λ c. handed (c .end-section .ensures) (c .before .finish .ensures _ ∙ sym (c .before .before .before .before .before .before .loop .inv ∙ reads-over ended (row _) stopWords _ _ _ _ _ (when-end _ _ _ (sym (c .before .before .enum-told .given .1) ∙ c .before .before .before .before .next-group .ensures)))))
+    (λ c. done-over _ _ _ _ _ _ _ _ (c .before .before .before .before .before .before .loop .inv) (c .end-section .ensures) (c .before .finish .ensures) (when-end _ _ _ (sym (c .before .before .enum-told .given .1) ∙ c .before .before .before .before .next-group .ensures)))
     (λ c κs. search needs) (λ c κs. search needs) (λ c. search needs) (λ c κs. search needs) (λ c κs. search needs)
-    (λ c. handed (c .end-section2 .ensures) (c .before .close .ensures _ ∙ sym (c .before .before .before .before .before .before .before .before .before .before .before .loop .inv ∙ reads-halt ended (row _) stopWords _ _ _ _ _ (follows (c .before .before .before .before .before .before)) (c .before .before .before .before .before .part .ensures) (c .before .before .before .before .decide .ensures) (c .before .before .enum-told2 .given .1))))
+    (λ c. done-halt _ _ _ _ _ _ _ _ (c .before .before .before .before .before .before .before .before .before .before .before .loop .inv) (follows (c .before .before .before .before .before .before)) (c .before .before .before .before .before .part .ensures) (c .before .before .before .before .decide .ensures) (c .end-section2 .ensures) (c .before .before .enum-told2 .given .1) (c .before .leave .ensures))
     (λ c. search needs) (λ c κs. search needs)
-    (λ c. handed (c .refuse-section .ensures) (sym (c .before .before .before .before .before .before .before .before .before .before .before .loop .inv ∙ reads-fault ended (row _) stopWords _ _ _ _ _ (follows (c .before .before .before .before .before .before)) (c .before .before .before .before .before .part .ensures) (c .before .before .before .before .decide .ensures) (c .before .before .turn .given .1))))
+    (λ c. done-fault _ _ _ _ _ _ _ _ (c .before .before .before .before .before .before .before .before .before .before .before .loop .inv) (follows (c .before .before .before .before .before .before)) (c .before .before .before .before .before .part .ensures) (c .before .before .before .before .decide .ensures) (c .refuse-section .ensures) (c .before .before .turn .given .1))
     (λ c. search needs) (λ c κs. search needs) (λ c. search needs) (λ c κs. search needs)
     (λ c.
-    handed (c .refuse-section2 .ensures) (sym (c .before .before .before .before .before .before .before .before .before .before .before .before .before .before .before .loop .inv ∙ reads-bad ended (row _) stopWords _ _ _ _ _ (follows (c .before .before .before .before .before .before .before .before .before .before)) (c .before .before .before .before .before .before .before .before .before .part .ensures) (c .before .before .before .before .before .before .before .before .decide .ensures) (c .before .before .before .before .before .before .turn2 .given .1) (said-bad _ _ _ _ _ (c .before .before .before .before .said-at .ensures) (c .before .before .said .given .1)))))
+    done-bad _ _ _ _ _ _ _ _ (c .before .before .before .before .before .before .before .before .before .before .before .before .before .before .before .loop .inv) (follows (c .before .before .before .before .before .before .before .before .before .before)) (c .before .before .before .before .before .before .before .before .before .part .ensures) (c .before .before .before .before .before .before .before .before .decide .ensures) (c .before .before .before .before .before .before .turn2 .given .1) (c .refuse-section2 .ensures) (said-bad _ _ _ _ _ (c .before .before .before .before .said-at .ensures) (c .before .before .said .given .1)))
     (λ c κs. search needs)
     (λ c. omega (arith, turn-room (row _) (hasAny stopWords) _ _ _ 1 (row-few _) (c .before .before .before .before .before .before .decide .ensures) (c .before .before .before .before .turn2 .given .1)))
     (λ c. omega (arith, follows (c .before .before .before .before .before .before .before .before)))
-    (λ c. c .before .before .before .before .before .before .before .before .before .before .before .before .before .loop .inv ∙ reads-on ended (row _) stopWords _ _ _ _ _ (follows (c .before .before .before .before .before .before .before .before)) (c .before .before .before .before .before .before .before .part .ensures) (c .before .before .before .before .before .before .decide .ensures) (c .before .before .before .before .turn2 .given .1) (said-good _ _ _ _ _ _ (c .before .before .said-at .ensures) (c .before .match3 .keys2) (c .with-said .ensures)) (row-endless _ _))
+    (λ c. goes-on _ _ _ _ _ _ _ _ (c .before .before .before .before .before .before .before .before .before .before .before .before .before .loop .inv) (follows (c .before .before .before .before .before .before .before .before)) (c .before .before .before .before .before .before .before .part .ensures) (c .before .before .before .before .before .before .decide .ensures) (c .before .before .before .before .turn2 .given .1) (said-good _ _ _ _ _ _ (c .before .before .said-at .ensures) (c .before .match3 .keys2) (c .with-said .ensures)) (row-endless _ _))
     (λ c κs. search needs) (λ c κs. search needs)
-    (λ c. handed (c .end-section3 .ensures) (c .before .finish2 .ensures _ ∙ sym (c .before .before .before .loop .inv ∙ reads-over ended (row _) stopWords _ _ _ _ _ (from-end _ _ (c .before .before .loop-test .left))))))
+    (λ c. done-over _ _ _ _ _ _ _ _ (c .before .before .before .loop .inv) (c .end-section3 .ensures) (c .before .finish2 .ensures) (from-end _ _ (c .before .before .loop-test .left))))

@@ -19,9 +19,9 @@ use Rattle.synop_section.proofs.section.with_said.Tie as tie
 by : (s : Surface) {x y : Said} → x ≡ y → saidOnto y s ≡ saidOnto x s
 by s q = rw q
 
--- a refusal, and what names the time and place, leave the surface as it is
+-- a refusal, what names the time and place, and a layer of section 3 leave the surface as it is
 abbrev elsewhere : List ℕ
-elsewhere = 0 ∷ 1 ∷ 2 ∷ 3 ∷ []
+elsewhere = 0 ∷ 1 ∷ 2 ∷ 3 ∷ 16 ∷ []
 
 others : (x : Said) → OneOf elsewhere (tagOf says.the-type x) → (s : Surface) → s ≡ saidOnto x s
 unfolding withSaid
@@ -41,6 +41,7 @@ others (said.Rainfall r) told s = absurd (miss elsewhere 12 tt told)
 others (said.Weather w) told s = absurd (miss elsewhere 13 tt told)
 others (said.Clouds c) told s = absurd (miss elsewhere 14 tt told)
 others (said.Clock c) told s = absurd (miss elsewhere 15 tt told)
+others (said.Layer l) told s = refl
 
 pub with-said-spec : {M : Type 1} → statement M
 with-said-spec =

@@ -8,5 +8,5 @@ pub foreign-blank-spec : {M : Type 1} → statement M
 foreign-blank-spec =
     tie.close
     (tie.spec
-    (λ c κs. tt) (λ c κs. tt)
-    (λ c. unfold foreignBlank in rw (c .before .site-suits .ensures, c .is-blank .ensures)))
+    (λ c κs. tt) (λ c κs. tt) (λ c κs. tt)
+    (λ c. unfold foreignBlank in rw (c .before .before .site-suits .ensures, c .before .is-blank .ensures, c .is-blank2 .ensures)))
