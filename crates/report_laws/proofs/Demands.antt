@@ -60,6 +60,8 @@ use Rattle.report.specs.Read.{answered, readIn, restPlaceIn, restIn}
 use Rattle.report.specs.Write.{judgeIn, canonicalOf, classedOf, writtenIn, bufferIn}
 use Rattle.report_laws.proofs.ByName.{surfaceWord, observedWord, forecastWord, Named, SurfaceText, ObservedText, ForecastText, read-surface, read-observed, read-forecast, Which, by-surface, by-observed, by-forecast, by-none, which, AcceptedAs, accepted-as, as-surface, as-observed, as-forecast, RefusedAs, refused-as, as-refused}
 use Rattle.report_laws.proofs.Causes.{Caused, fine, bad-value, disagreeing, causes}
+use Rattle.report_laws.proofs.Listed.{ListedCause, refusedBy, First, Holds}
+use Rattle.report_laws.proofs.ReportCauses.{Field, writerCauses, refused-listed, listed-refused, each-listed}
 use Rattle.report_laws.proofs.Placed.{one-or-more, Placed, At, at-place, Within, groups-within, tail-within}
 use Rattle.report_laws.proofs.Faults.{surface-placed, observed-placed, forecast-placed, NamePlaced, name-placed}
 use Rattle.report_laws.proofs.Numbers.{Table, footOn, classOn, numbersOf, temperaturesOf, pressuresOf, classUnitSpeed, noUnitSpeed, speedsOf, directionsOf, rainsOf, DownOn, down-on, NumberOrder, TenthsOrder, SpeedOrder, RainOrder, InOrder, in-order, class-order, temperature-order, qnh-order, class-speed-order}
@@ -220,6 +222,18 @@ unfolding writtenIn judgeIn canonicalOf
 each-cause chosen r b _ (value j) = rw j
 each-cause chosen r b _ (disagreement j) = rw j
 each-cause chosen r b _ (room j h) = rw (j, lt-leb (length (canonicalOf r)) (length b) h)
+
+-- The causes in the paper's words, each with the field or the group that it is about, in the order of judging (`writerCauses`): the writer refuses for the first
+-- of them that holds, by its number, and for nothing else.
+pub listed-exactly : (chosen : Edition) (r : Report) (b : List ℕ) (f : Refusal)
+    → Exactly (writtenIn chosen r (length b) ≡ answer.Refused f) ((c : ListedCause Field) × First (writerCauses chosen r (length b)) c × (refusedBy c ≡ f))
+listed-exactly chosen r b f =
+    record { only = refused-listed chosen r (length b) f; all = λ (c, x, is). listed-refused chosen r (length b) c x ∙ ap answer.Refused is }
+
+-- and where any of them holds, it refuses
+pub any-listed : (chosen : Edition) (r : Report) (b : List ℕ) (c : ListedCause Field) → Holds (writerCauses chosen r (length b)) c
+    → (f : Refusal) × (writtenIn chosen r (length b) ≡ answer.Refused f)
+any-listed chosen r b c x = let (d, y, e) = each-listed chosen r (length b) c x in (refusedBy d, e)
 
 -- In the paper's numbers: a record is written (0), with no more bytes than the buffer has, or refused by 7, 10 or 11.
 pub record InBuffer (n : ℕ) (x : AnswerNumbers) : Type 0 where
@@ -410,7 +424,7 @@ module _ (chosen : Edition) (r : Report) (b : List ℕ) (n : ℕ) (arrays : Arra
       let text = counted-text chosen r b n wrote in
       record { reading = written-read; rest = ap (restIn chosen) text ∙ accepted-whole chosen r arrays fine .1; comes-back = rw text (all-back chosen r arrays fine) }
 
--- no further off than document 01 states for the class, never greater, the last class open above; on the six scales in metres
+-- no further off than document 01 states for the class, never greater, the last class open above; on every scale that rounds down
 pub how-far : (t : Table) (v : ℕ) → DownOn t v (footOn t v)
 how-far = down-on
 
