@@ -1,0 +1,2 @@
+-- The laws for other crates.
+pub mod Body

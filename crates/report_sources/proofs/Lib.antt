@@ -1,0 +1,2 @@
+-- The theorems: where each item was read from.
+pub mod Provenance
