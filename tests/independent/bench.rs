@@ -551,7 +551,8 @@ fn main() {
     let [metar, trend, state] = by_parts(metar);
     let valid = [synop, ship, metar, trend, state, taf, third];
     let mut rows = valid_rows(&valid);
-    rows.extend(refused_rows(&valid));
+    // in section 3 a last group that no place takes ends the reading, and no text is refused for it
+    rows.extend(refused_rows(&valid[..6]));
     rows.extend(growth_rows());
     let mut heights = codes_rows();
     for round in 0..rounds {
