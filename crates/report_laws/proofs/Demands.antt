@@ -59,9 +59,8 @@ use Rattle.report_record.specs.Record.{blankReport, surfaceReport, observedRepo
 use Rattle.report.specs.Read.{answered, readIn, restPlaceIn, restIn}
 use Rattle.report.specs.Write.{judgeIn, canonicalOf, classedOf, writtenIn, bufferIn}
 use Rattle.report_laws.proofs.ByName.{surfaceWord, observedWord, forecastWord, Named, SurfaceText, ObservedText, ForecastText, read-surface, read-observed, read-forecast, Which, by-surface, by-observed, by-forecast, by-none, which, AcceptedAs, accepted-as, as-surface, as-observed, as-forecast, RefusedAs, refused-as, as-refused}
-use Rattle.report_laws.proofs.Causes.{Caused, fine, bad-value, disagreeing, causes}
-use Rattle.report_laws.proofs.Listed.{ListedCause, refusedBy, First, Holds}
-use Rattle.report_laws.proofs.ReportCauses.{Field, writerCauses, refused-listed, listed-refused, each-listed}
+use Rattle.report_laws.proofs.Listed.{ListedCause, refusedBy, seven-or-eleven, First, Holds, some-first, refused-for, first-refuses}
+use Rattle.report_laws.proofs.ReportCauses.{Field, causesIn, report-judged}
 use Rattle.report_laws.proofs.Placed.{one-or-more, Placed, At, at-place, Within, groups-within, tail-within}
 use Rattle.report_laws.proofs.Faults.{surface-placed, observed-placed, forecast-placed, NamePlaced, name-placed}
 use Rattle.report_laws.proofs.Numbers.{Table, footOn, classOn, numbersOf, temperaturesOf, pressuresOf, classUnitSpeed, noUnitSpeed, speedsOf, directionsOf, rainsOf, DownOn, down-on, NumberOrder, TenthsOrder, SpeedOrder, RainOrder, InOrder, in-order, class-order, temperature-order, qnh-order, class-speed-order}
@@ -194,46 +193,52 @@ refused-numbers chosen t f at = record { only = λ e. refused-as (go (readIn cho
         let there : p ≡ at = cc in
         rw (is, there)
 
--- The writer refuses 11 and 7 as judged, and 10 where "the buffer is shorter than the canonical text, and not otherwise".
+-- THE CAUSES for which the writer refuses: the first that holds of those that the paper lists for a record, each with the field or the group that it is about, in
+-- the order of judging (`causesIn`); "and 10 last", where "the buffer is shorter than the canonical text, and not otherwise".
 pub data Cause (chosen : Edition) (r : Report) (b : List ℕ) : Refusal → Type 0 where
-  value : judgeIn chosen r ≡ judged.Refused refusal.Value → Cause chosen r b refusal.Value
-  disagreement : judgeIn chosen r ≡ judged.Refused refusal.Disagreement → Cause chosen r b refusal.Disagreement
-  room : judgeIn chosen r ≡ judged.Fine → length b < length (canonicalOf r) → Cause chosen r b refusal.Room
+  listed : (c : ListedCause Field) → First (causesIn chosen r) c → Cause chosen r b (refusedBy c)
+  short-buffer : judgeIn chosen r ≡ judged.Fine → length b < length (canonicalOf r) → Cause chosen r b refusal.Room
 
 pub only-causes : (chosen : Edition) (r : Report) (b : List ℕ) (f : Refusal) → writtenIn chosen r (length b) ≡ answer.Refused f → Cause chosen r b f
 unfolding writtenIn judgeIn canonicalOf
-only-causes chosen r b f e = go (judgeIn chosen r) refl (causes chosen r) e
+only-causes chosen r b f e = go (judgeIn chosen r) refl e
   where
     short : (c : Bool) → leb (length (canonicalOf r)) (length b) ≡ c → judgeIn chosen r ≡ judged.Fine
         → cond c (answer.Count (length (canonicalOf r))) (answer.Refused refusal.Room) ≡ answer.Refused f → Cause chosen r b f
     short true t j e = impossible (cc)
     short false t j e =
         let g : refusal.Room ≡ f = cc in
-        rw (← g) (room j (leb-false (length (canonicalOf r)) (length b) t))
+        rw (← g) (short-buffer j (leb-false (length (canonicalOf r)) (length b) t))
 
-    go : (j : Judged) → judgeIn chosen r ≡ j → Caused j → answerBy j (canonicalOf r) (length b) ≡ answer.Refused f → Cause chosen r b f
-    go _ j fine e = short (leb (length (canonicalOf r)) (length b)) refl j e
-    go _ j bad-value e = let g : refusal.Value ≡ f = cc in rw (← g) (value j)
-    go _ j disagreeing e = let g : refusal.Disagreement ≡ f = cc in rw (← g) (disagreement j)
+    go : (j : Judged) → judgeIn chosen r ≡ j → answerBy j (canonicalOf r) (length b) ≡ answer.Refused f → Cause chosen r b f
+    go judged.Fine j e = short (leb (length (canonicalOf r)) (length b)) refl j e
+    go (judged.Refused g) j e =
+        let (c, x, is) = refused-for (report-judged chosen r) g j in
+        let same : refusedBy c ≡ f = cc in
+        rw (← same) (listed c x)
 
 -- and where there is a cause, it refuses
 pub each-cause : (chosen : Edition) (r : Report) (b : List ℕ) (f : Refusal) → Cause chosen r b f → writtenIn chosen r (length b) ≡ answer.Refused f
 unfolding writtenIn judgeIn canonicalOf
-each-cause chosen r b _ (value j) = rw j
-each-cause chosen r b _ (disagreement j) = rw j
-each-cause chosen r b _ (room j h) = rw (j, lt-leb (length (canonicalOf r)) (length b) h)
+each-cause chosen r b _ (listed c x) = rw (first-refuses (report-judged chosen r) x)
+each-cause chosen r b _ (short-buffer j h) = rw (j, lt-leb (length (canonicalOf r)) (length b) h)
 
--- The causes in the paper's words, each with the field or the group that it is about, in the order of judging (`writerCauses`): the writer refuses for the first
--- of them that holds, by its number, and for nothing else.
-pub listed-exactly : (chosen : Edition) (r : Report) (b : List ℕ) (f : Refusal)
-    → Exactly (writtenIn chosen r (length b) ≡ answer.Refused f) ((c : ListedCause Field) × First (writerCauses chosen r (length b)) c × (refusedBy c ≡ f))
-listed-exactly chosen r b f =
-    record { only = refused-listed chosen r (length b) f; all = λ (c, x, is). listed-refused chosen r (length b) c x ∙ ap answer.Refused is }
+-- so for these causes and for nothing else
+pub listed-exactly : (chosen : Edition) (r : Report) (b : List ℕ) (f : Refusal) → Exactly (writtenIn chosen r (length b) ≡ answer.Refused f) (Cause chosen r b f)
+listed-exactly chosen r b f = record { only = only-causes chosen r b f; all = each-cause chosen r b f }
 
--- and where any of them holds, it refuses
-pub any-listed : (chosen : Edition) (r : Report) (b : List ℕ) (c : ListedCause Field) → Holds (writerCauses chosen r (length b)) c
+-- and where any of those listed holds, or the buffer is too short, it refuses
+pub any-listed : (chosen : Edition) (r : Report) (b : List ℕ) (c : ListedCause Field) → Holds (causesIn chosen r) c
     → (f : Refusal) × (writtenIn chosen r (length b) ≡ answer.Refused f)
-any-listed chosen r b c x = let (d, y, e) = each-listed chosen r (length b) c x in (refusedBy d, e)
+any-listed chosen r b c x = let (d, y) = some-first x in (refusedBy d, each-cause chosen r b (refusedBy d) (listed d y))
+
+pub any-short : (chosen : Edition) (r : Report) (b : List ℕ) → length b < length (canonicalOf r) → (f : Refusal) × (writtenIn chosen r (length b) ≡ answer.Refused f)
+unfolding writtenIn judgeIn canonicalOf
+any-short chosen r b h = go (judgeIn chosen r) refl
+  where
+    go : (j : Judged) → judgeIn chosen r ≡ j → (f : Refusal) × (writtenIn chosen r (length b) ≡ answer.Refused f)
+    go judged.Fine j = (refusal.Room, each-cause chosen r b refusal.Room (short-buffer j h))
+    go (judged.Refused f) j = (f, rw j)
 
 -- In the paper's numbers: a record is written (0), with no more bytes than the buffer has, or refused by 7, 10 or 11.
 pub record InBuffer (n : ℕ) (x : AnswerNumbers) : Type 0 where
@@ -244,9 +249,10 @@ pub record-numbers : (chosen : Edition) (r : Report) (b : List ℕ) → InBuffer
 record-numbers chosen r b = go (writtenIn chosen r (length b)) refl (bufferIn chosen r b) (every-record chosen r b)
   where
     cause : {f : Refusal} → Cause chosen r b f → InBuffer (length b) (writtenNumbers (answer.Refused f))
-    cause (value j) = record { number = refl; count = omega arith }
-    cause (disagreement j) = record { number = refl; count = omega arith }
-    cause (room j h) = record { number = refl; count = omega arith }
+    cause (listed c x) =
+        seven-or-eleven (λ (f : Refusal). InBuffer (length b) (writtenNumbers (answer.Refused f)))
+        (record { number = refl; count = omega arith }) (record { number = refl; count = omega arith }) c
+    cause (short-buffer j h) = record { number = refl; count = omega arith }
 
     go : (w : Written) → writtenIn chosen r (length b) ≡ w → (l : List ℕ) → Settled chosen r b w l → InBuffer (length b) (writtenNumbers w)
     go _ e _ (done j h) = record { number = refl; count = h }

@@ -73,6 +73,57 @@ use Rattle.report.specs.Write as report-write
 abbrev answered : Edition → Reading → List ℕ
 answered e r = answerTo (verdictNumbers (r .verdict)) (writtenNumbers (report-write.writtenIn e (r .report) 2048)) (report-write.canonicalOf (r .report))
 
+-- The same, with all that it computes with: who unfolds `answerIn` has every definition unfolded by which a text is read and its record written.
+unfoldable pub answerIn : Edition → List ℕ → List ℕ
+unfolding figures.figures figures.scan figures.fieldAt figures.numberText figures.slashes figures.fieldText
+    signed.signedOf
+    bytes.lead
+    groups.groupsIn groups.groupsFrom groups.pastParting groups.spaced groups.parted groups.join
+    text.equalsAt text.bytesOf text.junkFrom text.tailOf
+    pattern.low pattern.high pattern.fits pattern.hasPattern pattern.hasAny
+    shape.leading shape.split shape.partsOf shape.begins shape.valueOf shape.pickOf shape.scanParts shape.answered shape.scanOf shape.hasShape shape.filled shape.printParts shape.printOf shape.spellings
+    parts.runTo parts.further parts.reportOf
+    seek.seek seek.anywhere seek.findOf seek.owed
+    degrees.signedReading degrees.wholeDegrees degrees.degreesOf degrees.degreesReading
+    deposit.depth
+    layered.layerSteps layered.layerBands
+    metres.land metres.sea metres.base metres.metresFigure metres.metresReading metres.visibility metres.runway metres.cloud metres.sameRange metres.rangeFigure metres.rangeReading
+    rounded.rainFigure rounded.rainReading rounded.directionFigure rounded.directionReading rounded.pressureFigure rounded.pressureReading
+    scale.classIn scale.readIn scale.run
+    silent-surface.noSurface silent-surface.isBlankSynop
+    silent-aerodrome.isBlankBody silent-aerodrome.noObservation silent-aerodrome.isBlankObservation silent-aerodrome.isBlankMetar silent-aerodrome.isBlankTaf
+    surface-judge.judgeTime surface-judge.judgeStation surface-judge.judgeSign surface-judge.judgePosition surface-judge.judgeIndicators surface-judge.judgeWind surface-judge.judgeAir surface-judge.judgeMoisture surface-judge.judgePressure surface-judge.judgeLevel surface-judge.judgeTendency surface-judge.judgeRainfall surface-judge.judgeWeather surface-judge.judgeClouds surface-judge.judgeClock surface-judge.layerFits
+    surface-reads.timeOf surface-reads.saidTime surface-reads.saidStation surface-reads.latitudeIs surface-reads.saidLatitude surface-reads.positionOf surface-reads.saidLongitude surface-reads.indicatorsOf surface-reads.saidIndicators surface-reads.windBy surface-reads.saidWind surface-reads.speedIs surface-reads.saidSpeed surface-reads.airIs surface-reads.saidAir surface-reads.moistureIs surface-reads.saidMoisture surface-reads.saidPressure surface-reads.levelIs surface-reads.saidLevel surface-reads.tendencyIs surface-reads.saidTendency surface-reads.saidRainfall surface-reads.saidWeather surface-reads.saidClouds surface-reads.clockIs surface-reads.saidClock surface-reads.saidLayer
+    surface-shows.showTime surface-shows.showStation surface-shows.showSign surface-shows.showLatitude surface-shows.showLongitude surface-shows.showIndicators surface-shows.showWind surface-shows.showSpeed surface-shows.showAir surface-shows.showMoisture surface-shows.showPressure surface-shows.showLevel surface-shows.showTendency surface-shows.showRainfall surface-shows.weatherText surface-shows.showWeather surface-shows.cloudsText surface-shows.showClouds surface-shows.showClock surface-shows.showMinimum surface-shows.showLayer
+    synop-row.needsOf synop-row.withSaid synop-row.row synop-row.stopWords
+    section3.row section3.ownShapes section3.halts section3.layerAt section3.showLayers
+    section3-write.judgeLayers section3-write.judgeSection3 section3-write.showSection3
+    section.section
+    synop-read.withHead synop-read.signOf synop-read.posts synop-read.walk synop-read.groupsRead
+    synop-write.foreignBlank synop-write.judgeSite synop-write.judgeSection synop-write.judgeSurface synop-write.judgeOf synop-write.siteGroups synop-write.surfaceGroups synop-write.groupsOf synop-write.canonicalOf
+    body.readWeatherOrNsw body.judgeBody
+    sky.readLayer sky.readAlone sky.readSky sky.showLayer sky.showSky sky.judgeSky
+    visibility.readVisibility visibility.showVisibility visibility.judgeVisibility
+    weather.codesOf weather.areCodes weather.signedCodes weather.hasWeather weather.hasRecent weather.saidWeather weather.readWeather weather.readRecent weather.showWeather weather.showRecent weather.showWeathers weather.showRecents weather.judgeWeather weather.judgeRecent weather.judgeWeathers
+    wind.windBy wind.readWind wind.readVariation wind.showWind wind.showVariation wind.judgeWind wind.judgeVariation
+    head.stationOf head.readTime head.showTime head.judgeStation head.judgeTime
+    runway.readRunway runway.showRunway runway.showRunways runway.judgeRunways
+    temperatures.readTemperatures temperatures.readQnh temperatures.showTemperatures temperatures.showQnh temperatures.judgeTemperatures temperatures.judgeQnh
+    state.readState state.showState state.showStates state.judgeStates
+    metar-row.row metar-row.isKnown metar-row.words
+    trend-times.readMoment
+    trend-row.row
+    trend-read.comesTo
+    trend-write.judgeChange trend-write.judgeTrend trend-write.showChange trend-write.showTrend
+    metar-read.groupsRead
+    metar-write.judgeHead metar-write.judgeObservation metar-write.judgeOf metar-write.groupsOf metar-write.canonicalOf
+    taf-row.readPeriod taf-row.showPeriod taf-row.row taf-row.changeWords
+    taf-read.openedBy taf-read.groupsRead
+    taf-write.judgePart taf-write.judgeChange taf-write.judgeChanges taf-write.foreignBlank taf-write.judgeOf taf-write.judgeIn taf-write.showChange taf-write.groupsOf taf-write.canonicalOf
+    report-read.nameOf report-read.readIn
+    report-write.judgeIn report-write.canonicalOf report-write.writtenIn
+answerIn e t = answered e (report-read.readIn e t)
+
 abbrev pub examples : List Example
 examples =
     reads "AAXX 24124 99901  11466 80412 10053 60021 76166" "AAXX 24124 99901 11466 80412 10053 60021 76166="
@@ -161,54 +212,8 @@ examples2005 =
 abbrev inEditions : List (Edition × Example)
 inEditions = map (λ (x : Example). (edition.Present, x)) examples ++ map (λ (x : Example). (edition.Of2005, x)) examples2005
 
-pub worked : map (λ (x : Edition × Example). answered (x .0) (report-read.readIn (x .0) (x .1 .text))) inEditions ≡ map (λ (x : Edition × Example). x .1 .answer) inEditions
-unfolding figures.figures figures.scan figures.fieldAt figures.numberText figures.slashes figures.fieldText
-    signed.signedOf
-    bytes.lead
-    groups.groupsIn groups.groupsFrom groups.pastParting groups.spaced groups.parted groups.join
-    text.equalsAt text.bytesOf text.junkFrom text.tailOf
-    pattern.low pattern.high pattern.fits pattern.hasPattern pattern.hasAny
-    shape.leading shape.split shape.partsOf shape.begins shape.valueOf shape.pickOf shape.scanParts shape.answered shape.scanOf shape.hasShape shape.filled shape.printParts shape.printOf shape.spellings
-    parts.runTo parts.further parts.reportOf
-    seek.seek seek.anywhere seek.findOf seek.owed
-    degrees.signedReading degrees.wholeDegrees degrees.degreesOf degrees.degreesReading
-    deposit.depth
-    layered.layerSteps layered.layerBands
-    metres.land metres.sea metres.base metres.metresFigure metres.metresReading metres.visibility metres.runway metres.cloud metres.sameRange metres.rangeFigure metres.rangeReading
-    rounded.rainFigure rounded.rainReading rounded.directionFigure rounded.directionReading rounded.pressureFigure rounded.pressureReading
-    scale.classIn scale.readIn scale.run
-    silent-surface.noSurface silent-surface.isBlankSynop
-    silent-aerodrome.isBlankBody silent-aerodrome.noObservation silent-aerodrome.isBlankObservation silent-aerodrome.isBlankMetar silent-aerodrome.isBlankTaf
-    surface-judge.judgeTime surface-judge.judgeStation surface-judge.judgeSign surface-judge.judgePosition surface-judge.judgeIndicators surface-judge.judgeWind surface-judge.judgeAir surface-judge.judgeMoisture surface-judge.judgePressure surface-judge.judgeLevel surface-judge.judgeTendency surface-judge.judgeRainfall surface-judge.judgeWeather surface-judge.judgeClouds surface-judge.judgeClock surface-judge.layerFits
-    surface-reads.timeOf surface-reads.saidTime surface-reads.saidStation surface-reads.latitudeIs surface-reads.saidLatitude surface-reads.positionOf surface-reads.saidLongitude surface-reads.indicatorsOf surface-reads.saidIndicators surface-reads.windBy surface-reads.saidWind surface-reads.speedIs surface-reads.saidSpeed surface-reads.airIs surface-reads.saidAir surface-reads.moistureIs surface-reads.saidMoisture surface-reads.saidPressure surface-reads.levelIs surface-reads.saidLevel surface-reads.tendencyIs surface-reads.saidTendency surface-reads.saidRainfall surface-reads.saidWeather surface-reads.saidClouds surface-reads.clockIs surface-reads.saidClock surface-reads.saidLayer
-    surface-shows.showTime surface-shows.showStation surface-shows.showSign surface-shows.showLatitude surface-shows.showLongitude surface-shows.showIndicators surface-shows.showWind surface-shows.showSpeed surface-shows.showAir surface-shows.showMoisture surface-shows.showPressure surface-shows.showLevel surface-shows.showTendency surface-shows.showRainfall surface-shows.weatherText surface-shows.showWeather surface-shows.cloudsText surface-shows.showClouds surface-shows.showClock surface-shows.showMinimum surface-shows.showLayer
-    synop-row.needsOf synop-row.withSaid synop-row.row synop-row.stopWords
-    section3.row section3.ownShapes section3.halts section3.layerAt section3.showLayers
-    section3-write.judgeLayers section3-write.judgeSection3 section3-write.showSection3
-    section.section
-    synop-read.withHead synop-read.signOf synop-read.posts synop-read.walk synop-read.groupsRead
-    synop-write.foreignBlank synop-write.judgeSite synop-write.judgeSection synop-write.judgeSurface synop-write.judgeOf synop-write.siteGroups synop-write.surfaceGroups synop-write.groupsOf synop-write.canonicalOf
-    body.readWeatherOrNsw body.judgeBody
-    sky.readLayer sky.readAlone sky.readSky sky.showLayer sky.showSky sky.judgeSky
-    visibility.readVisibility visibility.showVisibility visibility.judgeVisibility
-    weather.codesOf weather.areCodes weather.signedCodes weather.hasWeather weather.hasRecent weather.saidWeather weather.readWeather weather.readRecent weather.showWeather weather.showRecent weather.showWeathers weather.showRecents weather.judgeWeather weather.judgeRecent weather.judgeWeathers
-    wind.windBy wind.readWind wind.readVariation wind.showWind wind.showVariation wind.judgeWind wind.judgeVariation
-    head.stationOf head.readTime head.showTime head.judgeStation head.judgeTime
-    runway.readRunway runway.showRunway runway.showRunways runway.judgeRunways
-    temperatures.readTemperatures temperatures.readQnh temperatures.showTemperatures temperatures.showQnh temperatures.judgeTemperatures temperatures.judgeQnh
-    state.readState state.showState state.showStates state.judgeStates
-    metar-row.row metar-row.isKnown metar-row.words
-    trend-times.readMoment
-    trend-row.row
-    trend-read.comesTo
-    trend-write.judgeChange trend-write.judgeTrend trend-write.showChange trend-write.showTrend
-    metar-read.groupsRead
-    metar-write.judgeHead metar-write.judgeObservation metar-write.judgeOf metar-write.groupsOf metar-write.canonicalOf
-    taf-row.readPeriod taf-row.showPeriod taf-row.row taf-row.changeWords
-    taf-read.openedBy taf-read.groupsRead
-    taf-write.judgePart taf-write.judgeChange taf-write.judgeChanges taf-write.foreignBlank taf-write.judgeOf taf-write.judgeIn taf-write.showChange taf-write.groupsOf taf-write.canonicalOf
-    report-read.nameOf report-read.readIn
-    report-write.judgeIn report-write.canonicalOf report-write.writtenIn
+pub worked : map (λ (x : Edition × Example). answerIn (x .0) (x .1 .text)) inEditions ≡ map (λ (x : Edition × Example). x .1 .answer) inEditions
+unfolding answerIn
 worked = refl
 
 -- ---- winds of a record: no text shows what is refused there

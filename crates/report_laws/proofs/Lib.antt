@@ -2,7 +2,6 @@
 -- depends on, what may have been seen where a number is read, the poor libraries that the demands shut out, worked examples, and that TAF and trend have
 -- one body.
 pub mod ByName
-pub mod Causes
 pub mod Listed
 pub mod SurfaceCauses
 pub mod AerodromeCauses

@@ -16,7 +16,7 @@ use Rattle.record.specs.declared.values.Number.the-variants as number
 use Rattle.record.specs.Missing.{isMissing, present, optional}
 
 -- "writer: a value outside its range, a bad name, a required one missing, half of a pair, a count over its limit, a slot past its count or a field foreign to
--- the kind (or to NIL, CNL) that is not blank"; "groups each right that disagree"; "writer: the buffer is shorter than the canonical text"
+-- the kind (or to NIL, CNL) that is not blank"; "groups each right that disagree". That "the buffer is shorter" is no cause of the record's.
 pub data ListedCause (F : Type 0) : Type 0 where
   outside-its-range : F → ListedCause F
   bad-name : F → ListedCause F
@@ -26,7 +26,6 @@ pub data ListedCause (F : Type 0) : Type 0 where
   slot-past-its-count : F → ListedCause F
   foreign : F → ListedCause F
   disagreeing : F → ListedCause F
-  short-buffer : ListedCause F
 
 -- A cause, and whether it holds of the record.
 pub data Asked (F : Type 0) : Type 0 where
@@ -43,7 +42,7 @@ twice true = refl
 twice false = refl
 
 module _ {F : Type 0} where
-  -- "7 | groups each right that disagree", "10 | writer: the buffer is shorter"; the others are 11
+  -- "7 | groups each right that disagree"; the others are 11
   abbrev pub refusedBy : ListedCause F → Refusal
   refusedBy (outside-its-range f) = refusal.Value
   refusedBy (bad-name f) = refusal.Value
@@ -53,7 +52,16 @@ module _ {F : Type 0} where
   refusedBy (slot-past-its-count f) = refusal.Value
   refusedBy (foreign f) = refusal.Value
   refusedBy (disagreeing f) = refusal.Disagreement
-  refusedBy short-buffer = refusal.Room
+
+  pub seven-or-eleven : (P : Refusal → Type 0) → P refusal.Disagreement → P refusal.Value → (c : ListedCause F) → P (refusedBy c)
+  seven-or-eleven P seven eleven (outside-its-range f) = eleven
+  seven-or-eleven P seven eleven (bad-name f) = eleven
+  seven-or-eleven P seven eleven (required-missing f) = eleven
+  seven-or-eleven P seven eleven (half-of-a-pair f) = eleven
+  seven-or-eleven P seven eleven (over-its-limit f) = eleven
+  seven-or-eleven P seven eleven (slot-past-its-count f) = eleven
+  seven-or-eleven P seven eleven (foreign f) = eleven
+  seven-or-eleven P seven eleven (disagreeing f) = seven
 
   -- what the first cause that holds is refused by
   abbrev pub firstOf : List (Asked F) → Judged
@@ -241,7 +249,6 @@ module _ {F G : Type 0} (at : F → G) where
   renamed (slot-past-its-count f) = slot-past-its-count (at f)
   renamed (foreign f) = foreign (at f)
   renamed (disagreeing f) = disagreeing (at f)
-  renamed short-buffer = short-buffer
 
   abbrev pub within : List (Asked F) → List (Asked G)
   within [] = []
@@ -256,7 +263,6 @@ module _ {F G : Type 0} (at : F → G) where
   same-refusal (slot-past-its-count f) = refl
   same-refusal (foreign f) = refl
   same-refusal (disagreeing f) = refl
-  same-refusal short-buffer = refl
 
   pub judges-within : {j : Judged} {qs : List (Asked F)} → Judges j qs → Judges j (within qs)
   judges-within {qs = qs} x = record { is = x .is ∙ go qs }

@@ -40,8 +40,10 @@ use Rattle.report_record.specs.Record.{surfaceReport, observedReport, forecastR
 use Rattle.report.specs.Read.{readIn, restIn}
 use Rattle.report.specs.Write.{judgeIn, canonicalOf, classedOf, writtenIn, bufferIn}
 use Rattle.report_laws.proofs.ByName.{AcceptedAs, a-surface, an-observed, a-forecast, accepted-as}
+use Rattle.report_laws.proofs.Listed.{first-refuses}
+use Rattle.report_laws.proofs.ReportCauses.{report-judged}
 use Rattle.report_laws.proofs.RoundTrip.{Arrays, Fair, surface, observed, forecast, fair-fine, comes-back, text-again}
-use Rattle.report_laws.proofs.Demands.{Cause, value, disagreement, room, only-causes, one-text, accepted-whole, ComesBack, all-back}
+use Rattle.report_laws.proofs.Demands.{Cause, listed, short-buffer, only-causes, one-text, accepted-whole, ComesBack, all-back}
 
 -- ---- kind by kind
 
@@ -152,6 +154,8 @@ module _ (chosen : Edition) (t : List ℕ) (rest : ℕ) (r : Report) (e : readIn
   given-refused b f w = go (only-causes chosen r b f w)
     where
       go : {g : Refusal} → Cause chosen r b g → (g ≡ refusal.Room) × (length b < length (canonicalOf r))
-      go (value j) = let fine = given-fine in impossible (cc)
-      go (disagreement j) = let fine = given-fine in impossible (cc)
-      go (room j h) = (refl, h)
+      go (listed c x) =
+          let no = first-refuses (report-judged chosen r) x in
+          let fine = given-fine in
+          impossible (cc)
+      go (short-buffer j h) = (refl, h)
