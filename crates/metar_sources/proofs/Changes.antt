@@ -34,7 +34,7 @@ use Rattle.trend_row.specs.declared.kinds.Mark.{Mark}
 use Rattle.trend_row.specs.declared.kinds.Mark.the-variants as mark
 use Rattle.trend_row.specs.Times.{isEnd, readMoment, withTime, timesOf, isBarred, readTime}
 use Rattle.trend_row.specs.Row.{row}
-use Rattle.sources.proofs.Rows.{Item}
+use Rattle.sources.proofs.Rows.{Item, first}
 use Rattle.sources.proofs.Fields.{_&_, Fields, end, field, Tuple, TypeAt, look, then-good, Only, only-put, listed-item, single-item, Rows, row-at}
 use Rattle.body_sources.proofs.Body.{in-body, WeatherDone, with-nsw, with-weather, weather-done, weather-tells, weather-others, weather-stays, sky-done, sky-tells, sky-others, sky-stays}
 use Rattle.metar_sources.specs.declared.kinds.ChangeElement.{ChangeElement}
@@ -290,10 +290,6 @@ module _ (free : Bool) where
       (λ n g c c′ f e.
       let (v, is, same) = in-body (λ b. setBody b c) (c .body) (readSky true (isCavok (c .body .visibility)) n g (c .body .sky)) setSky c′ e in
       rw same (sky-stays true (isCavok (c .body .visibility)) g (c .body) n f (sky-done true (isCavok (c .body .visibility)) n g (c .body .sky) v is)))
-
-  first : {A : Type 0} {missing : A} (i k : ℕ) (get : TrendChange → A) (said : Group → A → Type 0) → k < 1 → Item (row free) i 0 get said (λ c. Unit {0}) missing
-      → Item (row free) i k get said (λ c. Unit {0}) missing
-  first {missing = missing} i k get said h x = let z : 0 ≡ k = omega arith in subst (λ (n : ℕ). Item (row free) i n get said (λ c. Unit {0}) missing) z x
 
   -- EACH ITEM OF A CHANGE IS WHAT ITS GROUP SAYS, and no other group touches it.
   pub change-item : (e : ChangeElement) (k : ℕ) → k < mostOf e → ChangeItem free e k (fairIn e)

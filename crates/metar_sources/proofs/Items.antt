@@ -43,8 +43,8 @@ use Rattle.aerodrome_groups.specs.Runway.{readRunway, withRunway}
 use Rattle.aerodrome_groups.specs.Temperatures.{readTemperatures, readQnh}
 use Rattle.runway_states.specs.State.{readState, withState, withSnoclo}
 use Rattle.metar_row.specs.Row.{observed, row}
-use Rattle.sources.proofs.Rows.{Item}
-use Rattle.sources.proofs.Fields.{_&_, Fields, end, field, Tuple, look, put, then-good, then-bind, Only, wrote, only-put, listed-item, single-item, Rows, row-at}
+use Rattle.sources.proofs.Rows.{Item, first}
+use Rattle.sources.proofs.Fields.{_&_, Fields, end, field, Tuple, look, put, then-good, then-bind, by-value, Only, wrote, only-put, listed-item, single-item, Rows, row-at}
 use Rattle.body_sources.proofs.Body.{agreed, in-body, WeatherDone, with-nsw, with-weather, weather-done, weather-tells, weather-others, weather-stays, SkyDone, sky-done, sky-tells, sky-others, sky-stays}
 use Rattle.metar_sources.specs.declared.kinds.Element.{Element}
 use Rattle.metar_sources.specs.declared.kinds.Element.the-variants as element
@@ -187,15 +187,6 @@ fairOf element.Pressure r = Unit {0}
 fairOf element.Recent r = length (r .recents .items) ≡ 3
 fairOf element.State r = length (r .states .items) ≡ 4
 fairOf element.Snoclo r = Unit {0}
-
--- what one group alone may say
-first : {A : Type 0} {missing : A} (i k : ℕ) (get : Observation → A) (says : Group → A → Type 0) → k < 1 → Item row i 0 get says (λ r. Unit {0}) missing
-    → Item row i k get says (λ r. Unit {0}) missing
-first {missing = missing} i k get says h x = let z : 0 ≡ k = omega arith in subst (λ (n : ℕ). Item row i n get says (λ r. Unit {0}) missing) z x
-
-by-value : {A : Type 0} (x : Read A) (f : A → Observation) (get : Observation → A) (a′ : Observation) → ((v : A) → get (f v) ≡ v) → then x (λ v. Good (f v)) ≡ Good a′
-    → x ≡ Good (get a′)
-by-value x f get a′ got e = let (v, is, same) = then-good x f a′ e in is ∙ ap Good (sym (ap get same ∙ got v))
 
 by-list : {A : Type 0} (most k : ℕ) (d : A) (x : Read A) (f : A → Observation) (items : Observation → List A) (a a′ : Observation)
     → ((v : A) → items (f v) ≡ with-one most k (items a) v) → k < most → length (items a) ≡ most → then x (λ v. Good (f v)) ≡ Good a′ → x ≡ Good (getD (items a′) k d)

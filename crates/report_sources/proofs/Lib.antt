@@ -1,2 +1,3 @@
 -- The theorems: where each item was read from.
 pub mod Provenance
+pub mod Forecasts

@@ -57,6 +57,10 @@ pub then-bind : {A B : Type 0} (x : Read A) (f : A → Read B) (b : B) → then 
 then-bind (Good a) f b e = (a, refl, e)
 then-bind (Bad r) f b e = impossible (cc)
 
+-- what was read is the value that was set
+pub by-value : {R A : Type 0} (x : Read A) (f : A → R) (get : R → A) (r : R) → ((v : A) → get (f v) ≡ v) → then x (λ v. Good (f v)) ≡ Good r → x ≡ Good (get r)
+by-value x f get r got e = let (v, is, same) = then-good x f r e in is ∙ ap Good (sym (ap get same ∙ got v))
+
 module _ {R : Type 0} (fs : Fields) (fields : R → Tuple fs) where
   -- only the j-th field may differ
   abbrev pub Only : ℕ → R → R → Type 0

@@ -9,13 +9,13 @@ use lib.ListN.{length}
 use lib.Dec.{eqb}
 use borrow.Author.Tests.{eqb-true, eqb-false, eq-eqb, ne-eqb}
 use Rattle.text.specs.Groups.{Piece}
-use Rattle.places.specs.Engine.{Group, Read, Good, Place}
+use Rattle.places.specs.Engine.{Group, Read, Good, Place, placeAt}
 use Rattle.places.specs.Parts.{Begun, Word, Ends, Opens}
 use Rattle.sources.specs.declared.kinds.Spot.{Spot}
 use Rattle.sources.specs.declared.kinds.Spot.the-variants as spot
 use Rattle.sources.specs.Trail.{Taken, sameSpot, Origin, nowhere, group, originIn}
 use Rattle.sources.specs.Route.{Route}
-use Rattle.sources.proofs.Rows.{Entry, Went, done, on, went-pieces, Item, If, Told, item-told}
+use Rattle.sources.proofs.Rows.{Entry, Went, done, on, went-pieces, Item, If, Told, shape-told, item-told}
 use Rattle.sources.proofs.Parts.{asTaken, mainOf, partsOf, Opened, After, over, stop, one, two, Follows, Read-on}
 
 -- ---- what is said of the source
@@ -45,6 +45,11 @@ pub past-part : (q m : ℕ) (s : Spot) (es : List Entry) (xs : List Taken) → e
 unfolding originIn
 past-part q m s [] xs e = refl
 past-part q m s (x ∷ es) xs e = rw e (past-part q m s es xs e)
+
+-- a group of another part
+past-group : (q m : ℕ) (s s′ : Spot) (g : Piece) (xs : List Taken) → eqb q m ≡ false → originIn q s (record { part = m; spot = s′; piece = g } ∷ xs) ≡ originIn q s xs
+unfolding originIn
+past-group q m s s′ g xs e = rw e
 
 -- the word that opens a part is at no place
 skip-opening : (q m i k : ℕ) (g : Piece) (xs : List Taken)
@@ -95,20 +100,22 @@ module _ {T M P W : Type 0} (route : Route M P W) (word : T → Group → Word W
   Ahead end rest whole m t gs xs = After route word mainTakes mainLacks takes lacks end rest whole m t gs xs
 
   -- the parts after part m hold no group of it or of one before it
-  none-later : {end rest m : ℕ} {whole t : T} {gs : List Piece} {xs : List Taken} → Ahead end rest whole m t gs xs → (q i k : ℕ) → q ≤ m
-      → originIn q (spot.At i k) xs ≡ nowhere
+  none-later : {end rest m : ℕ} {whole t : T} {gs : List Piece} {xs : List Taken} → Ahead end rest whole m t gs xs → (q : ℕ) (s : Spot) → q ≤ m → originIn q s xs ≡ nowhere
   unfolding originIn
-  none-later (over a b) q i k h = refl
-  none-later (stop is a b) q i k h = refl
-  none-later {m = m} (one {g = g} {es = es} {xs = xs} is plain went halted after) q i k h =
-      skip-opening q (m + 1) i k g (map (asTaken (m + 1)) es ++ xs)
-      ∙ past-part q (m + 1) (spot.At i k) es xs (ne-eqb q (m + 1) (omega arith))
-      ∙ none-later after q i k (omega arith)
-  none-later {m = m} (two {g = g} {h = h′} {es = es} {xs = xs} is joins went halted after) q i k h =
-      skip-opening q (m + 1) i k g (record { part = m + 1; spot = spot.Joined; piece = h′ } ∷ (map (asTaken (m + 1)) es ++ xs))
-      ∙ skip-joined q (m + 1) i k h′ (map (asTaken (m + 1)) es ++ xs)
-      ∙ past-part q (m + 1) (spot.At i k) es xs (ne-eqb q (m + 1) (omega arith))
-      ∙ none-later after q i k (omega arith)
+  none-later (over a b) q s h = refl
+  none-later (stop is a b) q s h = refl
+  none-later {m = m} (one {es = es} {xs = xs} is plain went halted after) q s h =
+      let other = ne-eqb q (m + 1) (omega arith) in
+      rw other (past-part q (m + 1) s es xs other ∙ none-later after q s (omega arith))
+  none-later {m = m} (two {es = es} {xs = xs} is joins went halted after) q s h =
+      let other = ne-eqb q (m + 1) (omega arith) in
+      rw other (past-part q (m + 1) s es xs other ∙ none-later after q s (omega arith))
+
+  -- A GROUP OF THE MAIN PART HAS THE SHAPE OF ITS PLACE.
+  pub main-shaped : {missing : Type 0} {end rest : ℕ} {whole : T} {m : M} {gs : List Piece} {tail : _} (d : Read-on route word mainTakes mainLacks takes lacks tail end rest whole (mainOf route word mainTakes mainLacks takes lacks) 0 m gs)
+      (i k : ℕ) → missing → Stems (λ g. placeAt (route .main) i .has (g .bytes) ≡ true) missing (originIn 0 (spot.At i k) (map (asTaken 0) (d .entries) ++ d .follows .taken))
+  main-shaped d i k none =
+      told-stems 0 i k (d .entries) (d .follows .taken) (none-later (d .follows .after) 0 (spot.At i k) (omega arith)) (shape-told (route .main) (route .mainHalts) i k (d .went) none)
 
   -- ---- an item of the main part: no part after it touches the item
 
@@ -125,7 +132,7 @@ module _ {T M P W : Type 0} (route : Route M P W) (word : T → Group → Word W
         → fair m → inner m ≡ missing → Stems (λ g. says (g .bytes) (get whole)) (get whole ≡ missing) (originIn 0 (spot.At i k) (map (asTaken 0) (d .entries) ++ d .follows .taken))
     main-stems {whole = whole} {m = m} d f blank =
         let e : get whole ≡ inner (d .r₁) = after-aside (d .follows .after) ∙ takes-in (d .r₁) in
-        told-stems 0 i k (d .entries) (d .follows .taken) (none-later (d .follows .after) 0 i k (omega arith)) (rw e (item-told (route .main) (route .mainHalts) item (d .went) f blank))
+        told-stems 0 i k (d .entries) (d .follows .taken) (none-later (d .follows .after) 0 (spot.At i k) (omega arith)) (rw e (item-told (route .main) (route .mainHalts) item (d .went) f blank))
 
   -- ---- an item of a part after it
 
@@ -171,10 +178,6 @@ module _ {T M P W : Type 0} (route : Route M P W) (word : T → Group → Word W
       unfolding originIn
       opening-here m g xs e = rw (eq-eqb q m e)
 
-      opening-past : (m : ℕ) (s : Spot) (g : Piece) (xs : List Taken) → eqb q m ≡ false → originIn q spot.Opening (record { part = m; spot = s; piece = g } ∷ xs) ≡ originIn q spot.Opening xs
-      unfolding originIn
-      opening-past m s g xs e = rw e
-
       -- THE ITEM THAT A PART'S WORD SAYS is what the word's definition says of its source, or missing where there is no such part.
       pub word-stems : {end rest m : ℕ} {whole t : T} {gs : List Piece} {xs : List Taken} → Ahead end rest whole m t gs xs → inv m t → m < q → get t ≡ missing
           → Worded whole (originIn q spot.Opening xs)
@@ -185,7 +188,7 @@ module _ {T M P W : Type 0} (route : Route M P W) (word : T → Group → Word W
           choose q (m + 1) (eqb q (m + 1)) refl
           (λ e. subst (Worded whole) (sym (opening-here (m + 1) g (map (asTaken (m + 1)) es ++ xs) e))
           (from g (subst (says (g .bytes)) (sym (after-kept after (beside .next m t w p p′ v (alone is)) (omega arith))) (opener .opens m t (g .bytes) w p p′ v e blank is went))))
-          (λ e. subst (Worded whole) (sym (opening-past (m + 1) spot.Opening g (map (asTaken (m + 1)) es ++ xs) e ∙ past-part q (m + 1) spot.Opening es xs e))
+          (λ e. subst (Worded whole) (sym (past-group q (m + 1) spot.Opening spot.Opening g (map (asTaken (m + 1)) es ++ xs) e ∙ past-part q (m + 1) spot.Opening es xs e))
           (word-stems after (beside .next m t w p p′ v (alone is)) (omega (arith, eqb-false q (m + 1) e)) (beside .aside m t w p p′ v (alone is) e ∙ blank)))
       word-stems {m = m} {whole = whole} {t = t} (two {w = w} {p = p} {p′ = p′} {g = g} {h = h′} {es = es} {xs = xs} is joins went halted after) v h blank =
           choose q (m + 1) (eqb q (m + 1)) refl
@@ -193,9 +196,63 @@ module _ {T M P W : Type 0} (route : Route M P W) (word : T → Group → Word W
           (from g (subst (says (g .bytes)) (sym (after-kept after (beside .next m t (route .joined w) p p′ v (joined is joins)) (omega arith)))
           (opener .joins m t (g .bytes) (h′ .bytes) w p p′ v e blank is joins went))))
           (λ e. subst (Worded whole)
-          (sym (opening-past (m + 1) spot.Opening g (record { part = m + 1; spot = spot.Joined; piece = h′ } ∷ (map (asTaken (m + 1)) es ++ xs)) e
-          ∙ opening-past (m + 1) spot.Joined h′ (map (asTaken (m + 1)) es ++ xs) e ∙ past-part q (m + 1) spot.Opening es xs e))
+          (sym (past-group q (m + 1) spot.Opening spot.Opening g (record { part = m + 1; spot = spot.Joined; piece = h′ } ∷ (map (asTaken (m + 1)) es ++ xs)) e
+          ∙ past-group q (m + 1) spot.Opening spot.Joined h′ (map (asTaken (m + 1)) es ++ xs) e ∙ past-part q (m + 1) spot.Opening es xs e))
           (word-stems after (beside .next m t (route .joined w) p p′ v (joined is joins)) (omega (arith, eqb-false q (m + 1) e))
+          (beside .aside m t (route .joined w) p p′ v (joined is joins) e ∙ blank)))
+
+    -- ---- the item that a group says which belongs to the word of part q
+
+    -- it brings the item in, and a word alone does not
+    pub record Joiner (says : Group → A → Type 0) (missing : A) : Type 0 where
+      pub alone : (m : ℕ) (t : T) (g : Group) (w : W) (p p′ : P) → inv m t → q ≡ m + 1 → word t g ≡ Opens (Good (record { kind = w; start = p })) → get (takes t w p′) ≡ missing
+      pub joins : (m : ℕ) (t : T) (g h : Group) (w : W) (p p′ : P) → inv m t → q ≡ m + 1 → word t g ≡ Opens (Good (record { kind = w; start = p })) → route .joins w h ≡ true
+          → says h (get (takes t (route .joined w) p′))
+
+    module _ {says : Group → A → Type 0} {missing : A} (joiner : Joiner says missing) where
+      abbrev Belonging : T → Origin → Type 0
+      Belonging whole o = Stems (λ g. says (g .bytes) (get whole)) (get whole ≡ missing) o
+
+      joined-here : (m : ℕ) (g h : Piece) (xs : List Taken) → q ≡ m
+          → originIn q spot.Joined (record { part = m; spot = spot.Opening; piece = g } ∷ record { part = m; spot = spot.Joined; piece = h } ∷ xs) ≡ group h
+      unfolding originIn
+      joined-here m g h xs e = rw (eq-eqb q m e)
+
+      -- the word that opens a part, and the groups at its places, belong to no word
+      joined-past : (m : ℕ) (g : Piece) (es : List Entry) (xs : List Taken)
+          → originIn q spot.Joined (record { part = m; spot = spot.Opening; piece = g } ∷ (map (asTaken m) es ++ xs)) ≡ originIn q spot.Joined xs
+      unfolding originIn
+      joined-past m g es xs = never (eqb q m) g _ ∙ go es
+        where
+          never : (b : Bool) (g : Piece) (o : Origin) → cond (b && false) (group g) o ≡ o
+          never true g o = refl
+          never false g o = refl
+
+          go : (es : List Entry) → originIn q spot.Joined (map (asTaken m) es ++ xs) ≡ originIn q spot.Joined xs
+          go [] = refl
+          go (e ∷ es) = never (eqb q m) (e .piece) _ ∙ go es
+
+      -- THE ITEM THAT A GROUP SAYS WHICH BELONGS TO A PART'S WORD is what it says by itself, or missing where there is none.
+      pub joined-stems : {end rest m : ℕ} {whole t : T} {gs : List Piece} {xs : List Taken} → Ahead end rest whole m t gs xs → inv m t → m < q → get t ≡ missing
+          → Belonging whole (originIn q spot.Joined xs)
+      unfolding originIn
+      joined-stems (over a b) v h blank = absent (ap get b ∙ blank)
+      joined-stems (stop is a b) v h blank = absent (ap get b ∙ blank)
+      joined-stems {m = m} {whole = whole} {t = t} (one {w = w} {p = p} {p′ = p′} {g = g} {es = es} {xs = xs} is plain went halted after) v h blank =
+          subst (Belonging whole) (sym (joined-past (m + 1) g es xs))
+          (choose q (m + 1) (eqb q (m + 1)) refl
+          (λ e. subst (Belonging whole) (sym (none-later after q spot.Joined (omega arith)))
+          (absent (after-kept after (beside .next m t w p p′ v (alone is)) (omega arith) ∙ joiner .alone m t (g .bytes) w p p′ v e is)))
+          (λ e. joined-stems after (beside .next m t w p p′ v (alone is)) (omega (arith, eqb-false q (m + 1) e)) (beside .aside m t w p p′ v (alone is) e ∙ blank)))
+      joined-stems {m = m} {whole = whole} {t = t} (two {w = w} {p = p} {p′ = p′} {g = g} {h = h′} {es = es} {xs = xs} is joins went halted after) v h blank =
+          choose q (m + 1) (eqb q (m + 1)) refl
+          (λ e. subst (Belonging whole) (sym (joined-here (m + 1) g h′ (map (asTaken (m + 1)) es ++ xs) e))
+          (from h′ (subst (says (h′ .bytes)) (sym (after-kept after (beside .next m t (route .joined w) p p′ v (joined is joins)) (omega arith)))
+          (joiner .joins m t (g .bytes) (h′ .bytes) w p p′ v e is joins))))
+          (λ e. subst (Belonging whole)
+          (sym (past-group q (m + 1) spot.Joined spot.Opening g (record { part = m + 1; spot = spot.Joined; piece = h′ } ∷ (map (asTaken (m + 1)) es ++ xs)) e
+          ∙ past-group q (m + 1) spot.Joined spot.Joined h′ (map (asTaken (m + 1)) es ++ xs) e ∙ past-part q (m + 1) spot.Joined es xs e))
+          (joined-stems after (beside .next m t (route .joined w) p p′ v (joined is joins)) (omega (arith, eqb-false q (m + 1) e))
           (beside .aside m t (route .joined w) p p′ v (joined is joins) e ∙ blank)))
 
     -- ---- an item at a place of part q
@@ -221,7 +278,7 @@ module _ {T M P W : Type 0} (route : Route M P W) (word : T → Group → Word W
             let f = shelf .starts t w p begins in
             let now : get whole ≡ inner p′ = after-kept after (beside .next m t w p p′ v begins) (omega arith) ∙ shelf .comes m t w p p′ v e blank begins went in
             let told : Told (λ g. says (g .bytes) (get whole)) (get whole ≡ missing) i k es = rw now (item-told (route .row w) (route .halts) (shelf .item w) went (f .0) (f .1)) in
-            rw (sym e) (told-stems q i k es xs (none-later after q i k (omega arith)) told)
+            rw (sym e) (told-stems q i k es xs (none-later after q (spot.At i k) (omega arith)) told)
 
         with-part : Said whole (originIn q (spot.At i k) (map (asTaken (m + 1)) es ++ xs))
         with-part = choose q (m + 1) (eqb q (m + 1)) refl this-part (λ e. rw (past-part q (m + 1) (spot.At i k) es xs e) (rest-said e))

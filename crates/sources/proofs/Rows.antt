@@ -93,6 +93,9 @@ module _ {R : Type 0} (row : List (Place R)) (halts : Group → Bool) where
   pub turn-within : (c k : ℕ) (g : Group) (i n : ℕ) → turnAt row halts c k g ≡ turn.At i n → (i < length row) × (n < placeAt row i .most)
   turn-within c k g i n e = let o = taken-open row g c k i n (at-found c k g i n e) in (o .within, o .room)
 
+  pub turn-shaped : (c k : ℕ) (g : Group) (i n : ℕ) → turnAt row halts c k g ≡ turn.At i n → placeAt row i .has g ≡ true
+  turn-shaped c k g i n e = taken-open row g c k i n (at-found c k g i n e) .shaped
+
   -- ---- a row read group by group
 
   -- FROM PLACE c, WHERE k GROUPS STAND, WITH THE RECORD r, each of these groups was taken and read, up to the groups that are left.
@@ -119,6 +122,11 @@ module _ {R A : Type 0} where
         → get a′ ≡ get a
     pub stays : (j n : ℕ) (g : Group) (a a′ : R) → fair a → placeAt row j .read n g a ≡ Good a′ → fair a′
 
+-- what one group alone may say
+pub first : {R A : Type 0} {row : List (Place R)} {missing : A} (i k : ℕ) (get : R → A) (says : Group → A → Type 0) → k < 1 → Item row i 0 get says (λ r. Unit {0}) missing
+    → Item row i k get says (λ r. Unit {0}) missing
+first {row = row} {missing = missing} i k get says h x = let z : 0 ≡ k = omega arith in subst (λ (n : ℕ). Item row i n get says (λ r. Unit {0}) missing) z x
+
 abbrev pub If : Bool → Type 0 → Type 0 → Type 0
 If true A B = A
 If false A B = B
@@ -127,6 +135,18 @@ If false A B = B
 abbrev pub Told : (Piece → Type 0) → Type 0 → ℕ → ℕ → List Entry → Type 0
 Told says missing i k [] = missing
 Told says missing i k (e ∷ es) = If (eqb i (e .place) && eqb k (e .count)) (says (e .piece)) (Told says missing i k es)
+
+-- A GROUP THAT WAS TAKEN AT A PLACE HAS ITS SHAPE.
+pub shape-told : {R : Type 0} (row : List (Place R)) (halts : Group → Bool) {missing : Type 0} {c₁ k₁ c n : ℕ} {r₁ r : R} {left gs : List Piece} {es : List Entry} (i k : ℕ)
+    → Went row halts c₁ k₁ r₁ left c n r gs es → missing → Told (λ g. placeAt row i .has (g .bytes) ≡ true) missing i k es
+shape-told row halts i k done none = none
+shape-told row halts {missing} {c = c} {n = n} i k (on {i = j} {n = m} {g = g} {es = es} t e w) none = go (eqb i j) (eqb k m) refl (shape-told row halts i k w none)
+  where
+    go : (a b : Bool) → eqb i j ≡ a → Told (λ h. placeAt row i .has (h .bytes) ≡ true) missing i k es
+        → If (a && b) (placeAt row i .has (g .bytes) ≡ true) (Told (λ h. placeAt row i .has (h .bytes) ≡ true) missing i k es)
+    go true true is told = rw (eqb-true i j is) (turn-shaped row halts c n (g .bytes) j m t)
+    go true false is told = told
+    go false b is told = told
 
 module _ {R : Type 0} (row : List (Place R)) (halts : Group → Bool) where
   -- reading stands past the k-th group of place i
