@@ -2,6 +2,7 @@
 use libc::STDOUT_FILENO;
 use metar_sources::kinds::ChangeElement;
 use metar_sources::kinds::Element;
+use record::aerodrome::Edition;
 use text::kinds::Cut;
 
 fn say_line(part: &[u8]) {
@@ -51,6 +52,49 @@ fn say_sources() {
     say_line(report_sources::observed(b"METAR LEMD 011200Z 27010KT=", Element::Wind, 0));
 }
 
+// The same of a TAF in each edition: of its main part, of a change under FM, which has no period's group, and of one under PROB30 TEMPO.
+fn say_forecast_sources() {
+    let told =
+        b"TAF AMD LEMD 011100Z 0112/0212 27010KT CAVOK FM011330 18005KT 9999 SCT020 PROB30 TEMPO 0114/0116 4000 RA=";
+    say_line(report_sources::forecast::item(
+        Edition::Present,
+        told,
+        taf_sources::kinds::Element::Correction,
+        0,
+    ));
+    say_forecast_change(told, 1);
+    say_forecast_change(told, 2);
+    say_line(report_sources::forecast::item(
+        Edition::Of2005,
+        b"TAF LEMD 011100Z 011212 27010KT CAVOK=",
+        taf_sources::kinds::Element::Period,
+        0,
+    ));
+}
+
+fn say_forecast_change(told: &[u8], part: usize) {
+    say_line(report_sources::forecast::opened(Edition::Present, told, part));
+    say_line(report_sources::forecast::joined(Edition::Present, told, part));
+    say_line(report_sources::forecast::changed(
+        Edition::Present,
+        told,
+        part,
+        taf_sources::kinds::ChangeElement::Period,
+        0,
+    ));
+}
+
+// The same of a SYNOP: its station, its air temperature, a dew point that it has not, and of section 3 a maximum and the second layer, 8//// being none.
+fn say_surface_sources() {
+    let told = b"AAXX 24124 99901 11466 80412 10053 60021 76166 333 10123 81510 8//// 82530 555 X=";
+    say_line(report_sources::surface::item(told, synop_sources::kinds::Element::Station));
+    say_line(report_sources::surface::item(told, synop_sources::kinds::Element::Air));
+    say_line(report_sources::surface::item(told, synop_sources::kinds::Element::Moisture));
+    say_line(report_sources::surface::item(told, synop_sources::kinds::Element::Maximum));
+    say_line(report_sources::surface::layer(told, 1));
+    say_line(report_sources::surface::opened(told));
+}
+
 fn main() {
     say_rests();
     say_standing();
@@ -58,4 +102,6 @@ fn main() {
     say_group(b" TAF LEMD=", 4);
     say_group(b" TAF LEMD=", 9);
     say_sources();
+    say_forecast_sources();
+    say_surface_sources();
 }

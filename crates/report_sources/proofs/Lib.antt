@@ -1,3 +1,4 @@
 -- The theorems: where each item was read from.
 pub mod Provenance
 pub mod Forecasts
+pub mod SurfaceProvenance

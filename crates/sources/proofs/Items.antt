@@ -31,7 +31,7 @@ module _ {says : Piece → Type 0} {missing : Type 0} where
   stems-if false g s A f x = f x
 
   -- the entries of part m, then groups of later parts
-  told-stems : (m i k : ℕ) (es : List Entry) (xs : List Taken) → originIn m (spot.At i k) xs ≡ nowhere → Told says missing i k es
+  pub told-stems : (m i k : ℕ) (es : List Entry) (xs : List Taken) → originIn m (spot.At i k) xs ≡ nowhere → Told says missing i k es
       → Stems says missing (originIn m (spot.At i k) (map (asTaken m) es ++ xs))
   unfolding originIn
   told-stems m i k [] xs none t = rw none (absent t)
@@ -82,14 +82,14 @@ pub record Covers (end rest : ℕ) (gs : List Piece) (xs : List Taken) : Type 0 
   pub all : gs ≡ map (λ (x : Taken). x .piece) xs ++ left
   pub begins : RestAt end rest left
 
-entries-cover : {end rest : ℕ} (m : ℕ) (es : List Entry) (left : List Piece) (xs : List Taken) → Covers end rest left xs
+pub entries-cover : {end rest : ℕ} (m : ℕ) (es : List Entry) (left : List Piece) (xs : List Taken) → Covers end rest left xs
     → Covers end rest (map (λ (e : Entry). e .piece) es ++ left) (map (asTaken m) es ++ xs)
 entries-cover m [] left xs c = c
 entries-cover m (e ∷ es) left xs c =
     let d = entries-cover m es left xs c in
     record { left = d .left; all = ap (λ (l : List Piece). e .piece ∷ l) (d .all); begins = d .begins }
 
-cover-more : {end rest : ℕ} (x : Taken) {gs : List Piece} {xs : List Taken} → Covers end rest gs xs → Covers end rest (x .piece ∷ gs) (x ∷ xs)
+pub cover-more : {end rest : ℕ} (x : Taken) {gs : List Piece} {xs : List Taken} → Covers end rest gs xs → Covers end rest (x .piece ∷ gs) (x ∷ xs)
 cover-more x c = record { left = c .left; all = ap (λ (l : List Piece). x .piece ∷ l) (c .all); begins = c .begins }
 
 -- ---- the parts of a report

@@ -34,14 +34,14 @@ abbrev same : Taken → Taken → Bool
 same y x = eqb (y .part) (x .part) && sameSpot (y .spot) (x .spot)
 
 -- no group of the list was taken where x was; no two were taken at one spot
-abbrev Apart : Taken → List Taken → Type 0
+abbrev pub Apart : Taken → List Taken → Type 0
 Apart x ys = EachTaken (λ y. same y x ≡ false) ys
 
-abbrev Distinct : List Taken → Type 0
+abbrev pub Distinct : List Taken → Type 0
 Distinct [] = Unit {0}
 Distinct (x ∷ xs) = Apart x xs × Distinct xs
 
-apart-append : (x : Taken) (xs ys : List Taken) → Apart x xs → Apart x ys → Apart x (xs ++ ys)
+pub apart-append : (x : Taken) (xs ys : List Taken) → Apart x xs → Apart x ys → Apart x (xs ++ ys)
 apart-append x = each-append (λ y. same y x ≡ false)
 
 same-spot : (s : Spot) → sameSpot s s ≡ true
@@ -50,7 +50,7 @@ same-spot spot.Joined = refl
 same-spot (spot.At i k) = rw (eq-eqb i i refl, eq-eqb k k refl)
 
 -- so each is found where it was taken
-own : (xs : List Taken) → Distinct xs → EachTaken (λ x. originIn (x .part) (x .spot) xs ≡ group (x .piece)) xs
+pub own : (xs : List Taken) → Distinct xs → EachTaken (λ x. originIn (x .part) (x .spot) xs ≡ group (x .piece)) xs
 unfolding originIn
 own [] d = tt
 own (x ∷ xs) (a, d) = (rw (eq-eqb (x .part) (x .part) refl, same-spot (x .spot)), past xs (own xs d) a)
@@ -82,29 +82,29 @@ module _ {R : Type 0} (row : List (Place R)) (halts : Group → Bool) (m : ℕ) 
       let turned : (eqb j i && eqb l k) ≡ false = rw (flip j i, flip l k) other in
       (and-false (eqb m m) (eqb j i && eqb l k) turned, past-apart g q w)
 
-  went-distinct : {c n c₁ k₁ : ℕ} {r r₁ : R} {left gs : List Piece} {es : List Entry} → Went row halts c₁ k₁ r₁ left c n r gs es → Distinct (map (asTaken m) es)
+  pub went-distinct : {c n c₁ k₁ : ℕ} {r r₁ : R} {left gs : List Piece} {es : List Entry} → Went row halts c₁ k₁ r₁ left c n r gs es → Distinct (map (asTaken m) es)
   went-distinct done = tt
   went-distinct {c} {n} (on {i = j} {n = l} {g = h} t e w) = (past-apart h (past-taken row halts j l c n (h .bytes) t) w, went-distinct w)
 
 -- ---- and of one part after the other
 
-abbrev Later : ℕ → List Taken → Type 0
+abbrev pub Later : ℕ → List Taken → Type 0
 Later m xs = EachTaken (λ x. m < x .part) xs
 
-later-append : (m : ℕ) (xs ys : List Taken) → Later m xs → Later m ys → Later m (xs ++ ys)
+pub later-append : (m : ℕ) (xs ys : List Taken) → Later m xs → Later m ys → Later m (xs ++ ys)
 later-append m = each-append (λ x. m < x .part)
 
-later-apart : (m : ℕ) (x : Taken) → x .part ≡ m → (xs : List Taken) → Later m xs → Apart x xs
+pub later-apart : (m : ℕ) (x : Taken) → x .part ≡ m → (xs : List Taken) → Later m xs → Apart x xs
 later-apart m x is xs l = each-map (λ y h. rw (ne-eqb (y .part) (x .part) (omega arith))) xs l
 
 later-more : (m : ℕ) (xs : List Taken) → Later (m + 1) xs → Later m xs
 later-more m xs l = each-map (λ y h. omega arith) xs l
 
-entries-later : (m : ℕ) (es : List Entry) → Later m (map (asTaken (m + 1)) es)
+pub entries-later : (m : ℕ) (es : List Entry) → Later m (map (asTaken (m + 1)) es)
 entries-later m [] = tt
 entries-later m (e ∷ es) = (omega arith, entries-later m es)
 
-distinct-append : (m : ℕ) (es : List Entry) (xs : List Taken) → Distinct (map (asTaken m) es) → Distinct xs → Later m xs → Distinct (map (asTaken m) es ++ xs)
+pub distinct-append : (m : ℕ) (es : List Entry) (xs : List Taken) → Distinct (map (asTaken m) es) → Distinct xs → Later m xs → Distinct (map (asTaken m) es ++ xs)
 distinct-append m [] xs d v l = v
 distinct-append m (e ∷ es) xs (a, d) v l =
     (apart-append (asTaken m e) (map (asTaken m) es) xs a (later-apart m (asTaken m e) refl xs l), distinct-append m es xs d v l)
@@ -115,7 +115,7 @@ word-apart m s g never [] = tt
 word-apart m s g never (e ∷ es) = (and-false (eqb m m) (sameSpot (spot.At (e .place) (e .count)) s) (never (e .place) (e .count)), word-apart m s g never es)
 
 -- nor is it of a later part
-beside : (m : ℕ) (s : Spot) (g : Piece) (es : List Entry) (xs : List Taken) → Later (m + 1) xs → ((i k : ℕ) → sameSpot (spot.At i k) s ≡ false)
+pub beside : (m : ℕ) (s : Spot) (g : Piece) (es : List Entry) (xs : List Taken) → Later (m + 1) xs → ((i k : ℕ) → sameSpot (spot.At i k) s ≡ false)
     → Apart (record { part = m + 1; spot = s; piece = g }) (map (asTaken (m + 1)) es ++ xs)
 beside m s g es xs l never =
     apart-append (record { part = m + 1; spot = s; piece = g }) (map (asTaken (m + 1)) es) xs (word-apart (m + 1) s g never es)

@@ -28,7 +28,7 @@ use Rattle.sources.specs.Route.{Route, moveBy, moveMain, movePart, moveO
 use Rattle.sources.proofs.Rows.{Entry, Went, done, on}
 
 module _ {T : Type 0} where
-  done-same : {a b : ℕ} {r s : T} → Done a r ≡ Done b s → (b ≡ a) × (s ≡ r)
+  pub done-same : {a b : ℕ} {r s : T} → Done a r ≡ Done b s → (b ≡ a) × (s ≡ r)
   done-same e = (cc, cc)
 
   finished : (owing : Bool) (at rest : ℕ) (r t : T) → finish owing at r ≡ Done rest t → (rest ≡ at) × (t ≡ r)
@@ -47,21 +47,21 @@ module _ {T : Type 0} where
 
 module _ {T P W R : Type 0} (tail : Tail) (end : ℕ) (part : Part T P W R) (more : Further T P W) (rest : ℕ) (t : T) where
   -- where a part ends: the groups are over, or a word follows
-  data Ending (c k : ℕ) (r : R) : List Piece → Type 0 where
+  pub data Ending (c k : ℕ) (r : R) : List Piece → Type 0 where
     groups-over : rest ≡ end → t ≡ part .takes r → Ending c k r []
     word-met : {g : Piece} {gs : List Piece} → turnAt (part .row) (part .halts) c k (g .bytes) ≡ turn.Halt
         → turned more (part .takes r) g gs (part .word (part .takes r) (g .bytes)) ≡ Done rest t → Ending c k r (g ∷ gs)
 
-  record PartDone (c k : ℕ) (r : R) (gs : List Piece) : Type 0 where
-    place : ℕ
-    count : ℕ
-    record′ : R
-    left : List Piece
-    entries : List Entry
-    went : Went (part .row) (part .halts) place count record′ left c k r gs entries
-    ending : Ending place count record′ left
+  pub record PartDone (c k : ℕ) (r : R) (gs : List Piece) : Type 0 where
+    pub place : ℕ
+    pub count : ℕ
+    pub record′ : R
+    pub left : List Piece
+    pub entries : List Entry
+    pub went : Went (part .row) (part .halts) place count record′ left c k r gs entries
+    pub ending : Ending place count record′ left
 
-  part-done : (gs : List Piece) (c k : ℕ) (r : R) → partFrom tail end part more c k r gs ≡ Done rest t → PartDone c k r gs
+  pub part-done : (gs : List Piece) (c k : ℕ) (r : R) → partFrom tail end part more c k r gs ≡ Done rest t → PartDone c k r gs
   unfolding runTo
   part-done [] c k r e =
       let (a, b) = has-ended tail end rest (owes part c k r) (part .takes r) t e in

@@ -76,7 +76,7 @@ pub record Entry : Type 0 where
   pub piece : Piece
 
 module _ {R : Type 0} (row : List (Place R)) (halts : Group → Bool) where
-  at-found : (c k : ℕ) (g : Group) (i n : ℕ) → turnAt row halts c k g ≡ turn.At i n → findOf (standsOf row g) c k ≡ Take i n
+  pub at-found : (c k : ℕ) (g : Group) (i n : ℕ) → turnAt row halts c k g ≡ turn.At i n → findOf (standsOf row g) c k ≡ Take i n
   unfolding turnAt
   at-found c k g i n e = go (leb (length row) c) (halts g) e
     where

@@ -27,14 +27,14 @@ pub data ReadFrom (t : List ℕ) (says : Group → Type 0) (missing : Type 0) : 
 
 module _ (t : List ℕ) where
   -- a group's bytes are those that the text has at its place
-  abbrev Lies : Piece → Type 0
+  abbrev pub Lies : Piece → Type 0
   Lies g = partOf t (g .start) (g .start + length (g .bytes)) ≡ g .bytes
 
-  abbrev AllLie : List Piece → Type 0
+  abbrev pub AllLie : List Piece → Type 0
   AllLie [] = Unit {0}
   AllLie (g ∷ gs) = Lies g × AllLie gs
 
-  groups-lie : (fuel at : ℕ) → length t - at ≤ fuel → AllLie (groupsFrom t at)
+  pub groups-lie : (fuel at : ℕ) → length t - at ≤ fuel → AllLie (groupsFrom t at)
   groups-lie zero at h = go (nextOf t at) refl
     where
       go : (x : Cut) → nextOf t at ≡ x → AllLie (groupsFrom t at)
