@@ -85,6 +85,13 @@ module _ (g : Group) (a a′ : Observation) where
       go true = refl
       go false = refl
 
+  -- a runway state beside SNOCLO is refused
+  pub beside-refused : then (then (readState g) (λ x. disagrees)) (λ s. Good (setStates s a)) ≡ Good a′ → ⊥
+  beside-refused e =
+      let (s, good, same) = then-good (then (readState g) (λ x. disagrees)) (λ s. setStates s a) a′ e in
+      let (x, is, bad) = then-bind (readState g) (λ x. disagrees) s good in
+      impossible (cc)
+
 abbrev OnlyAt : ℕ → Place Observation → Type 0
 OnlyAt j p = (n : ℕ) (g : Group) (a a′ : Observation) → p .read n g a ≡ Good a′ → Only fs fields j a a′
 
@@ -113,10 +120,7 @@ only-rows =
     & (λ n g a a′ e.
     let (s, good, same) = then-good (agreeing (eqb (a .states .count) 0) (Good (withSnoclo true (a .states)))) (λ s. setStates s a) a′ e in
     only-put fs fields 16 a a′ true (ap fields (same ∙ ap (λ (s : RunwayStates). setStates s a) (agreed (eqb (a .states .count) 0) (withSnoclo true (a .states)) s good .1))))
-    & (λ n g a a′ e.
-    let (s, good, same) = then-good (then (readState g) (λ x. disagrees)) (λ s. setStates s a) a′ e in
-    let (x, is, bad) = then-bind (readState g) (λ x. disagrees) s good in
-    impossible (cc))
+    & (λ n g a a′ e. absurd (beside-refused g a a′ e))
     & (λ n g a a′ e. impossible (cc))
     & tt
 

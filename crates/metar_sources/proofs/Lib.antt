@@ -4,3 +4,4 @@ pub mod Items
 pub mod Changes
 pub mod Sources
 pub mod Trends
+pub mod Every

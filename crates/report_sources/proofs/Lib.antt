@@ -2,3 +2,4 @@
 pub mod Provenance
 pub mod Forecasts
 pub mod SurfaceProvenance
+pub mod Every

@@ -6,3 +6,4 @@ pub mod Walks
 pub mod Fields
 pub mod Texts
 pub mod Own
+pub mod Every

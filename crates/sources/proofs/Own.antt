@@ -26,7 +26,11 @@ pub each-map : {P Q : Taken → Type 0} → ((x : Taken) → P x → Q x) → (x
 each-map f [] u = tt
 each-map f (x ∷ xs) (p, ps) = (f x p, each-map f xs ps)
 
-each-append : (P : Taken → Type 0) (xs ys : List Taken) → EachTaken P xs → EachTaken P ys → EachTaken P (xs ++ ys)
+pub each-both : {P Q S : Taken → Type 0} → ((x : Taken) → P x → Q x → S x) → (xs : List Taken) → EachTaken P xs → EachTaken Q xs → EachTaken S xs
+each-both f [] u v = tt
+each-both f (x ∷ xs) (p, ps) (q, qs) = (f x p q, each-both f xs ps qs)
+
+pub each-append : (P : Taken → Type 0) (xs ys : List Taken) → EachTaken P xs → EachTaken P ys → EachTaken P (xs ++ ys)
 each-append P [] ys u v = v
 each-append P (x ∷ xs) ys (p, ps) v = (p, each-append P xs ys ps v)
 

@@ -39,7 +39,7 @@ module _ {T : Type 0} where
   has-ended (Junk at) end rest owing r t e = impossible (cc)
   has-ended Clear end rest owing r t e = finished owing end rest r t e
 
-  lacked-none : (owing : Bool) (at rest : ℕ) (o : Outcome T) (t : T) → unless owing at o ≡ Done rest t → o ≡ Done rest t
+  pub lacked-none : (owing : Bool) (at rest : ℕ) (o : Outcome T) (t : T) → unless owing at o ≡ Done rest t → o ≡ Done rest t
   lacked-none true at rest o t e = impossible (cc)
   lacked-none false at rest o t e = e
 

@@ -26,6 +26,26 @@ pub data ReadFrom (t : List ℕ) (says : Group → Type 0) (missing : Type 0) : 
   unread : missing → ReadFrom t says missing source.None
 
 module _ (t : List ℕ) where
+  -- what is so of the groups from any position on: of none, and of one more before others
+  module _ (So : ℕ → List Piece → Type 0) (none : (at : ℕ) → So at [])
+      (more : (at s e : ℕ) → Follows t at s e → So e (groupsFrom t e) → So at (record { start = s; bytes = partOf t s e } ∷ groupsFrom t e)) where
+    by-length : (fuel at : ℕ) → length t - at ≤ fuel → So at (groupsFrom t at)
+    by-length zero at h = go (nextOf t at) refl
+      where
+        go : (x : Cut) → nextOf t at ≡ x → So at (groupsFrom t at)
+        go (cut.End e) is = rw (when-end t at e (sym is)) (none at)
+        go (cut.Group s e) is = let f = when-group t at s e (sym is) in absurd (omega (arith, f .after, f .some, f .within))
+    by-length (suc fuel) at h = go (nextOf t at) refl (λ e. by-length fuel e)
+      where
+        go : (x : Cut) → nextOf t at ≡ x → ((e : ℕ) → length t - e ≤ fuel → So e (groupsFrom t e)) → So at (groupsFrom t at)
+        go (cut.End e) is next = rw (when-end t at e (sym is)) (none at)
+        go (cut.Group s e) is next =
+            let f = when-group t at s e (sym is) in
+            subst (So at) (sym (f .groups)) (more at s e f (next e (omega (arith, f .after, f .some, f .within))))
+
+    pub over-groups : (at : ℕ) → So at (groupsFrom t at)
+    over-groups at = by-length (length t - at) at (omega arith)
+
   -- a group's bytes are those that the text has at its place
   abbrev pub Lies : Piece → Type 0
   Lies g = partOf t (g .start) (g .start + length (g .bytes)) ≡ g .bytes
@@ -34,19 +54,8 @@ module _ (t : List ℕ) where
   AllLie [] = Unit {0}
   AllLie (g ∷ gs) = Lies g × AllLie gs
 
-  pub groups-lie : (fuel at : ℕ) → length t - at ≤ fuel → AllLie (groupsFrom t at)
-  groups-lie zero at h = go (nextOf t at) refl
-    where
-      go : (x : Cut) → nextOf t at ≡ x → AllLie (groupsFrom t at)
-      go (cut.End e) is = rw (when-end t at e (sym is)) tt
-      go (cut.Group s e) is = let f = when-group t at s e (sym is) in absurd (omega (arith, f .after, f .some, f .within))
-  groups-lie (suc fuel) at h = go (nextOf t at) refl (λ e. groups-lie fuel e)
-    where
-      go : (x : Cut) → nextOf t at ≡ x → ((e : ℕ) → length t - e ≤ fuel → AllLie (groupsFrom t e)) → AllLie (groupsFrom t at)
-      go (cut.End e) is next = rw (when-end t at e (sym is)) tt
-      go (cut.Group s e) is next =
-          let f = when-group t at s e (sym is) in
-          subst AllLie (sym (f .groups)) (ap (partOf t s) (length-part t at s e f), next e (omega (arith, f .after, f .some, f .within)))
+  pub groups-lie : AllLie (groupsFrom t 0)
+  groups-lie = over-groups (λ at gs. AllLie gs) (λ at. tt) (λ at s e f next. (ap (partOf t s) (length-part t at s e f), next)) 0
 
   taken-lie : (xs : List Taken) (left : List Piece) → AllLie (map (λ (x : Taken). x .piece) xs ++ left) → (q : ℕ) (s : Spot) (g : Piece) → originIn q s xs ≡ group g → Lies g
   unfolding originIn
@@ -64,5 +73,5 @@ module _ (t : List ℕ) where
       go : (o : Origin) → originIn q s xs ≡ o → Stems (λ g. says (g .bytes)) missing o → ReadFrom t says missing (sourceOf o)
       go _ is (from g x) =
           read (g .start) (g .start + length (g .bytes))
-          (subst says (sym (taken-lie xs (c .left) (subst AllLie (c .all) (groups-lie (length t) 0 (omega arith))) q s g is)) x)
+          (subst says (sym (taken-lie xs (c .left) (subst AllLie (c .all) groups-lie) q s g is)) x)
       go _ is (absent m) = unread m

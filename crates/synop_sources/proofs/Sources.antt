@@ -350,5 +350,5 @@ module _ (t : List ℕ) (rest : ℕ) (r : Synop) (ship : Bool) (f : Piece) (gs :
       go _ is (from g x) =
           let c = trail-covers in
           read (g .start) (g .start + length (g .bytes))
-          (subst (λ (b : Group). LayerSaid b (layerOf k r)) (sym (layer-lies t (trailOf t) (c .left) (subst (AllLie t) (c .all) (groups-lie t (length t) 0 (omega arith))) k g is)) x)
+          (subst (λ (b : Group). LayerSaid b (layerOf k r)) (sym (layer-lies t (trailOf t) (c .left) (subst (AllLie t) (c .all) (groups-lie t)) k g is)) x)
       go _ is (absent m) = unread (m ∙ no-layer k)

@@ -5,4 +5,5 @@ pub mod Items
 pub mod Words
 pub mod Sources
 pub mod Changes
+pub mod Every
 pub mod Examples
