@@ -4,21 +4,24 @@
 -- Assumes nothing.
 use Prim.Native.Nat.{ℕ, _<_}
 use mathlib.Core.Path.{_≡_, sym, ap, subst, _∙_}
+use mathlib.Core.Bool.{true}
 use mathlib.Core.List.{List}
 use lib.ListN.{length}
 use Rattle.text.specs.declared.kinds.Refusal.{Refusal}
 use Rattle.text.specs.declared.kinds.Verdict.the-variants as verdict
 use Rattle.text.specs.Groups.{groupsFrom}
+use Rattle.shapes.specs.Pattern.{hasPattern}
 use Rattle.places.specs.Engine.{Done}
 use Rattle.record.specs.declared.aerodrome.Edition.the-variants as edition
 use Rattle.record.specs.declared.surface.Synop.{Synop}
-use Rattle.record.specs.Blank.{blankLayer, blankSynop}
+use Rattle.record.specs.Blank.{blankLayer, blankSection3, blankSynop}
+use Rattle.synop_row.specs.Row.{section3Word}
 use Rattle.report_record.specs.Record.{surfaceReport, accepted}
 use Rattle.report.specs.Read.{readOf}
 use Rattle.report_laws.proofs.ByName.{SurfaceText}
 use Rattle.report_laws.proofs.Demands.{surface-exactly, refused-blank}
 use Rattle.sources.specs.declared.kinds.Spot.{Spot}
-use Rattle.sources.specs.declared.kinds.Source.{Source}
+use Rattle.sources.specs.declared.kinds.Spot.the-variants as spot
 use Rattle.sources.specs.declared.kinds.Source.the-variants as source
 use Rattle.sources.specs.Trail.{group, originIn, sourceOf}
 use Rattle.sources.proofs.Items.{Covers}
@@ -27,8 +30,8 @@ use Rattle.sources.proofs.Texts.{ReadFrom}
 use Rattle.synop_sources.specs.declared.kinds.Element.{Element}
 use Rattle.synop_sources.specs.Trail.{trailOf}
 use Rattle.synop_sources.specs.Items.{partOf, spotOf, valueOf, Said, layerIn, layerOf, LayerSaid}
-use Rattle.synop_sources.proofs.Sources.{surface-source, layer-source, trail-covers, trail-own}
-use Rattle.report_sources.specs.Surface.{ifSurface, surfaceAt, surfaceLayer}
+use Rattle.synop_sources.proofs.Sources.{surface-source, layer-source, opening-source, trail-covers, trail-own}
+use Rattle.report_sources.specs.Surface.{surfaceAt, surfaceLayer}
 
 -- A REFUSED TEXT HAS NO ITEMS.
 pub refused-none : (t : List ℕ) (f : Refusal) (at : ℕ) → readOf t .verdict ≡ verdict.Refused f at → (part : ℕ) (s : Spot) → surfaceAt t part s ≡ source.None
@@ -63,6 +66,12 @@ module _ (t : List ℕ) (rest : ℕ) (r : Synop) (reads : readOf t ≡ accepted 
   layer-read k few =
       subst (ReadFrom t (λ g. LayerSaid g (layerOf k r)) (layerOf k r ≡ blankLayer)) (sym (layer-found k))
       (layer-source t rest r (text .ship) (text .named .first) (text .named .others) (text .named .groups) (text .named .named) (text .comes) k few)
+
+  -- 333 IS THE SOURCE OF SECTION 3; without it the section is blank.
+  pub section-source : ReadFrom t (λ g. hasPattern g section3Word ≡ true) (r .section3 ≡ blankSection3) (surfaceAt t 1 spot.Opening)
+  section-source =
+      subst (ReadFrom t (λ g. hasPattern g section3Word ≡ true) (r .section3 ≡ blankSection3)) (sym (found 1 spot.Opening))
+      (opening-source t rest r (text .ship) (text .named .first) (text .named .others) (text .named .groups) (text .named .named) (text .comes))
 
   -- EVERY GROUP UP TO THE UNREAD REST IS IN THE TRAIL: those taken, in their order, and those left, which begin where the rest does.
   pub every-group : Covers (length t) rest (groupsFrom t 0) (trailOf t)

@@ -1,11 +1,10 @@
 -- THE GROUPS KNOWN BY POSITION, of a text whose groups come to a record: those of a land station, up to NIL or Nddff, and those of a ship.
 -- Assumes nothing.
 use Prim.Native.Nat.{ℕ}
-use mathlib.Core.Path.{_≡_, refl, sym, ap, subst, _∙_}
+use mathlib.Core.Path.{_≡_, refl, sym, subst, _∙_}
 use mathlib.Core.Bool.{Bool, true, false, cond, _&&_, false≢true}
 use mathlib.Core.List.{List, [], _∷_}
 use Rattle.figures.proofs.Impossible.{impossible}
-use Rattle.text.specs.declared.kinds.Refusal.{Refusal}
 use Rattle.text.specs.declared.kinds.Refusal.the-variants as refusal
 use Rattle.text.specs.declared.kinds.Tail.{Tail}
 use Rattle.text.specs.declared.kinds.Tail.the-variants.{Clear, Junk}
@@ -18,10 +17,9 @@ use Rattle.record.specs.declared.surface.Time.{Time}
 use Rattle.record.specs.declared.surface.Indicators.{Indicators}
 use Rattle.record.specs.declared.surface.Wind.{Wind}
 use Rattle.record.specs.declared.surface.Site.{Site}
-use Rattle.record.specs.declared.surface.Surface.{Surface}
 use Rattle.record.specs.declared.surface.Synop.{Synop}
 use Rattle.record.specs.Blank.{blankSite, blankSurface, blankSection3}
-use Rattle.record.specs.Set.{setStation, setSign, setPosition, setTime, setNil, setSite, setSurface, setIndicators, setWind}
+use Rattle.record.specs.Set.{setStation, setSign, setPosition, setTime, setNil, setSite, setIndicators, setWind}
 use Rattle.synop_groups.specs.declared.kinds.Said.{Said}
 use Rattle.synop_groups.specs.declared.kinds.Said.the-variants as said
 use Rattle.synop_groups.specs.Reads.{saidTime, saidStation, saidLatitude, saidLongitude, saidIndicators, saidWind}
@@ -30,8 +28,9 @@ use Rattle.synop_section.specs.Answer.{begun}
 use Rattle.synop.specs.Read.{Post, withHead, timePost, stationPost, signOf, signPost, latitudePost, longitudePost, indicatorsPost, windPost, posts, isNil, cutShort, afterNil, onward, walk, groupsRead}
 use Rattle.accepted_laws.proofs.Tells.{Tells}
 use Rattle.accepted_laws.proofs.Surfaces.{time-told, station-told, indicators-told}
+use Rattle.sources.proofs.Parts.{done-same}
 use Rattle.synop_sources.specs.Items.{northern}
-use Rattle.synop_sources.proofs.Tells.{Made, made, plain, latitude-plain, longitude-kept, InTwo, wind-in-two}
+use Rattle.synop_sources.proofs.Tells.{same-good, made, latitude-plain, longitude-kept, InTwo, wind-in-two}
 use Rattle.synop_sources.proofs.Sections.{Sections, sections-read}
 
 -- ---- the report behind Nddff
@@ -68,9 +67,6 @@ module _ (tail : Tail) (end rest : ℕ) (whole : Synop) where
     goes : {g : Piece} {gs : List Piece} {r′ : Synop} → (p .nil && isNil (g .bytes)) ≡ false → p .read (g .bytes) r ≡ Good r′ → walk ps r′ tail end gs ≡ Done rest whole
         → PostDone p ps r (g ∷ gs)
 
-  done-so : {a b : ℕ} {r s : Synop} → Done a r ≡ Done b s → (b ≡ a) × (s ≡ r)
-  done-so e = (cc, cc)
-
   post-done : (p : Post) (ps : List Post) (r : Synop) (gs : List Piece) → walk (p ∷ ps) r tail end gs ≡ Done rest whole → PostDone p ps r gs
   unfolding walk
   post-done p ps r [] e = short tail e
@@ -82,7 +78,7 @@ module _ (tail : Tail) (end rest : ℕ) (whole : Synop) where
     where
       over : (u : Tail) (gs : List Piece) → p .nil ≡ true → isNil (g .bytes) ≡ true → afterNil u end r gs ≡ Done rest whole → PostDone p ps r (g ∷ gs)
       over (Junk at) [] a b e = impossible (cc)
-      over Clear [] a b e = let (x, y) = done-so e in ends a b x y
+      over Clear [] a b e = let (x, y) = done-same e in ends a b x y
       over (Junk at) (h ∷ gs) a b e = impossible (cc)
       over Clear (h ∷ gs) a b e = impossible (cc)
 
@@ -172,15 +168,12 @@ module _ (tail : Tail) (end rest : ℕ) (whole : Synop) where
   unfolding groupsRead posts withHead withSaid
   ship-report gs e = go gs (post-done signPost (timePost ∷ latitudePost ∷ longitudePost ∷ indicatorsPost false ∷ windPost ∷ []) (begun true) gs e)
     where
-      good : {a b : Synop} → Good a ≡ Good b → b ≡ a
-      good e = cc
-
       go : (gs : List Piece) → PostDone signPost (timePost ∷ latitudePost ∷ longitudePost ∷ indicatorsPost false ∷ windPost ∷ []) (begun true) gs → Comes true gs
       go _ (ends nil word a b) = absurd (false≢true nil)
       go _ (goes {g = g₀} {gs} {r′} nil is e) =
           next timePost (latitudePost ∷ longitudePost ∷ indicatorsPost false ∷ windPost ∷ []) (sited true (setSign (signOf (g₀ .bytes)) blankSite))
           (λ x. sited true (setTime x (setSign (signOf (g₀ .bytes)) blankSite))) gs refl (λ g. refl) (λ x. refl) time-told (λ l. Comes true (g₀ ∷ l)) (λ g₁ l₁ x a fine e. at-place g₀ g₁ x a l₁ e)
-          (subst (λ (q : Synop). walk (timePost ∷ latitudePost ∷ longitudePost ∷ indicatorsPost false ∷ windPost ∷ []) q tail end gs ≡ Done rest whole) (good is) e)
+          (subst (λ (q : Synop). walk (timePost ∷ latitudePost ∷ longitudePost ∷ indicatorsPost false ∷ windPost ∷ []) q tail end gs ≡ Done rest whole) (same-good is) e)
 
   -- THE REPORT, of either kind.
   pub report-read : (ship : Bool) (gs : List Piece) → groupsRead ship tail end gs ≡ Done rest whole → Report end rest whole ship gs

@@ -1,22 +1,20 @@
 -- Each place of sections 1 and 3 touches its own field alone, and each item is what its group says.
 -- Assumes nothing.
-use Prim.Native.Nat.{ℕ, _+_, _≤_, _<_}
-use native.Mathlib.Omega.{arith}
+use Prim.Native.Nat.{ℕ, _≤_}
 use mathlib.Core.Path.{_≡_, refl, sym, ap, subst, _∙_}
-use mathlib.Core.Bool.{Bool, true, false, cond, not, _&&_}
+use mathlib.Core.Bool.{Bool, true, false, cond, not}
 use mathlib.Core.List.{List}
 use lib.ListN.{take}
 use lib.Dec.{eqb, leb}
-use borrow.Author.Tests.{eqb-true, le-leb, leb-true}
+use borrow.Author.Tests.{eqb-true, le-leb}
 use Rattle.figures.specs.Quote.{bytes}
 use Rattle.figures.proofs.Impossible.{impossible}
 use Rattle.text.specs.declared.kinds.Refusal.the-variants as refusal
 use Rattle.text.specs.Groups.{Piece}
 use Rattle.shapes.specs.Pattern.{hasPattern, hasAny}
-use Rattle.places.specs.Engine.{Group, Read, Good, Bad, Place, placeAt}
+use Rattle.places.specs.Engine.{Group, Good, Place, placeAt}
 use Rattle.record.specs.declared.values.Speed.{Speed}
 use Rattle.record.specs.declared.values.Speed.the-variants as speed
-use Rattle.record.specs.declared.values.Tenths.the-variants as tenths
 use Rattle.record.specs.declared.surface.Indicators.{Indicators}
 use Rattle.record.specs.declared.surface.Wind.{Wind}
 use Rattle.record.specs.declared.surface.Air.{Air}
@@ -48,9 +46,9 @@ use Rattle.accepted_laws.proofs.Tells as tells
 use Rattle.accepted_laws.proofs.Surfaces.{speed-told, air-told, moisture-told, pressure-told, level-told, tendency-told, clouds-told, clock-told}
 use Rattle.sources.proofs.Rows.{Entry, Went, done, on, Item}
 use Rattle.sources.proofs.Fields.{_&_, Fields, end, field, Tuple, Only, only-put, single-item, Rows, row-at}
-use Rattle.synop_sources.specs.Items.{over99, windInTwo, SpeedSaid, says, Said}
+use Rattle.synop_sources.specs.Items.{over99, windInTwo, says, Said}
 use Rattle.synop_sources.specs.declared.kinds.Element.the-variants as element
-use Rattle.synop_sources.proofs.Tells.{Made, made, rain-allowed, weather-allowed, layer-plain}
+use Rattle.synop_sources.proofs.Tells.{Made, same-good, made, rain-allowed, weather-allowed, layer-plain}
 
 -- ---- section 1's fields, in the order of the row's places; and the indicators, which no place of it touches
 
@@ -216,12 +214,9 @@ pub layer-done : (g : Group) (s s′ : Section3) → withTold (layerAt (s .layer
 unfolding layerAt
 layer-done g s s′ e = some (hasPattern g (bytes "8////")) refl (leb 4 (s .layers .count)) refl e
   where
-    good : {a b : Section3} → Good a ≡ Good b → a ≡ b
-    good e = cc
-
     up : {x : Meaning} {l : CloudLayer} → x ≡ said.Layer l → saidLayer g ≡ x → hasPattern g (bytes "8////") ≡ false → leb 4 (s .layers .count) ≡ false → (b : Bool)
         → withTold (cond b (told.Layer l) (told.Refused refusal.Disagreement)) s ≡ Good s′ → LayerDone g s s′
-    up p q filled few true e = subst (LayerDone g s) (good e) (layer filled few (q ∙ p))
+    up p q filled few true e = subst (LayerDone g s) (sym (same-good e)) (layer filled few (q ∙ p))
     up p q filled few false e = impossible (cc)
 
     judges : (x : Meaning) → Tells said.Layer (λ l. Unit {0}) x → saidLayer g ≡ x → hasPattern g (bytes "8////") ≡ false → leb 4 (s .layers .count) ≡ false
@@ -231,7 +226,7 @@ layer-done g s s′ e = some (hasPattern g (bytes "8////")) refl (leb 4 (s .laye
 
     some : (a : Bool) → hasPattern g (bytes "8////") ≡ a → (b : Bool) → leb 4 (s .layers .count) ≡ b
         → withTold (cond a told.Nothing (cond b (told.Refused refusal.Limit) (risen (s .layers) (toldBy (airBy false) (saidLayer g))))) s ≡ Good s′ → LayerDone g s s′
-    some true p b q e = subst (LayerDone g s) (good e) (no-layer p)
+    some true p b q e = subst (LayerDone g s) (sym (same-good e)) (no-layer p)
     some false p true q e = impossible (cc)
     some false p false q e = judges (saidLayer g) (layer-plain g) refl p q e
 

@@ -2,23 +2,26 @@
 -- Assumes nothing.
 use Prim.Native.Nat.{ℕ, zero, suc, _+_, _-_}
 use native.Mathlib.Omega.{arith}
-use mathlib.Core.Path.{_≡_, refl, sym, ap, _∙_}
+use mathlib.Core.Path.{_≡_, refl, sym, ap}
 use mathlib.Core.Bool.{Bool, true, false, _&&_, cond}
 use mathlib.Core.List.{List, []}
 use lib.Dec.{eqb}
-use borrow.Author.Tests.{eqb-true, eqb-false}
+use borrow.Author.Tests.{eqb-true}
 use Rattle.figures.proofs.Impossible.{impossible}
-use Rattle.text.specs.Groups.{Piece, groupsFrom, partOf}
+use Rattle.text.specs.Groups.{groupsFrom, partOf}
 use Rattle.text.proofs.Groups.{Follows}
 use Rattle.places.specs.Engine.{Group}
 use Rattle.sources.specs.declared.kinds.Source.{Source}
 use Rattle.sources.specs.declared.kinds.Source.the-variants as source
-use Rattle.sources.specs.Trail.{Takes, Opens, Origin, sourceOf, trail}
+use Rattle.sources.specs.Trail.{Takes, Opens, Origin, sourceOf, Taken, trail}
 use Rattle.sources.proofs.Walks.{length-part}
 use Rattle.synop_sources.specs.Trail.{markAt, move}
 use Rattle.synop_sources.specs.Items.{layersPlace, saysLayer, kth, layerIn}
 
 module _ (ship : Bool) (t : List ℕ) where
+  abbrev later : ℕ → ℕ → ℕ → ℕ → List Taken
+  later part c k at = trail (move ship) (markAt part c k) (groupsFrom t at)
+
   -- the layer's source, from a position and a mark on, so many layers still to be passed over
   unfoldable pub layered : ℕ → ℕ → ℕ → ℕ → ℕ → Source
   layered more part c k at = sourceOf (layerIn more (trail (move ship) (markAt part c k) (groupsFrom t at)))
@@ -34,7 +37,7 @@ module _ (ship : Bool) (t : List ℕ) where
         unfolding layered trail layerIn
         layered-found e = rw (f .groups, is) (go (saysLayer part (eqb i layersPlace) (partOf t from to)) (eqb more 0) refl e)
           where
-            go : (b z : Bool) → eqb more 0 ≡ z → (b && z) ≡ true → source.Group from to ≡ sourceOf (cond b (kth more (record { start = from; bytes = partOf t from to }) (λ j. layerIn j (trail (move ship) (markAt part i (n + 1)) (groupsFrom t to)))) (layerIn more (trail (move ship) (markAt part i (n + 1)) (groupsFrom t to))))
+            go : (b z : Bool) → eqb more 0 ≡ z → (b && z) ≡ true → source.Group from to ≡ sourceOf (cond b (kth more (record { start = from; bytes = partOf t from to }) (λ j. layerIn j (later part i (n + 1) to))) (layerIn more (later part i (n + 1) to)))
             go true true none e = let z = eqb-true more 0 none in rw z (ap (source.Group from) (sym (length-part t at from to f)))
             go true false none e = impossible (cc)
             go false z none e = impossible (cc)
@@ -45,8 +48,8 @@ module _ (ship : Bool) (t : List ℕ) where
         layered-on e = rw (f .groups, is) (go (saysLayer part (eqb i layersPlace) (partOf t from to)) more e)
           where
             go : (b : Bool) (more : ℕ) → (b && eqb more 0) ≡ false
-                → sourceOf (layerIn (cond b (more - 1) more) (trail (move ship) (markAt part i (n + 1)) (groupsFrom t to)))
-                ≡ sourceOf (cond b (kth more (record { start = from; bytes = partOf t from to }) (λ j. layerIn j (trail (move ship) (markAt part i (n + 1)) (groupsFrom t to)))) (layerIn more (trail (move ship) (markAt part i (n + 1)) (groupsFrom t to))))
+                → sourceOf (layerIn (cond b (more - 1) more) (later part i (n + 1) to))
+                ≡ sourceOf (cond b (kth more (record { start = from; bytes = partOf t from to }) (λ j. layerIn j (later part i (n + 1) to))) (layerIn more (later part i (n + 1) to)))
             go true zero e = impossible (cc)
             go true (suc m) e = let less : suc m - 1 ≡ m = omega arith in rw less
             go false m e = refl
@@ -63,7 +66,7 @@ module _ (ship : Bool) (t : List ℕ) where
       unfolding layered trail layerIn
       layered-opens is = rw (f .groups, is) (go (eqb (part + 1) 1) _ _)
         where
-          go : (b h : Bool) (o : Origin) → sourceOf (layerIn more (trail (move ship) (markAt (part + 1) 0 0) (groupsFrom t to)))
-              ≡ sourceOf (cond ((b && false) && h) o (layerIn more (trail (move ship) (markAt (part + 1) 0 0) (groupsFrom t to))))
+          go : (b h : Bool) (o : Origin) → sourceOf (layerIn more (later (part + 1) 0 0 to))
+              ≡ sourceOf (cond ((b && false) && h) o (layerIn more (later (part + 1) 0 0 to)))
           go true h o = refl
           go false h o = refl

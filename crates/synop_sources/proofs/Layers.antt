@@ -7,7 +7,7 @@ use mathlib.Core.Bool.{Bool, true, false, cond, not, _&&_}
 use mathlib.Core.List.{List, [], _∷_, _++_, map}
 use lib.ListN.{length, getD, set, length-set}
 use lib.Seq.{getD-set-same, getD-set-other}
-use lib.Dec.{eqb, leb}
+use lib.Dec.{eqb}
 use borrow.Author.Tests.{eqb-true, eqb-false, ne-eqb, leb-false, lt-ltb}
 use Rattle.figures.specs.Quote.{bytes}
 use Rattle.figures.proofs.Impossible.{impossible}
@@ -21,7 +21,7 @@ use Rattle.record.specs.Blank.{blankLayer, blankSection3}
 use Rattle.synop_groups.specs.declared.kinds.Said.the-variants as said
 use Rattle.synop_groups.specs.Reads.{saidLayer}
 use Rattle.section3.specs.Row as third
-use Rattle.sources.specs.Trail.{Taken, Origin, nowhere, group}
+use Rattle.sources.specs.Trail.{Taken, Origin, group}
 use Rattle.sources.proofs.Rows.{Entry, Went, done, on}
 use Rattle.sources.proofs.Parts.{asTaken}
 use Rattle.sources.proofs.Items.{Stems, from, absent}

@@ -1,13 +1,13 @@
 -- SECTIONS 1 AND 3 OF A TEXT WHOSE GROUPS COME TO A RECORD, group by group; and that the walk takes each group where the reader did, whatever iR, ix and ff require.
 -- Assumes nothing.
-use Prim.Native.Nat.{ℕ, zero, suc, _+_, _≤_, _<_}
+use Prim.Native.Nat.{ℕ, zero, suc, _+_, _<_}
 use native.Mathlib.Omega.{arith}
-use mathlib.Core.Path.{_≡_, refl, sym, ap, subst, _∙_}
+use mathlib.Core.Path.{_≡_, refl, ap, _∙_}
 use mathlib.Core.Bool.{Bool, true, false, _&&_, _||_, cond}
 use mathlib.Core.List.{List, [], _∷_, _++_, map}
-use lib.ListN.{length, drop}
+use lib.ListN.{drop}
 use lib.Dec.{eqb, leb, ltb}
-use borrow.Author.Tests.{ne-eqb, lt-leb, eq-eqb}
+use borrow.Author.Tests.{ne-eqb, lt-leb}
 use Rattle.figures.proofs.Impossible.{impossible}
 use Rattle.text.specs.declared.kinds.Refusal.the-variants as refusal
 use Rattle.text.specs.declared.kinds.Tail.{Tail}
@@ -18,9 +18,9 @@ use Rattle.places.specs.declared.kinds.Found.the-variants.{Take, Skips, Full, E
 use Rattle.places.specs.declared.kinds.Turn.{Turn}
 use Rattle.places.specs.declared.kinds.Turn.the-variants as turn
 use Rattle.places.specs.Seek.{Stand, seek, anywhere, orEarlier, findOf}
-use Rattle.places.specs.Engine.{Group, Good, Place, standsOf, onward, Done}
+use Rattle.places.specs.Engine.{Group, Good, Place, standsOf, Done}
 use Rattle.places.specs.Turn.{turnBy, turnAt}
-use Rattle.places.specs.Parts.{Word, Ends, Opens, Further, turned, partFrom, begins, further, reportOf}
+use Rattle.places.specs.Parts.{Ends, Opens, Further, turned, partFrom, begins, further, reportOf}
 use Rattle.record.specs.declared.surface.Surface.{Surface}
 use Rattle.record.specs.declared.surface.Section3.{Section3}
 use Rattle.record.specs.declared.surface.Synop.{Synop}
@@ -39,7 +39,7 @@ use Rattle.sources.specs.Trail.{Opens as Begins, Ends as Over, Taken, afterMove
 use Rattle.sources.proofs.Rows.{Entry, Went, done, on, went-pieces, turn-within, at-found}
 use Rattle.sources.proofs.Parts.{asTaken, done-same, PartDone, Ending, groups-over, word-met, part-done}
 use Rattle.sources.proofs.Items.{RestAt, Covers, entries-cover, cover-more}
-use Rattle.sources.proofs.Own.{Apart, Distinct, Later, went-distinct, distinct-append, later-append, entries-later, beside}
+use Rattle.sources.proofs.Own.{Distinct, Later, went-distinct, distinct-append, later-append, entries-later, beside}
 use Rattle.synop_sources.specs.Trail.{windPlace, free, markAt, moveBy, move}
 
 -- ---- the sections

@@ -3,10 +3,9 @@
 use Prim.Native.Nat.{ℕ, zero, suc, _+_, _≤_, _<_}
 use native.Mathlib.Omega.{arith}
 use mathlib.Core.Path.{_≡_, refl, sym, ap, subst, _∙_}
-use mathlib.Core.Bool.{Bool, true, false, cond, _&&_}
+use mathlib.Core.Bool.{Bool, true, false, cond}
 use mathlib.Core.List.{List, [], _∷_, _++_, map}
-use lib.ListN.{length, getD}
-use lib.Dec.{eqb}
+use lib.ListN.{length}
 use borrow.Author.Tests.{ne-eqb}
 use Rattle.figures.specs.Quote.{bytes}
 use Rattle.text.specs.Groups.{Piece, groupsFrom}
@@ -27,7 +26,7 @@ use Rattle.record.specs.declared.surface.Synop.{Synop}
 use Rattle.record.specs.Blank.{blankLayer, blankSurface, blankSection3, blankSynop}
 use Rattle.synop_groups.specs.declared.kinds.Said.the-variants as said
 use Rattle.synop_groups.specs.Reads.{saidTime, saidStation, saidLatitude, saidLongitude, saidIndicators, saidWind}
-use Rattle.synop_row.specs.Row.{needsOf, row, stopWords}
+use Rattle.synop_row.specs.Row.{needsOf, row, stopWords, section3Word}
 use Rattle.section3.specs.Row as third
 use Rattle.synop.specs.Read.{signOf, groupsRead}
 use Rattle.sources.specs.declared.kinds.Spot.{Spot}
@@ -36,13 +35,13 @@ use Rattle.sources.specs.Trail.{Taken, Origin, nowhere, group, originIn, source
 use Rattle.sources.proofs.Rows.{Entry, Item, item-told}
 use Rattle.sources.proofs.Parts.{asTaken}
 use Rattle.sources.proofs.Items.{Stems, from, absent, told-stems, past-part, Covers, cover-more}
-use Rattle.sources.proofs.Own.{EachTaken, Apart, Distinct, Later, apart-append, later-apart, own}
+use Rattle.sources.proofs.Own.{EachTaken, Apart, Distinct, apart-append, later-apart, own}
 use Rattle.sources.proofs.Texts.{ReadFrom, read, unread, read-from, AllLie, groups-lie}
 use Rattle.sources.proofs.Fields.{_&_}
 use Rattle.synop_sources.specs.declared.kinds.Element.{Element}
 use Rattle.synop_sources.specs.declared.kinds.Element.the-variants as element
 use Rattle.synop_sources.specs.Trail.{namePlace, signPlace, timePlace, stationPlace, latitudePlace, longitudePlace, nilPlace, indicatorsPlace, windPlace, start, move, shipIn, trailOf}
-use Rattle.synop_sources.specs.Items.{partOf, placeOf, spotOf, northern, windInTwo, over99, says, valueOf, Said, layerIn, layerOf, LayerSaid}
+use Rattle.synop_sources.specs.Items.{partOf, spotOf, northern, windInTwo, over99, says, valueOf, Said, layerIn, layerOf, LayerSaid}
 use Rattle.synop_sources.proofs.Tells.{InTwo}
 use Rattle.synop_sources.proofs.Sections.{EachLow, Third, over, stop, opened, Sections, sections-walked, sections-cover, sections-distinct, sections-low}
 use Rattle.synop_sources.proofs.Items.{speed-item, air-item, moisture-item, pressure-item, level-item, tendency-item, rainfall-item, weather-item, clouds-item, clock-item, section-kept, maximum-item, minimum-item}
@@ -79,6 +78,18 @@ module _ {end rest : ℕ} {r whole : Synop} {gs : List Piece} (d : Sections end 
       go (over a) = absent refl
       go (stop is a) = absent refl
       go (opened {es = es} is went halted begins) = told-stems 1 i 0 es [] refl (item-told third.row third.halts item went tt refl)
+
+  -- 333, which opens section 3; without it the section is blank
+  opening-stems : Stems (λ g. hasPattern (g .bytes) section3Word ≡ true) (d .s₃ ≡ blankSection3) (originIn 1 spot.Opening taken)
+  unfolding originIn
+  opening-stems =
+      subst (Stems (λ g. hasPattern (g .bytes) section3Word ≡ true) (d .s₃ ≡ blankSection3)) (sym (past-part 1 0 spot.Opening (d .entries) (d .taken) refl)) (go (d .third))
+    where
+      go : {end rest : ℕ} {s₃ : Section3} {left : List Piece} {xs : List Taken} → Third end rest s₃ left xs
+          → Stems (λ g. hasPattern (g .bytes) section3Word ≡ true) (s₃ ≡ blankSection3) (originIn 1 spot.Opening xs)
+      go (over a) = absent refl
+      go (stop is a) = absent refl
+      go (opened {g = g} is went halted begins) = from g is
 
   -- no group of the sections stands at a place before section 1
   none-before : (i : ℕ) → 10 ≤ i → originIn 0 (spot.At i 0) taken ≡ nowhere
@@ -216,6 +227,10 @@ layered : (k : ℕ) (o : Origin) {r v : Synop} → r ≡ v → Stems (λ g. Laye
     → Stems (λ g. LayerSaid (g .bytes) (layerOf k r)) (layerOf k r ≡ layerOf k blankSynop) o
 layered k o is x = subst (λ (v : Synop). Stems (λ g. LayerSaid (g .bytes) (layerOf k v)) (layerOf k v ≡ layerOf k blankSynop) o) (sym is) x
 
+-- 333 stands there, or there is no section 3
+abbrev Opening : Synop → Origin → Type 0
+Opening v o = Stems (λ g. hasPattern (g .bytes) section3Word ≡ true) (v .section3 ≡ blankSection3) o
+
 -- no group was taken there, and the item is missing
 lacking : (e : Element) (r : Synop) (o : Origin) → o ≡ nowhere → valueOf e r ≡ valueOf e blankSynop → Stemming e r o
 lacking e r o none m = subst (Stemming e r) (sym none) (absent m)
@@ -307,6 +322,13 @@ module _ {end rest : ℕ} {whole : Synop} (f : Piece) where
   report-stems named (from-nil g₁ g₂ g₃ x n a b c d is) e = as-read e _ is (nil-stems f named g₁ g₂ g₃ a b e)
   report-stems named (from-ship g₀ g₁ g₂ g₃ g₄ g₅ gs x p q i w a b c north d h two s) e = as-read e _ (s .is) (ship-stems named g₀ g₁ g₂ g₃ g₄ g₅ a b c north d h two s e)
 
+  report-opening : {ship : Bool} {gs : List Piece} (r : Report end rest whole ship gs) → Opening whole (originIn 1 spot.Opening (trailed f r))
+  unfolding originIn
+  report-opening (from-land g₁ g₂ g₃ g₄ gs x n i w a b c d h two s) = subst (λ (v : Synop). Opening v (originIn 1 spot.Opening (taken s))) (sym (s .is)) (opening-stems s)
+  report-opening (from-nil g₁ g₂ g₃ x n a b c d is) = subst (λ (v : Synop). Opening v nowhere) (sym is) (absent refl)
+  report-opening (from-ship g₀ g₁ g₂ g₃ g₄ g₅ gs x p q i w a b c north d h two s) =
+      subst (λ (v : Synop). Opening v (originIn 1 spot.Opening (taken s))) (sym (s .is)) (opening-stems s)
+
   layer-stems : {ship : Bool} {gs : List Piece} (r : Report end rest whole ship gs) (k : ℕ) → k < 4
       → Stems (λ g. LayerSaid (g .bytes) (layerOf k whole)) (layerOf k whole ≡ layerOf k blankSynop) (layerIn k (trailed f r))
   unfolding layerIn
@@ -338,6 +360,10 @@ module _ (t : List ℕ) (rest : ℕ) (r : Synop) (ship : Bool) (f : Piece) (gs :
   surface-source e =
       read-from t (partOf e) (spotOf e) (trailOf t) trail-covers
       (subst (λ (xs : List Taken). Stemming e r (originIn (partOf e) (spotOf e) xs)) (sym walked) (report-stems f (named-ship ship (f .bytes) named) report e))
+
+  -- 333 IS THE SOURCE OF SECTION 3; without it the section is blank.
+  pub opening-source : ReadFrom t (λ g. hasPattern g section3Word ≡ true) (r .section3 ≡ blankSection3) (sourceOf (originIn 1 spot.Opening (trailOf t)))
+  opening-source = read-from t 1 spot.Opening (trailOf t) trail-covers (subst (λ (xs : List Taken). Opening r (originIn 1 spot.Opening xs)) (sym walked) (report-opening f report))
 
   abbrev Layered : ℕ → Origin → Type 0
   Layered k o = Stems (λ g. LayerSaid (g .bytes) (layerOf k r)) (layerOf k r ≡ layerOf k blankSynop) o

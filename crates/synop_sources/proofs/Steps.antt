@@ -1,6 +1,6 @@
 -- The laws of a walk over a SYNOP or SHIP: what the next group comes to.
 -- Assumes nothing.
-use Prim.Native.Nat.{ℕ, _+_, _≤_, _<_}
+use Prim.Native.Nat.{ℕ, _<_}
 use native.Mathlib.Omega.{arith}
 use mathlib.Core.Path.{_≡_, refl, sym, ap, subst, _∙_}
 use mathlib.Core.Bool.{Bool, true, false, _&&_, cond}
@@ -30,7 +30,7 @@ use Rattle.sources.specs.Trail.{Mark, Move, Takes, Opens, Ends, originIn, trail
 use Rattle.sources.proofs.Walks.{looked}
 use Rattle.synop_sources.specs.declared.kinds.Met.{Met}
 use Rattle.synop_sources.specs.declared.kinds.Met.the-variants as met
-use Rattle.synop_sources.specs.Trail.{namePlace, signPlace, timePlace, stationPlace, latitudePlace, longitudePlace, indicatorsPlace, windPlace, headTurn, free, sectionTurn, inHead, turnIn, markAt, wordMove, moveBy, move, metMove, metCut, metOf}
+use Rattle.synop_sources.specs.Trail.{namePlace, signPlace, timePlace, stationPlace, latitudePlace, longitudePlace, indicatorsPlace, windPlace, headTurn, free, inHead, turnIn, markAt, moveBy, move, metMove, metCut, metOf}
 
 -- ---- no place has more than 2,048 groups
 

@@ -1,6 +1,6 @@
 -- What a group of a SYNOP or SHIP tells, where it is not refused, beside what the laws of accepted records say of it.
 -- Assumes nothing.
-use Prim.Native.Nat.{ℕ, _≤_, _<_}
+use Prim.Native.Nat.{ℕ, _<_}
 use native.Mathlib.Omega.{arith}
 use mathlib.Core.Path.{_≡_, refl, sym, ap, _∙_}
 use mathlib.Core.Bool.{Bool, true, false, cond, not, _&&_}
@@ -40,7 +40,7 @@ pub record Made {A R : Type 0} (make : A → Said) (P : A → Type 0) (put : A �
   pub so : P value
   pub puts : r ≡ put value
 
-same-good : {R : Type 0} {r s : R} → Good s ≡ Good r → r ≡ s
+pub same-good : {R : Type 0} {r s : R} → Good s ≡ Good r → r ≡ s
 same-good e = cc
 
 pub made : {A R : Type 0} {make : A → Said} {P : A → Type 0} (with : Said → Read R) (put : A → R) {x : Said} {r : R} → ((a : A) → with (make a) ≡ Good (put a))

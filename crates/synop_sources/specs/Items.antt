@@ -171,8 +171,8 @@ pub data StationSaid (g : Group) : Number → Type 0 where
 pub data SpeedSaid (g : Group) : Speed → Type 0 where
   says : {n : ℕ} → saidSpeed true g ≡ said.Speed n → SpeedSaid g (over99 (speed.Is n))
 
--- WHAT THE DEFINITION OF THE GROUP SAYS OF ITS BYTES. NIL is a word: that the group stands is all it says. QcLoLoLoLo is read after a latitude without its sign.
--- 6RRRt and 7wwWW are read as groups that iR and ix allow: where these forbid one, the text is refused.
+-- WHAT THE DEFINITION OF THE GROUP SAYS OF ITS BYTES. NIL is a word: that the group stands is all it says. QcLoLoLoLo is read after a latitude without its
+-- sign, and says with which one. 6RRRt and 7wwWW are read as groups that iR and ix allow: where these forbid one, the text is refused.
 abbrev pub Said : (e : Element) → Group → Value e → Type 0
 Said element.Name g v = v ≡ hasPattern g (bytes "BBXX")
 Said element.Sign g v = v ≡ signOf g

@@ -1,8 +1,8 @@
 -- Where each group of a SYNOP or SHIP was taken. Part 0 has its name, the groups that are known by their position, and section 1; part 1, which 333 opens, has
 -- section 3. A place of section 1 or 3 has its number in the row of that section; the groups before section 1 stand in no row, and have the numbers from 10 on.
 -- Assumes nothing: these are definitions.
-use Prim.Native.Nat.{ℕ, _+_}
-use mathlib.Core.Bool.{Bool, true, false, cond, not, _&&_}
+use Prim.Native.Nat.{ℕ}
+use mathlib.Core.Bool.{Bool, false, cond, not, _&&_}
 use mathlib.Core.List.{List, [], _∷_}
 use lib.Dec.{eqb, leb}
 use Rattle.figures.specs.Quote.{bytes}
@@ -24,8 +24,8 @@ use Rattle.sources.specs.Trail.{Mark, Move, Takes, Opens, Joins, Ends, Taken, t
 use Rattle.synop_sources.specs.declared.kinds.Met.{Met}
 use Rattle.synop_sources.specs.declared.kinds.Met.the-variants as met
 
--- ---- the groups known by position: "AAXX YYGGiw IIiii, or BBXX, a call sign .., YYGGiw, 99LaLaLa, QcLoLoLoLo", then iRixhVV and Nddff; "NIL after IIiii ends a
--- land report"
+-- ---- the groups known by position: "AAXX YYGGiw IIiii, or BBXX, a call sign .., YYGGiw, 99LaLaLa, QcLoLoLoLo", then iRixhVV and Nddff; "NIL after IIiii
+-- ends a land report."
 
 abbrev pub namePlace : ℕ
 namePlace = 10

@@ -1,6 +1,5 @@
 -- `synop_sources::count_down` meets its contract, by cases.
 -- Assumes nothing.
-use borrow.Author.Needs.{needs}
 use native.Mathlib.Omega.{arith}
 use Rattle.synop_sources.proofs.count_down.Statement.{statement}
 use Rattle.synop_sources.proofs.count_down.Tie as tie
