@@ -3,3 +3,4 @@ pub mod Provenance
 pub mod Forecasts
 pub mod SurfaceProvenance
 pub mod Every
+pub mod SurfaceEvery

@@ -7,3 +7,5 @@ pub mod Items
 pub mod Heads
 pub mod Layers
 pub mod Sources
+pub mod Every
+pub mod EveryLayer
