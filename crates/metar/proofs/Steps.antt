@@ -4,28 +4,36 @@
 use Prim.Native.Nat.{ℕ, _≤_}
 use native.Mathlib.Omega.{arith}
 use mathlib.Core.Path.{_≡_, refl, sym, _∙_}
-use mathlib.Core.Bool.{Bool, true, false, cond, or-false}
+use mathlib.Core.Bool.{Bool, true, false, cond, or-false, false≢true}
 use mathlib.Core.List.{List, [], _∷_}
 use lib.ListN.{length, drop}
 use lib.Dec.{T, eqb}
-use types.Run.{OneOf}
+use types.Run.{OneOf, miss}
 use denote.Enum.Declared.{tagOf}
 use Rattle.text.specs.declared.kinds.Refusal.the-variants as refusal
 use Rattle.text.specs.declared.kinds.Tail.{Tail}
+use Rattle.text.specs.declared.kinds.Verdict.{Verdict}
+use Rattle.text.specs.declared.kinds.Verdict.the-variants as verdict
 use Rattle.text.specs.Groups.{Piece, partOf}
 use Rattle.figures.specs.Quote.{bytes}
 use Rattle.shapes.specs.Pattern.{low, high, fits, hasPattern, hasAny, clash, clashEach, allApart}
 use Rattle.shapes.proofs.Patterns.{or-right, excluded, all-excluded}
 use Rattle.places.specs.Engine.{Group, Read, Good, Bad, then, placeAt, mustsOf, On, step}
 use Rattle.places.specs.Seek.{owed}
-use Rattle.places.specs.Parts.{stepBy, runTo, owes, reportOf}
+use Rattle.places.specs.Parts.{Part, stepBy, runTo, owes, reportOf}
+use Rattle.places.specs.Answer.{outcomeOf}
+use Rattle.places.proofs.Turns.{comes, within}
 use Rattle.places.proofs.ReadBack.{two-patterns}
 use Rattle.places.proofs.Going.{step-first}
 use Rattle.places.proofs.Loop.{atMost}
 use Rattle.record.specs.declared.aerodrome.Body.{Body}
 use Rattle.record.specs.declared.aerodrome.Observation.{Observation}
 use Rattle.record.specs.declared.aerodrome.RunwayState.{RunwayState}
+use Rattle.record.specs.declared.aerodrome.Metar.{Metar}
+use Rattle.record.specs.declared.aerodrome.Trend.{Trend}
+use Rattle.record.specs.declared.aerodrome.TrendChange.{TrendChange}
 use Rattle.record.specs.Observation.{blankObservation, setSpecial, setTime, setBody, setVariation, setRunways, setTemperatures, setQnh, setRecents, setStates}
+use Rattle.record.specs.Trend.{blankTrend}
 use Rattle.elements.specs.declared.kinds.Said.{Said}
 use Rattle.elements.specs.declared.kinds.Said.the-variants as said
 use Rattle.elements.proofs.kinds.Said as says
@@ -39,14 +47,21 @@ use Rattle.elements.specs.Parts.{disagrees}
 use Rattle.runway_states.specs.State.{readState, withState, withSnoclo}
 use Rattle.elements.specs.Body.{bodyRow}
 use Rattle.body.specs.Said.{unlessRefused, isOfBody, Says as BodySays}
+use Rattle.body.specs.declared.kinds.Met.{Met}
+use Rattle.body.specs.declared.kinds.Met.the-variants as met
+use Rattle.body.proofs.kinds.Met as mets
+use Rattle.body.specs.Met.{Meets}
 use Rattle.body.proofs.Variants.{each, by-tag, never}
+use Rattle.body.proofs.Parts.{Reached, reads-over, reads-word, reads-fault}
 use Rattle.body.proofs.Says.{value-says, body-says, past-says}
 use Rattle.metar_row.specs.Row.{isName, observed, row, words}
 use Rattle.metar.specs.Said.{ontoBody, reportSaid, DependsOn, Says}
+use Rattle.trend_row.specs.declared.kinds.Word.{Word}
 use Rattle.trend.specs.declared.kinds.Next.{Next}
+use Rattle.trend.specs.Read.{parts}
 use Rattle.trend.specs.Step.{afterPart, MetWord}
-use Rattle.metar.specs.Read.{mainPart, groupsRead, behindName}
-use Rattle.metar.specs.Step.{alone, wordAt}
+use Rattle.metar.specs.Read.{mainPart, groupsRead, behindName, reading, isRefused, answer}
+use Rattle.metar.specs.Step.{alone, beside, wordAt, leftAt}
 
 -- ---- the row
 
@@ -157,6 +172,42 @@ owes-is c k o p q = q ∙ rw p (sym (or-false (owed k (drop c (mustsOf row)))))
 pub word-leads : (text : List ℕ) (start end c k : ℕ) (o : Observation) {g : Group} {b : Bool} {x : Next} → g ≡ partOf text start end → b ≡ owes mainPart c k o
     → MetWord g start end 0 false b x → wordAt text start end c k o ≡ afterPart text 0 (alone o) x
 word-leads text start end c k o cut is met = rw (is, cut) at (met .reads text (alone o) (record { alone = refl; many = λ e. refl }))
+
+-- the observation is one part, which one report takes in
+abbrev pub onePart : Unit {0} → Part Metar TrendChange Word Observation
+onePart u = mainPart
+
+-- every Met but a group that is taken
+abbrev pub untaken : List ℕ
+untaken = 0 ∷ 1 ∷ 2 ∷ []
+
+-- where the next group is not taken, the text comes to what it says there
+module _ {text : List ℕ} {o₀ : Observation} {start c k : ℕ} {o : Observation} {at : ℕ} (reached : Reached parts text onePart row (hasAny words) 3 1 o₀ start c k o at) where
+  abbrev sees : Observation → Type 0
+  sees = DependsOn (o .automatic) (o .body) (o .states .count)
+
+  pub leaves : (m : Met) → Meets row (hasAny words) reportSaid c k sees text at m → OneOf untaken (tagOf mets.the-type m) → within parts text mainPart 3 0 1 o₀ start ≡ leftAt text m c k o
+  unfolding comes
+  leaves met.Over meets told = reads-over reached reportSaid sees meets (refl, refl, refl) refl tt
+  leaves (met.Halt s e) meets told = reads-word reached reportSaid sees meets (refl, refl, refl) refl tt
+  leaves (met.Refused f s) meets told = reads-fault reached reportSaid sees meets (refl, refl, refl) refl tt
+  leaves (met.Says x) meets told = absurd (miss untaken 3 tt told)
+
+-- ---- the answer
+
+-- a refused text comes to its refusal, whatever was read
+pub refused-so : (v : Verdict) (r s : Metar) → isRefused v ≡ true → outcomeOf v r ≡ outcomeOf v s
+refused-so (verdict.Accepted rest) r s is = absurd (false≢true is)
+refused-so (verdict.Refused f at) r s is = refl
+
+-- the observation is made blank where the text is refused, and else stays
+pub blanked : (v : Verdict) (o : Observation) {p : Observation} {t : Trend} → isRefused v ≡ true → p ≡ blankObservation → t ≡ blankTrend → reading v (beside p t) ≡ answer (outcomeOf v (beside o t))
+blanked (verdict.Accepted rest) o is p t = absurd (false≢true is)
+blanked (verdict.Refused f at) o is p t = rw (p, t)
+
+pub unblanked : (v : Verdict) (o : Observation) {p : Observation} {t : Trend} → isRefused v ≡ false → p ≡ o → reading v (beside p t) ≡ answer (outcomeOf v (beside o t))
+unblanked (verdict.Accepted rest) o is p = rw p
+unblanked (verdict.Refused f at) o is p = absurd (false≢true (sym is))
 
 -- ---- the name, at the row's first place
 

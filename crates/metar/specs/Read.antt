@@ -1,16 +1,16 @@
 -- Reading a METAR or SPECI: a report of parts (places, Parts), its observation, then the parts of its trend.
 -- Assumes nothing: these are definitions.
 use Prim.Native.Nat.{ℕ}
-use mathlib.Core.Bool.{Bool, false}
+use mathlib.Core.Bool.{Bool, true, false}
 use mathlib.Core.List.{List}
-use Rattle.text.specs.declared.kinds.Refusal.{Refusal}
 use Rattle.text.specs.declared.kinds.Tail.{Tail}
 use Rattle.text.specs.declared.kinds.Verdict.{Verdict}
+use Rattle.text.specs.declared.kinds.Verdict.the-variants as verdict
 use Rattle.text.specs.Groups.{Piece}
 use Rattle.shapes.specs.Pattern.{hasAny}
 use Rattle.places.specs.Engine.{Outcome}
 use Rattle.places.specs.Parts.{Part, partFrom, further, reportOf}
-use Rattle.places.specs.Answer.{acceptedAs, refusedAs, answerOf}
+use Rattle.places.specs.Answer.{answerOf}
 use Rattle.record.specs.declared.aerodrome.Observation.{Observation}
 use Rattle.record.specs.declared.aerodrome.TrendChange.{TrendChange}
 use Rattle.record.specs.declared.aerodrome.Metar.{Metar}
@@ -45,11 +45,9 @@ behindName special tail end gs = partFrom tail end mainPart (further tail end pa
 abbrev pub reading : Verdict → Metar → Reading
 reading v r = record { verdict = v; report = r }
 
-abbrev pub accepted : ℕ → Metar → Reading
-accepted rest r = acceptedAs reading blankMetar rest r
-
-abbrev pub refused : Refusal → ℕ → Reading
-refused f at = refusedAs reading blankMetar f at
+abbrev pub isRefused : Verdict → Bool
+isRefused (verdict.Accepted rest) = false
+isRefused (verdict.Refused f at) = true
 
 abbrev pub answer : Outcome Metar → Reading
 answer o = answerOf reading blankMetar o

@@ -1,27 +1,43 @@
-// The answer to a text: accepted, with the record and where the unread rest begins, or refused, with a blank record.
+// The answer to a text: its verdict with the parts of its report.
 use crate::kinds::Reading;
 use record::aerodrome::Metar;
-use record::blank_aerodrome::blank_metar;
-use text::kinds::Refusal;
+use record::aerodrome::Observation;
+use record::aerodrome::Trend;
 use text::kinds::Verdict;
+use trend::kinds::Ahead;
 ghost use mathlib.Core.Path.{_≡_};
-ghost use Rattle.metar.specs.Read.{accepted, refused};
+ghost use Rattle.metar.specs.Read.{isRefused, reading};
 
-pub fn refuse(refusal: Refusal, place: usize) -> Reading
-    ensures { λ r. ⌜ r ≡ refused refusal place ⌝ }
+pub fn is_refused(verdict: Verdict) -> bool
+    ensures { λ r. ⌜ r ≡ isRefused verdict ⌝ }
 {
-    let report = blank_metar();
-    Reading {
-        verdict: Verdict::Refused { refusal, place },
-        report,
+    match verdict {
+        Verdict::Accepted { rest: _ } => false,
+        Verdict::Refused {
+            refusal: _,
+            place: _,
+        } => true,
     }
 }
 
-pub fn accept(rest: usize, report: Metar) -> Reading
-    ensures { λ r. ⌜ r ≡ accepted rest report ⌝ }
+pub fn reading_of(verdict: Verdict, observation: Observation, trend: Trend) -> Reading
+    ensures { λ r. ⌜ r ≡ reading verdict (record { observation = observation; trend = trend }) ⌝ }
 {
-    Reading {
-        verdict: Verdict::Accepted { rest },
-        report,
-    }
+    let report = Metar { observation, trend };
+    Reading { verdict, report }
+}
+
+// The same of what was read of a trend.
+pub fn is_refused_ahead(ahead: Ahead) -> bool
+    ensures { λ r. ⌜ r ≡ isRefused (ahead .verdict) ⌝ }
+{
+    let verdict = ahead.verdict;
+    is_refused(verdict)
+}
+
+pub fn reading_with(observation: Observation, ahead: Ahead) -> Reading
+    ensures { λ r. ⌜ r ≡ reading (ahead .verdict) (record { observation = observation; trend = ahead .trend }) ⌝ }
+{
+    let verdict = ahead.verdict;
+    reading_of(verdict, observation, ahead.trend)
 }

@@ -24,7 +24,7 @@ use Rattle.text.specs.Numbers.{verdictNumbers}
 use Rattle.text.specs.Bytes.{parting, inner, other, allowed, lead, lastEnd}
 use Rattle.text.specs.Groups.{Piece, groupsIn, groupsFrom, spaced, parted, join, Every, Everywhere, Whole, Wholes}
 use Rattle.text.specs.Text.{equalsAt, bytesOf, tailOf, isBare, trimmedOf, TrimmedPart}
-use Rattle.text.proofs.Leads.{lead-cons-yes, lead-cons-no, lead-le}
+use Rattle.text.proofs.Leads.{lead-cons-yes, lead-cons-no, lead-le, last-le}
 use Rattle.text.proofs.Groups.{part-is, part-nothing, past-end, inner-not-parting, from-parting}
 use Rattle.text.proofs.Texts.{bytes-sound, junk-none, trimmed-start, trimmed-equals, trimmed-last}
 use Rattle.text.proofs.Joins.{round-trip-bytes, length-join, join-tail, join-sound}
@@ -387,15 +387,6 @@ module _ (x : ℕ) (xs : List ℕ) where
       go true true p e = blank p (eqb-true (lastEnd xs) 0 e)
       go true false p e = further-on
       go false b p e = further-on
-
-last-le : (l : List ℕ) → lastEnd l ≤ length l
-unfolding lastEnd
-last-le [] = omega arith
-last-le (x ∷ xs) = go (lastEnd (x ∷ xs)) (last x xs) (last-le xs)
-  where
-    go : (n : ℕ) → Last x xs n → lastEnd xs ≤ length xs → n ≤ suc (length xs)
-    go _ (blank p e) ih = omega arith
-    go _ further-on ih = omega arith
 
 last-behind : (s : ℕ) (l : List ℕ) → s ≤ lastEnd l → lastEnd l ≡ s + lastEnd (drop s l)
 unfolding lastEnd

@@ -63,13 +63,14 @@ pub fn needs_of(s: Surface) -> Needs
     }
 }
 
+// Of three bytes it can only be 333, 444 or 555, of any other length only 222 with two more: few patterns are tried on a group.
 pub fn is_stop_word(g: &[u8]) -> bool
     ensures { λ r. ⌜ r ≡ hasAny stopWords (now (g .entry)) ⌝ }
 {
+    if g.len() == 3 {
+        return has_pattern(g, b"333") | has_pattern(g, b"444") | has_pattern(g, b"555");
+    }
     has_pattern(g, b"222??")
-        | has_pattern(g, b"333")
-        | has_pattern(g, b"444")
-        | has_pattern(g, b"555")
 }
 
 // Does section 3 follow, once section 1 has nothing left to come?

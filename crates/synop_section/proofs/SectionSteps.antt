@@ -16,7 +16,7 @@ use Rattle.text.specs.Text.{tailOf}
 use Rattle.text.proofs.Groups.{Follows}
 use Rattle.shapes.specs.Pattern.{hasPattern, hasAny}
 use Rattle.places.specs.Seek.{owed}
-use Rattle.places.specs.Engine.{Group, Good, Bad, Place, nowhere, placeAt, mustsOf, onward, Outcome}
+use Rattle.places.specs.Engine.{Group, Read, Good, Bad, Place, nowhere, placeAt, mustsOf, onward, Outcome}
 use Rattle.places.specs.declared.kinds.Turn.{Turn}
 use Rattle.places.specs.declared.kinds.Turn.the-variants as turn
 use Rattle.places.specs.Answer.{outcomeOf, endVerdict}
@@ -144,35 +144,34 @@ pub says-nothing : (n : Needs) (i : ℕ) (g : Group) → Others 0 10 i → Says 
 unfolding withSaid
 says-nothing n i g others = λ m s. ap (λ (p : Place Surface). p .read m g s) (List·getD-eq-default (row n) nowhere (rw (row-length n) (beyond 0 10 i zero-le others)))
 
--- what is read at a place, where the group is refused and (below) where it is not
-pub said-bad : (n : Needs) (i k : ℕ) (g : Group) (s : Surface) {x : Said} {f : Refusal} → Says n i g x → x ≡ said.Refused f → placeAt (row n) i .read k g s ≡ Bad f
-unfolding withSaid
-said-bad n i k g s says e = says k s ∙ rw e
+-- what is read at a place, by what the group was found to say
+pub said-reads : (n : Needs) (i k : ℕ) (g : Group) (s : Surface) {x y : Said} {z : Read Surface} → Says n i g x → x ≡ y → withSaid y s ≡ z → placeAt (row n) i .read k g s ≡ z
+said-reads n i k g s says is put = says k s ∙ rw is put
 
--- whatever is no refusal is added
+-- whatever is no refusal is added: what is of one of several variants, where a refusal, number 0, is of none of them
+pub added-among : (ks : List ℕ) → (OneOf ks 0 → ⊥) → (x : Said) → OneOf ks (tagOf saids.the-type x) → (s : Surface) → withSaid x s ≡ Good (saidOnto x s)
+unfolding withSaid
+added-among ks none (said.Refused f) told s = absurd (none told)
+added-among ks none (said.Time t) told s = refl
+added-among ks none (said.Station n) told s = refl
+added-among ks none (said.Position p) told s = refl
+added-among ks none (said.Indicators i) told s = refl
+added-among ks none (said.Wind w) told s = refl
+added-among ks none (said.Speed n) told s = refl
+added-among ks none (said.Air a) told s = refl
+added-among ks none (said.Moisture m) told s = refl
+added-among ks none (said.Pressure p) told s = refl
+added-among ks none (said.Level l) told s = refl
+added-among ks none (said.Tendency t) told s = refl
+added-among ks none (said.Rainfall f) told s = refl
+added-among ks none (said.Weather w) told s = refl
+added-among ks none (said.Clouds c) told s = refl
+added-among ks none (said.Clock c) told s = refl
+added-among ks none (said.Layer l) told s = refl
+
+-- every variant but the refusal
 abbrev pub right : List ℕ
 right = 1 ∷ 2 ∷ 3 ∷ 4 ∷ 5 ∷ 6 ∷ 7 ∷ 8 ∷ 9 ∷ 10 ∷ 11 ∷ 12 ∷ 13 ∷ 14 ∷ 15 ∷ 16 ∷ []
 
 pub added : (x : Said) → OneOf right (tagOf saids.the-type x) → (s : Surface) → withSaid x s ≡ Good (saidOnto x s)
-unfolding withSaid
-added (said.Refused f) told s = absurd (miss right 0 tt told)
-added (said.Time t) told s = refl
-added (said.Station n) told s = refl
-added (said.Position p) told s = refl
-added (said.Indicators i) told s = refl
-added (said.Wind w) told s = refl
-added (said.Speed n) told s = refl
-added (said.Air a) told s = refl
-added (said.Moisture m) told s = refl
-added (said.Pressure p) told s = refl
-added (said.Level l) told s = refl
-added (said.Tendency t) told s = refl
-added (said.Rainfall f) told s = refl
-added (said.Weather w) told s = refl
-added (said.Clouds c) told s = refl
-added (said.Clock c) told s = refl
-added (said.Layer l) told s = refl
-
-pub said-good : (n : Needs) (i k : ℕ) (g : Group) (s : Surface) (x : Said) {y : Surface} → Says n i g x → OneOf right (tagOf saids.the-type x) → y ≡ saidOnto x s
-    → placeAt (row n) i .read k g s ≡ Good y
-said-good n i k g s x says told e = rw e (says k s ∙ added x told s)
+added = added-among right (miss right 0 tt)

@@ -45,12 +45,20 @@ pub fn accept(rest: usize, report: Synop) -> Reading
     }
 }
 
-// The answer by a verdict: the report that it accepts, or its refusal.
+// The answer by a verdict: the report that it accepts, or its refusal. There is one way out, with the blank record put over the report where the text is
+// refused: of two ways out, each with a record of its own, the compiler makes many more copies.
 pub fn by_verdict(verdict: Verdict, report: Synop) -> Reading
     ensures { λ r. ⌜ r ≡ answer (outcomeOf verdict report) ⌝ }
 {
-    match verdict {
-        Verdict::Accepted { rest } => accept(rest, report),
-        Verdict::Refused { refusal, place } => refuse(refusal, place),
+    let mut whole = report;
+    if let Verdict::Refused {
+        refusal: _,
+        place: _,
+    } = verdict {
+        whole = blank_synop();
+    }
+    Reading {
+        verdict,
+        report: whole,
     }
 }

@@ -137,42 +137,47 @@ fn refuse_section(refusal: Refusal, place: usize, surface: Surface) -> SectionRe
     end_section(Next::End(Verdict::Refused { refusal, place }), surface)
 }
 
-// The groups of section 1 from a position of the text on. The surface is the loop's own: what each group says goes into it, and nothing of it is asked to
-// find the group's place.
+// The groups of section 1 from a position of the text on: `here` is the place of the last one read, `standing` how many groups stand there. The surface is
+// the loop's own, and nothing of it is asked to find a group's place. What a group says is stored where it belongs, so that the surface is not copied for
+// it; 00fff alone, which changes a part of the wind, is left to `with_said`.
 fn read_groups(text: &[u8], from: usize, needs: Needs, earlier: Surface) -> SectionRead
     ensures { λ r. ⌜ SectionDone (now (text .entry)) from needs earlier r ⌝ }
 {
     let mut surface = earlier;
-    let mut place = 0;
-    let mut count = 0;
+    let mut here = 0;
+    let mut standing = 0;
     let mut at = from;
     while at < text.len() {
         let Cut::Group { start, end } = text::next_group(text, at) else {
-            return end_section(finish(text, needs, place, count), surface);
+            return end_section(finish(text, needs, here, standing), surface);
         };
         let g = text::part(text, start, end);
-        let turn = decide(needs, place, count, g);
+        let turn = decide(needs, here, standing, g);
         match turn {
-            Turn::Halt => {
-                return end_section(leave(g, start, end, needs, place, count), surface);
-            }
+            Turn::Halt => return end_section(leave(g, start, end, needs, here, standing), surface),
             Turn::Refused(refusal) => return refuse_section(refusal, start, surface),
-            Turn::At {
-                place: there,
-                count: standing,
-            } => {
-                let said = said_at(there, needs, g);
-                if let Said::Refused(refusal) = said {
-                    return refuse_section(refusal, start, surface);
-                }
-                surface = with_said(said, surface);
-                place = there;
-                count = standing + 1;
+            Turn::At { place, count } => {
+                let said = said_at(place, needs, g);
+                here = place;
+                standing = count + 1;
                 at = end;
+                match said {
+                    Said::Refused(refusal) => return refuse_section(refusal, start, surface),
+                    Said::Air(x) => surface.air = x,
+                    Said::Moisture(x) => surface.moisture = x,
+                    Said::Pressure(x) => surface.pressure = x,
+                    Said::Level(x) => surface.level = x,
+                    Said::Tendency(x) => surface.tendency = x,
+                    Said::Rainfall(x) => surface.rainfall = x,
+                    Said::Weather(x) => surface.weather = x,
+                    Said::Clouds(x) => surface.clouds = x,
+                    Said::Clock(x) => surface.clock = x,
+                    _ => surface = with_said(said, surface),
+                }
             }
         }
     }
-    end_section(finish(text, needs, place, count), surface)
+    end_section(finish(text, needs, here, standing), surface)
 }
 
 // Section 1 from a position of the text on, and section 3 where it follows. The report is put together once, behind the loops, so that they copy none.

@@ -1,14 +1,14 @@
 -- How far a run of bytes reaches, and where the last byte that parts no groups ends: what the loops over a text go by.
 -- Assumes nothing.
 use mathlib.Core.Path.{_≡_, refl, sym, ap, _∙_}
-use mathlib.Core.Bool.{Bool, true, false, _&&_, and-false, and-eq-true-iff, false≢true}
+use mathlib.Core.Bool.{Bool, true, false, cond, _&&_, and-false, and-eq-true-iff, false≢true}
 use mathlib.Core.List.{List, [], _∷_, _++_}
 use Prim.Native.Nat.{ℕ, zero, suc, _+_, _-_, _≤_, _<_}
 use native.Mathlib.Numerals.{add-one, sub-one}
 use native.Mathlib.Omega.{arith}
 use lib.ListN.{length, getD, take, drop, drop-of-length-le}
 use lib.Seq.{drop-cons, take-suc, take-length, length-take-le}
-use lib.Dec.{eqb·suc-zero}
+use lib.Dec.{eqb, eqb·suc-zero}
 use Rattle.figures.specs.Figures.{every}
 use Rattle.text.specs.Bytes.{parting, lead, lastEnd}
 
@@ -71,10 +71,28 @@ module _ (P : ℕ → Bool) where
       go true p e ih = rw (p, lead) (let h = ih e in omega arith)
       go false p e ih = rw (p, lead) (omega arith)
 
+  -- where every byte before a position passes and the byte there does not, they reach to that position
+  pub lead-before : (l : List ℕ) (n : ℕ) → n < length l → every P (take n l) ≡ true → P (getD l n 0) ≡ false → lead P l ≡ n
+  lead-before [] n h a e = absurd (omega arith)
+  lead-before (x ∷ xs) zero h a e = lead-cons-no x xs e
+  lead-before (x ∷ xs) (suc n) h a e =
+      let both = and-eq-true-iff (P x) (every P (take n xs)) .0 a in
+      lead-cons-yes x xs (both .0) ∙ ap suc (lead-before xs n (omega arith) (both .1) e)
+
 -- ---- the end of the last byte that is no parting byte
 last-nothing : (x : ℕ) (xs : List ℕ) → parting x ≡ true → lastEnd xs ≡ 0 → lastEnd (x ∷ xs) ≡ 0
 unfolding lastEnd
 last-nothing x xs p e = rw (p, lastEnd) (rw e)
+
+-- it is within the list
+pub last-le : (l : List ℕ) → lastEnd l ≤ length l
+unfolding lastEnd
+last-le [] = omega arith
+last-le (x ∷ xs) = go (parting x && eqb (lastEnd xs) 0) (last-le xs)
+  where
+    go : (b : Bool) → lastEnd xs ≤ length xs → cond b 0 (suc (lastEnd xs)) ≤ suc (length xs)
+    go true h = omega arith
+    go false h = omega arith
 
 -- a byte put at the end of a list
 pub last-parting : (l : List ℕ) (y : ℕ) → parting y ≡ true → lastEnd (l ++ (y ∷ [])) ≡ lastEnd l

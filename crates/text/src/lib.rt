@@ -15,7 +15,7 @@ ghost use Rattle.text.specs.Refusals.{numberOf};
 ghost use Rattle.text.specs.Bytes.{parting, inner, allowed, passes, lead, lastEnd};
 ghost use Rattle.text.specs.Groups.{nextOf, partOf};
 ghost use Rattle.text.specs.Part.{PartAt};
-ghost use Rattle.text.specs.Text.{bytesOf, tailOf, TrimmedPart};
+ghost use Rattle.text.specs.Text.{equalsAt, bytesOf, tailOf, TrimmedPart};
 
 // Document 01's number of a refusal.
 pub fn refusal_number(r: Refusal) -> u8
@@ -165,17 +165,34 @@ fn find_last_end(text: &[u8]) -> usize
     0
 }
 
-// Are all bytes of the text allowed? The loop looks at every byte and does not leave early, so that the compiler takes many bytes at a time.
-fn are_allowed(text: &[u8]) -> bool
-    ensures { λ r. ⌜ r ≡ every allowed (now (text .entry)) ⌝ }
+// Are all bytes of the text of the run? The loop looks at every byte and does not leave early, so that the compiler takes many bytes at a time.
+fn are_all(text: &[u8], run: Run) -> bool
+    ensures { λ r. ⌜ r ≡ every (passes run) (now (text .entry)) ⌝ }
 {
     let mut fine = true;
     let mut i = 0;
     while i < text.len() {
-        fine = fine & is_allowed(text[i]);
+        fine = fine & passes(run, text[i]);
         i += 1;
     }
     fine
+}
+
+// The place of the first "="; the length where there is none. In most texts it is the last byte that parts no groups: then those before it are
+// looked at many at a time, and not one by one.
+fn find_equals(text: &[u8]) -> usize
+    ensures { λ r. ⌜ r ≡ equalsAt (now (text .entry)) ⌝ }
+{
+    let end = find_last_end(text);
+    if 0 < end {
+        let last = end - 1;
+        if text[last] == b'=' {
+            if are_all(&text[..last], Run::Other) {
+                return last;
+            }
+        }
+    }
+    reach(text, 0, Run::Other)
 }
 
 // Refusals 1 and 2 over the whole text; the place of a byte that is not allowed is looked for only where there is one.
@@ -188,7 +205,7 @@ pub fn judge_bytes(text: &[u8]) -> Bytes
     if 2048 < text.len() {
         return Bytes::Length;
     }
-    if are_allowed(text) {
+    if are_all(text, Run::Allowed) {
         Bytes::Sound
     } else {
         Bytes::Byte(reach(text, 0, Run::Allowed))
@@ -199,7 +216,7 @@ pub fn judge_bytes(text: &[u8]) -> Bytes
 pub fn tail(text: &[u8]) -> Tail
     ensures { λ r. ⌜ r ≡ tailOf (now (text .entry)) ⌝ }
 {
-    let equals = reach(text, 0, Run::Other);
+    let equals = find_equals(text);
     if text.len() <= equals {
         return Tail::Clear;
     }
@@ -217,7 +234,7 @@ pub fn trimmed(text: &[u8]) -> &[u8]
     ensures { λ r. ⌜ TrimmedPart (text .entry) r ⌝ }
 {
     let start = reach(text, 0, Run::Parting);
-    let equals = reach(text, 0, Run::Other);
+    let equals = find_equals(text);
     if equals <= start {
         return no_part(text);
     }

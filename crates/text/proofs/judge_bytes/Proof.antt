@@ -20,9 +20,9 @@ judge-bytes-spec =
     (λ c.
     let d = c .before .before in
     let t = d .before .before .before .args .text .now in
-    sym (bytes-sound t (d .before .if1 .left) (d .if2 .left) (lead allowed t) refl (omega (arith, lead-all allowed t (sym (c .before .are-allowed .ensures) ∙ c .if3 .taken)))))
+    sym (bytes-sound t (d .before .if1 .left) (d .if2 .left) (lead allowed t) refl (omega (arith, lead-all allowed t (sym (c .before .are-all .ensures) ∙ c .if3 .taken)))))
     (λ c.
     let d = c .before .before .before in
     let t = d .before .before .before .args .text .now in
     let bad = c .reach .ensures ∙ zero-add _ in
-    sym (bytes-bad t (d .before .if1 .left) (d .if2 .left) _ bad (rw bad (lead-some allowed t (sym (c .before .before .are-allowed .ensures) ∙ c .before .if3 .left))))))
+    sym (bytes-bad t (d .before .if1 .left) (d .if2 .left) _ bad (rw bad (lead-some allowed t (sym (c .before .before .are-all .ensures) ∙ c .before .if3 .left))))))

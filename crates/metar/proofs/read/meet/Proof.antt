@@ -18,7 +18,7 @@ module _ (c : tie.After-known-told) where
   follows = when-group _ _ _ _ (sym (c .before .start .given .1) ∙ c .before .before .before .next-group .ensures)
 
   abbrev seen : Observation → Type 0
-  seen = let a = c .before .before .before .before .before .args in DependsOn (a .automatic) (a .body) (a .states)
+  seen = let a = c .before .before .before .before .before .args in DependsOn (a .so-far .automatic) (a .so-far .body) (a .so-far .states .count)
 
 pub meet-spec : {M : Type 1} → statement M
 meet-spec =
