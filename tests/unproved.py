@@ -5,12 +5,17 @@ import subprocess
 import sys
 
 
+def toolchain():
+    """The toolchain's folder."""
+    said = subprocess.run(["rt", "doc"], capture_output=True, text=True).stdout.strip()
+    return pathlib.Path(os.environ.get("RATTLE_HOME") or pathlib.Path(said).parent.parent)
+
+
 def archive(test, made, name, source, libraries):
     """The archive `made` of the crate `name`, whose root file is `source`, over libraries given as {name: root file}. It is what `rt staticlib`
     makes of the proved crate, by the same compiler and flags, but for the check before it: by the tool with which `rt try` compiles a program.
     Where that fails, so does the test `test`, in one line after what the tools said."""
-    said = subprocess.run(["rt", "doc"], capture_output=True, text=True).stdout.strip()
-    home = pathlib.Path(os.environ.get("RATTLE_HOME") or pathlib.Path(said).parent.parent)
+    home = toolchain()
     own = home / "on" / os.uname().machine
     if not (own / "bin/rattle-cases").is_file():
         sys.exit(f"{test}: compiling without proofs needs the toolchain's rattle-cases, and this toolchain has none")

@@ -1,4 +1,6 @@
-// What the programs say of a text: its canonical text or "refused N at P".
+// What the programs say of a text: its canonical text or "refused N at P"; and the same as calls for Rust to link.
+pub mod linked;
+
 use libc::STDOUT_FILENO;
 use record::aerodrome::Edition;
 use report_record::kinds::Report;

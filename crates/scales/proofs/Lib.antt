@@ -16,3 +16,4 @@ pub mod PressureScale
 pub mod RainLaws
 pub mod Rounds
 pub mod Runs
+pub mod Stepped

@@ -5,7 +5,7 @@ use mathlib.Core.Path.{_≡_, refl, sym, ap, _∙_}
 use mathlib.Core.Bool.{Bool, true, false, cond, and-eq-true-iff}
 use mathlib.Core.List.{List, [], _∷_, _++_}
 use Prim.Native.Nat.{ℕ, zero, suc, _+_, _-_, _*_, _/_, _%_, _≤_, _<_}
-use native.Mathlib.Nat.{suc-mul, zero-mul, add-zero, add-mul, le-div-iff-mul-le, div-lt-iff-lt-mul, div-add-mod', mul-mod-left}
+use native.Mathlib.Nat.{suc-mul, zero-mul, add-zero, add-mul, le-div-iff-mul-le, div-lt-iff-lt-mul, div-mul-le-self, lt-div-mul-add, div-add-mod', mul-mod-left}
 use native.Mathlib.Omega.{arith}
 use lib.Dec.{ltb, eqb}
 use borrow.Author.Tests.{ltb-true, le-leb, lt-leb, eq-eqb, ne-eqb, eqb-true, eqb-false}
@@ -17,6 +17,10 @@ shift a b k = rw suc-mul (omega arith)
 
 first : (a b : ℕ) → a + 0 * b ≡ a
 first a b = rw (zero-mul, add-zero)
+
+-- k steps of d above q of them are n of them
+pub together : (d q k : ℕ) {a n : ℕ} → a ≡ q * d → q + k ≡ n → a + k * d ≡ n * d
+together d q k e i = rw (e, ← add-mul q k d, i)
 
 module _ {F : Type 0} where
   -- a value below the next foot keeps the class that it has
@@ -84,6 +88,30 @@ module _ {F : Type 0} (mark : ℕ → F) (apart next : ℕ) where
       let m : suc k * apart ≡ k * apart + apart = suc-mul k apart in
       rw (le-leb (foot + apart) v (omega arith), ← shift foot apart k, ← shift number next k)
       (inside n (foot + apart) (number + next) rest v k r (omega arith) (omega arith) (omega arith))
+
+  -- a value that is not below the last foot of a run has its class from there on
+  pub past : (n foot number : ℕ) (rest : List (Class F)) (v : ℕ) → foot + n * apart ≤ v → (c : Class F)
+      → classIn c (run mark (suc n) foot apart number next ++ rest) v ≡ classIn (kth foot number n) rest v
+  unfolding run
+  past zero foot number rest v h c = rw (first foot apart, first number next) (onto (at foot number) rest v (omega (arith, zero-mul apart)) c)
+  past (suc n) foot number rest v h c =
+      let m : suc n * apart ≡ n * apart + apart = suc-mul n apart in
+      onto _ _ v (omega arith) c
+      ∙ rw (← shift foot apart n, ← shift number next n) (past n (foot + apart) (number + next) rest v (omega arith) (at foot number))
+
+  -- where the feet of a run are multiples of their distance, from q times it on, division finds the class
+  pub among : (n q foot second start : ℕ) (rest : List (Class F)) (v : ℕ) → 0 < apart → foot ≡ q * apart → second ≡ foot + apart
+      → ((c : Class F) → classIn c rest v ≡ c) → foot ≤ v → v < (q + suc n) * apart
+      → classIn (at foot (start + q * next)) (run mark n second apart (start + q * next + next) next ++ rest) v
+      ≡ at (v / apart * apart) (start + v / apart * next)
+  among n q foot second start rest v p e s r l h =
+      let k = v / apart - q in
+      let a : q ≤ v / apart = le-div-iff-mul-le p .1 (omega arith) in
+      let b : v / apart < q + suc n = div-lt-iff-lt-mul p .1 h in
+      let i : foot + k * apart ≡ v / apart * apart = together apart q k e (omega arith) in
+      let j : start + q * next + k * next ≡ start + v / apart * next = omega (arith, together next q k {n = v / apart} refl (omega arith)) in
+      rw (s, ← i, ← j)
+      (inside n foot (start + q * next) rest v k r (omega arith) (omega (arith, div-mul-le-self v apart)) (omega (arith, lt-div-mul-add {a = v} p)))
 
   -- the figure f is the number x
   module _ (same : F → F → Bool) (f : F) (x : ℕ) (is : (a : ℕ) → same (mark a) f ≡ eqb a x) where

@@ -15,7 +15,8 @@ use Rattle.record.specs.declared.values.Speed.{Speed}
 use Rattle.record.specs.declared.aerodrome.Unit.{Unit}
 use Rattle.elements.specs.Parts.{wrong, used, agreeing, then}
 use Rattle.elements.specs.Wind.{windAgrees, windWith}
-use Rattle.wind.specs.Parts.{asDirection, asSpeed, windOf, isUsed}
+use Rattle.wind_values.specs.Parts.{asDirection, asSpeed}
+use Rattle.wind.specs.Parts.{windOf, isUsed}
 
 -- ---- three figures that are read as a direction, and two groups of them of which one is not
 

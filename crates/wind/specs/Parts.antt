@@ -12,18 +12,10 @@ use Rattle.record.specs.declared.aerodrome.View.the-variants as view
 use Rattle.record.specs.declared.aerodrome.Visibility.{Visibility}
 use Rattle.elements.specs.Parts.{used, provided, agreeing}
 use Rattle.elements.specs.Wind.{windAgrees, windWith}
-use Rattle.wind.specs.declared.kinds.DirectionRead.{DirectionRead}
-use Rattle.wind.specs.declared.kinds.DirectionRead.the-variants as direction
-use Rattle.wind.specs.declared.kinds.SpeedRead.{SpeedRead}
-use Rattle.wind.specs.declared.kinds.SpeedRead.the-variants as speed
-
-abbrev pub asDirection : Read Direction → DirectionRead
-asDirection (Good x) = direction.Good x
-asDirection (Bad f) = direction.Bad f
-
-abbrev pub asSpeed : Read Speed → SpeedRead
-asSpeed (Good x) = speed.Good x
-asSpeed (Bad f) = speed.Bad f
+use Rattle.wind_values.specs.declared.kinds.DirectionRead.{DirectionRead}
+use Rattle.wind_values.specs.declared.kinds.DirectionRead.the-variants as direction
+use Rattle.wind_values.specs.declared.kinds.SpeedRead.{SpeedRead}
+use Rattle.wind_values.specs.declared.kinds.SpeedRead.the-variants as speed
 
 -- the wind that the parts make, or the first refusal among them
 abbrev pub windOf : Unit → DirectionRead → SpeedRead → SpeedRead → Read Wind

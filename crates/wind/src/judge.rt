@@ -1,9 +1,6 @@
 // What the writer judges of a wind, of its variation and of a visibility: first their ranges (refusal 11), then their agreement (refusal 7). In a
 // TAF nothing is missing.
-use crate::agree::wind_agrees;
 use crate::directions::degrees_text;
-use crate::speeds::class_speed;
-use crate::speeds::last_exact;
 use record::aerodrome::Extremes;
 use record::aerodrome::Unit;
 use record::aerodrome::Variation;
@@ -14,6 +11,9 @@ use record::values::Direction;
 use record::values::Speed;
 use text::judge::judge;
 use text::kinds::Judged;
+use wind_values::agree::wind_agrees;
+use wind_values::speeds::class_speed;
+use wind_values::speeds::last_exact;
 ghost use mathlib.Core.Path.{_≡_};
 ghost use Rattle.elements.specs.Wind.{mostSpeed, speedFits, gustFits, windFits, judgeWind, extremesFit, extremesAgree, judgeVariation};
 ghost use Rattle.elements.specs.Visibility.{viewFits, judgeVisibility};

@@ -1,10 +1,6 @@
 // What a group of wind, of variation or of visibility says. A caller holds the group to its shape first; what has another shape is refused as a
 // wrong figure.
-use crate::agree::wind_agrees;
 use crate::directions::is_tens;
-use crate::kinds::DirectionRead;
-use crate::kinds::SpeedRead;
-use crate::speeds::last_exact;
 use elements::kinds::Said;
 use figures::field;
 use figures::kinds::Field;
@@ -26,16 +22,22 @@ use shapes::scan::nothing;
 use shapes::scan::scanned;
 use shapes::scan::word_or;
 use text::kinds::Refusal;
+use wind_values::agree::wind_agrees;
+use wind_values::kinds::DirectionRead;
+use wind_values::kinds::SpeedRead;
+use wind_values::speeds::in_width;
+use wind_values::speeds::speed_by;
 ghost use mathlib.Core.Path.{_≡_};
 ghost use Rattle.shapes.specs.Pattern.{hasPattern, hasAny};
 ghost use Rattle.shapes.specs.Shape.{hasShape, scanOf};
 ghost use Rattle.scales.specs.Metres.{visibility, metresReading};
 ghost use Rattle.places.specs.Engine.{Good};
 ghost use Rattle.elements.specs.Parts.{agreeing, isMissing};
-ghost use Rattle.elements.specs.Wind.{windShape, variationShape, unitOf, inWidth, speedBy, speedOf, gustOf, directionOf, windAgrees, windWith, isNoWind, windBy, readWind, readVariation};
+ghost use Rattle.elements.specs.Wind.{windShape, variationShape, unitOf, speedOf, gustOf, directionOf, windAgrees, windWith, isNoWind, windBy, readWind, readVariation};
 ghost use Rattle.elements.specs.Visibility.{visibilityShapes, readVisibility, isCavok};
 ghost use Rattle.elements.specs.Answers.{asWind, asVariation, asVisibility};
-ghost use Rattle.wind.specs.Parts.{asDirection, asSpeed, windOf, seenBy, unseen};
+ghost use Rattle.wind_values.specs.Parts.{asDirection, asSpeed};
+ghost use Rattle.wind.specs.Parts.{windOf, seenBy, unseen};
 
 // ---- wind
 
@@ -91,30 +93,6 @@ fn is_missing(f: Field) -> bool
         Field::Missing => true,
         Field::Mixed => false,
         Field::Other => false,
-    }
-}
-
-// Two figures below 100, three for 100 to 199: the alternatives of three figures are number 0 and, after P, number 2.
-fn in_width(which: usize, n: u32) -> bool
-    ensures { λ r. ⌜ r ≡ inWidth which n ⌝ }
-{
-    if (which == 0) | (which == 2) {
-        (100 <= n) & (n <= 199)
-    } else {
-        true
-    }
-}
-
-// After P stands the greatest speed that is written as a number in this unit, and no other.
-fn speed_by(unit: Unit, which: usize, n: u32) -> SpeedRead
-    ensures { λ r. ⌜ r ≡ asSpeed (speedBy unit which n) ⌝ }
-{
-    if which <= 1 {
-        SpeedRead::Good(Speed::Is(n))
-    } else if n == last_exact(unit) {
-        SpeedRead::Good(Speed::Above(n))
-    } else {
-        SpeedRead::Bad(Refusal::Figure)
     }
 }
 

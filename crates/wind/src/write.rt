@@ -1,7 +1,6 @@
 // How a wind, its variation and a visibility are written over a lent buffer, with what parts the group from the one before it. Every function
 // answers the position after its text. What a buffer has no room for is not written, so that a caller may judge the room afterwards.
 use crate::directions::degrees_text;
-use crate::speeds::class_speed;
 use figures::kinds::Field;
 use figures::put::put_byte;
 use figures::put::put_number;
@@ -19,6 +18,7 @@ use scales::metres::visibility_figure;
 use shapes::kinds::Value;
 use shapes::print::put_shape;
 use text::write::open_group;
+use wind_values::speeds::class_speed;
 ghost use mathlib.Core.Path.{_≡_};
 ghost use mathlib.Core.Bool.{cond};
 ghost use mathlib.Core.List.{_∷_, [], _++_};

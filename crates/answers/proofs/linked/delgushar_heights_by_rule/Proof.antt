@@ -1,4 +1,4 @@
--- `bench_calls::delgushar_heights_by_rule` is safe and ends: the loop keeps the length of the heights.
+-- `answers::linked::delgushar_heights_by_rule` is safe and ends: the loop keeps the length of the heights.
 -- Assumes nothing.
 use mathlib.Core.Path.{_≡_, refl, _∙_}
 use mathlib.Core.Bool.{and-eq-true-iff}
@@ -7,8 +7,8 @@ use native.Mathlib.Omega.{arith}
 use lib.ListN.{length, length-set}
 use borrow.Author.Needs.{needs}
 use borrow.Author.Tests.{ltb-true}
-use Rattle.bench_calls.proofs.delgushar_heights_by_rule.Statement.{statement}
-use Rattle.bench_calls.proofs.delgushar_heights_by_rule.Tie as tie
+use Rattle.answers.proofs.linked.delgushar_heights_by_rule.Statement.{statement}
+use Rattle.answers.proofs.linked.delgushar_heights_by_rule.Tie as tie
 
 abbrev Inv : tie.InvT-loop
 Inv codes heights₀ i₀ heights i = length heights ≡ length heights₀

@@ -1,4 +1,4 @@
-// The calls that `tests/bench` times from Rust: the reader of every kind, and each kind's own, and cloud heights by the rule and by the table. Every
+// Calls for Rust to link, which `tests/bench` times: the reader of every kind, and each kind's own, and cloud heights by the rule and by the table. Every
 // call of a reader reads the text, and then either says the verdict or writes the record that was read. Which of the two is known only at run time, so
 // that no call is compiled without making its record.
 use report_record::kinds::Name;

@@ -1,7 +1,7 @@
--- `wind::agree::wind_agrees` meets its contract, by whether it is calm.
+-- `wind_values::agree::wind_agrees` meets its contract, by whether it is calm.
 -- Assumes nothing.
-use Rattle.wind.proofs.agree.wind_agrees.Statement.{statement}
-use Rattle.wind.proofs.agree.wind_agrees.Tie as tie
+use Rattle.wind_values.proofs.agree.wind_agrees.Statement.{statement}
+use Rattle.wind_values.proofs.agree.wind_agrees.Tie as tie
 
 pub wind-agrees-spec : {M : Type 1} → statement M
 wind-agrees-spec =

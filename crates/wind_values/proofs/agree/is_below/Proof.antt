@@ -1,8 +1,8 @@
--- `wind::agree::is_below` meets its contract, case by case.
+-- `wind_values::agree::is_below` meets its contract, case by case.
 -- Assumes nothing.
 use borrow.Author.Needs.{needs}
-use Rattle.wind.proofs.agree.is_below.Statement.{statement}
-use Rattle.wind.proofs.agree.is_below.Tie as tie
+use Rattle.wind_values.proofs.agree.is_below.Statement.{statement}
+use Rattle.wind_values.proofs.agree.is_below.Tie as tie
 
 pub is-below-spec : {M : Type 1} → statement M
 is-below-spec =

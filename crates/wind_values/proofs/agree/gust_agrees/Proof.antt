@@ -1,8 +1,8 @@
--- `wind::agree::gust_agrees` meets its contract, case by case.
+-- `wind_values::agree::gust_agrees` meets its contract, case by case.
 -- Assumes nothing.
 use borrow.Author.Needs.{needs}
-use Rattle.wind.proofs.agree.gust_agrees.Statement.{statement}
-use Rattle.wind.proofs.agree.gust_agrees.Tie as tie
+use Rattle.wind_values.proofs.agree.gust_agrees.Statement.{statement}
+use Rattle.wind_values.proofs.agree.gust_agrees.Tie as tie
 
 pub gust-agrees-spec : {M : Type 1} → statement M
 gust-agrees-spec =

@@ -1,8 +1,8 @@
--- `wind::speeds::is_over` meets its contract, case by case.
+-- `wind_values::speeds::is_over` meets its contract, case by case.
 -- Assumes nothing.
 use borrow.Author.Needs.{needs}
-use Rattle.wind.proofs.speeds.is_over.Statement.{statement}
-use Rattle.wind.proofs.speeds.is_over.Tie as tie
+use Rattle.wind_values.proofs.speeds.is_over.Statement.{statement}
+use Rattle.wind_values.proofs.speeds.is_over.Tie as tie
 
 pub is-over-spec : {M : Type 1} → statement M
 is-over-spec =

@@ -1,9 +1,9 @@
--- `wind::read::speed_by` meets its contract: each branch is a case of `speedBy`.
+-- `wind_values::speeds::speed_by` meets its contract: each branch is a case of `speedBy`.
 -- Assumes nothing.
 use mathlib.Core.Path.{sym, _∙_}
 use borrow.Author.Tests.{eq-eqb, ne-eqb, le-leb, lt-leb}
-use Rattle.wind.proofs.read.speed_by.Statement.{statement}
-use Rattle.wind.proofs.read.speed_by.Tie as tie
+use Rattle.wind_values.proofs.speeds.speed_by.Statement.{statement}
+use Rattle.wind_values.proofs.speeds.speed_by.Tie as tie
 
 pub speed-by-spec : {M : Type 1} → statement M
 speed-by-spec =

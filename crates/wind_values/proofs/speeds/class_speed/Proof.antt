@@ -1,7 +1,7 @@
--- `wind::speeds::class_speed` meets its contract, by whether it is over.
+-- `wind_values::speeds::class_speed` meets its contract, by whether it is over.
 -- Assumes nothing.
-use Rattle.wind.proofs.speeds.class_speed.Statement.{statement}
-use Rattle.wind.proofs.speeds.class_speed.Tie as tie
+use Rattle.wind_values.proofs.speeds.class_speed.Statement.{statement}
+use Rattle.wind_values.proofs.speeds.class_speed.Tie as tie
 
 pub class-speed-spec : {M : Type 1} → statement M
 class-speed-spec =
