@@ -1,6 +1,7 @@
 // Calls for Rust to link, which `tests/bench` times: the reader of every kind, and each kind's own, and cloud heights by the rule and by the table. Every
 // call of a reader reads the text, and then either says the verdict or writes the record that was read. Which of the two is known only at run time, so
 // that no call is compiled without making its record.
+use record::aerodrome::Edition;
 use report_record::kinds::Name;
 use scales::kinds::Reading;
 use text::kinds::Refusal;
@@ -111,7 +112,7 @@ pub extern "C" fn delgushar_taf(
     let Name::Forecast { at } = named else {
         return say_other(named, number);
     };
-    let reading = taf::read::read_from(text, at);
+    let reading = taf::read::read_from_in(Edition::Present, text, at);
     if writes {
         return say_written(taf_write::write::write(reading.report, out), number);
     }
