@@ -382,7 +382,7 @@ impl Instant {
         let day = self.day;
         let hour = self.hour;
         let minute = self.minute;
-        day.is_missing() && (hour.is_missing() && minute.is_missing())
+        day.is_missing() & hour.is_missing() & minute.is_missing()
     }
 }
 
