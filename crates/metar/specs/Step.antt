@@ -18,7 +18,9 @@ use Rattle.record.specs.Trend.{blankTrend}
 use Rattle.body.specs.declared.kinds.Met.{Met}
 use Rattle.body.specs.declared.kinds.Met.the-variants as met
 use Rattle.trend.specs.declared.kinds.Ahead.{Ahead}
+use Rattle.trend.specs.declared.kinds.Next.{Next}
 use Rattle.trend.specs.Read.{comesTo, parts}
+use Rattle.trend.specs.Step.{afterPart}
 use Rattle.metar.specs.Read.{mainPart, isRefused}
 
 -- an observation with a trend, and without one
@@ -47,7 +49,7 @@ pub record Unrefused (a b : Ahead) : Type 0 where
   pub same : (o : Observation) → outcomeOf (a .verdict) (beside o (a .trend)) ≡ outcomeOf (b .verdict) (beside o (b .trend))
   pub blank : isRefused (b .verdict) ≡ true → b .trend ≡ blankTrend
 
--- where the next group is not taken and no trend was read: whatever was observed, the verdict with the trend; a refused text has none
-pub record ReadOn (text : List ℕ) (m : Met) (c k : ℕ) (a : Ahead) : Type 0 where
-  pub reads : (o : Observation) → leftAt text m c k o ≡ outcomeOf (a .verdict) (beside o (a .trend))
+-- what follows the observation, where no trend was read: whatever was observed, the verdict with the trend; a refused text has none
+pub record ReadOn (text : List ℕ) (x : Next) (a : Ahead) : Type 0 where
+  pub reads : (o : Observation) → afterPart text 0 (alone o) x ≡ outcomeOf (a .verdict) (beside o (a .trend))
   pub blank : isRefused (a .verdict) ≡ true → a .trend ≡ blankTrend

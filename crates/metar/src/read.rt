@@ -102,11 +102,10 @@ fn unless_refused(ahead: Ahead) -> Ahead
     ahead
 }
 
-// The verdict on the whole text and its trend, where the next group is not taken; the trend is blank where there is none, or the text is refused.
-fn read_on(text: &[u8], met: Met, here: Standing) -> Ahead
-    ensures { λ r. ⌜ ReadOn (now (text .entry)) met (here .place) (here .count) r ⌝ }
+// The verdict on the whole text and its trend, by what follows the observation; the trend is blank where there is none, or the text is refused.
+fn read_on(text: &[u8], next: Next) -> Ahead
+    ensures { λ r. ⌜ ReadOn (now (text .entry)) next r ⌝ }
 {
-    let next = follow(text, met, here);
     match next {
         Next::End(verdict) => {
             let trend = blank_trend();
@@ -162,8 +161,9 @@ pub fn read_from(text: &[u8], at: usize, special: bool) -> Reading
     loop {
         let met = meet(text, here, report);
         let Met::Says(next) = met else {
-            let Next::End(verdict) = follow(text, met, here) else {
-                let ahead = read_on(text, met, here);
+            let after = follow(text, met, here);
+            let Next::End(verdict) = after else {
+                let ahead = read_on(text, after);
                 if is_refused_ahead(ahead) {
                     report = blank_observation();
                 }

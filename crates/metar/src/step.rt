@@ -8,8 +8,10 @@ use elements::kinds::Said;
 use elements::kinds::WeatherRead;
 use metar_row::find;
 use metar_row::is_word;
+use places::is_unknown;
 use places::kinds::Turn;
 use places::turn_by;
+use places::turn_unknown;
 use record::aerodrome::Body;
 use runway_states::read::read_beside;
 use runway_states::read::read_state;
@@ -27,17 +29,18 @@ ghost use Rattle.elements.specs.Answers.{asSaid};
 ghost use Rattle.metar_row.specs.Row.{row, words};
 ghost use Rattle.metar.specs.Said.{Says};
 
-// The group's turn, where `count` groups stand at `place`.
+// The group's turn, where `count` groups stand at `place`. No word has the shape of a place, so it is asked for only where no place has the group's shape.
 pub fn decide(place: usize, count: usize, g: &[u8]) -> Turn
     ensures { λ t. ⌜ t ≡ turnAt row (hasAny words) place count (now (g .entry)) ⌝ }
 {
     if 19 <= place {
         return Turn::Refused(Refusal::Shape);
     }
-    if is_word(g) {
-        return Turn::Halt;
+    let found = find(place, count, g);
+    if is_unknown(found) {
+        return turn_unknown(is_word(g));
     }
-    turn_by(find(place, count, g))
+    turn_by(found)
 }
 
 // Recent weather.

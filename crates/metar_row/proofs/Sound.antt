@@ -6,6 +6,7 @@ use mathlib.Core.Bool.{true}
 use Rattle.shapes.specs.Pattern.{low, high, clash, clashEach, allApart}
 use Rattle.shapes.specs.Shape.{leading, split, partsOf, spellings}
 use Rattle.places.proofs.ReadBack.{one-pattern, two-patterns, sound, Covered}
+use Rattle.places.proofs.Words.{apart}
 use Rattle.weather.proofs.Covers.{recent-covered}
 use Rattle.body.proofs.Bodies.{body-covered}
 use Rattle.aerodrome_groups.proofs.RunwayBack.{runway-covered}
@@ -17,6 +18,11 @@ use Rattle.metar_row.specs.Row.{observed, row, words}
 pub row-sound : sound words row ≡ true
 unfolding row words low high clash clashEach allApart leading split partsOf spellings codesOf
 row-sound = refl
+
+-- no word has the shape of a place
+pub row-apart : apart words row ≡ true
+unfolding row words low high clash clashEach allApart leading split partsOf spellings codesOf
+row-apart = refl
 
 -- WHAT HAS THE SHAPE OF A PLACE FITS THE PATTERNS THAT COVER IT.
 pub row-covered : Covered row

@@ -9,6 +9,7 @@ use places::most_at;
 use runway_states::read::has_state;
 use shapes::has_pattern;
 use sky::read::has_sky;
+use text::anew;
 use weather::read::has_recent;
 use wind::read::has_variation;
 use wind::read::has_visibility;
@@ -130,10 +131,11 @@ fn is_fit(all: bool, place: usize, count: usize, g: &[u8]) -> bool
 fn fit_from(all: bool, place: usize, count: usize, g: &[u8]) -> usize
     ensures { λ r. ⌜ r ≡ fitFrom all place count (drop place (standsOf row (now (g .entry)))) ⌝ }
 {
+    let group = anew(g);
     let mut i = place;
     let mut k = count;
     while i < 19 {
-        if is_fit(all, i, k, g) {
+        if is_fit(all, i, k, group) {
             return i;
         }
         i += 1;

@@ -5,6 +5,7 @@ pub mod Fits
 pub mod Going
 pub mod Loop
 pub mod ReadBack
+pub mod Words
 pub mod Sizes
 pub mod Kept
 pub mod Lift

@@ -1,7 +1,7 @@
 -- A group's turn by the row: where it is to be read, or why it is not. Nothing that was read before has a part in it.
 -- Assumes nothing: these are definitions.
 use Prim.Native.Nat.{ℕ}
-use mathlib.Core.Bool.{Bool, cond}
+use mathlib.Core.Bool.{Bool, true, false, cond}
 use mathlib.Core.List.{List}
 use lib.ListN.{length}
 use lib.Dec.{leb}
@@ -20,6 +20,18 @@ turnBy Skips = turn.Refused (refusalOf Skips)
 turnBy Full = turn.Refused (refusalOf Full)
 turnBy Earlier = turn.Refused (refusalOf Earlier)
 turnBy Unknown = turn.Refused (refusalOf Unknown)
+
+-- no place has its shape
+abbrev pub isUnknown : Found → Bool
+isUnknown (Take i k) = false
+isUnknown Skips = false
+isUnknown Full = false
+isUnknown Earlier = false
+isUnknown Unknown = true
+
+-- a word that halts stops the reading, and another group that no place knows is refused
+abbrev pub turnUnknown : Bool → Turn
+turnUnknown halts = cond halts turn.Halt (turnBy Unknown)
 
 -- the turn of a group that comes where k groups stand at place c; past the row it is refused, and a word that halts stops the reading
 unfoldable pub turnAt : {R : Type 0} → List (Place R) → (Group → Bool) → ℕ → ℕ → Group → Turn

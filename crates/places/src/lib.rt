@@ -14,7 +14,7 @@ ghost use lib.Dec.{eqb};
 ghost use lib.ListN.{length, getD, take, drop};
 ghost use Rattle.text.specs.Text.{tailOf};
 ghost use Rattle.places.specs.Seek.{answers, foundAt, owed, refusalOf};
-ghost use Rattle.places.specs.Turn.{turnBy};
+ghost use Rattle.places.specs.Turn.{turnBy, isUnknown, turnUnknown};
 ghost use Rattle.places.specs.Answer.{endVerdict};
 
 // May a place answer for a group where `count` groups stand and `most` may? One more may stand there, or it repeats and is full; `all`: in any case.
@@ -94,6 +94,30 @@ pub fn found_at(most: &[u8], must: &[bool], place: usize, count: usize, fit: usi
         }
     } else {
         Found::Full
+    }
+}
+
+// Has no place the group's shape?
+pub fn is_unknown(found: Found) -> bool
+    ensures { λ r. ⌜ r ≡ isUnknown found ⌝ }
+{
+    match found {
+        Found::Take { place: _, count: _ } => false,
+        Found::Skips => false,
+        Found::Full => false,
+        Found::Earlier => false,
+        Found::Unknown => true,
+    }
+}
+
+// The turn of a group whose shape no place has: a word that halts stops the reading.
+pub fn turn_unknown(halts: bool) -> Turn
+    ensures { λ r. ⌜ r ≡ turnUnknown halts ⌝ }
+{
+    if halts {
+        Turn::Halt
+    } else {
+        Turn::Refused(Refusal::Shape)
     }
 }
 

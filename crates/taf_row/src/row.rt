@@ -9,6 +9,7 @@ use places::most_at;
 use record::aerodrome::Edition;
 use shapes::has_pattern;
 use sky::read::has_sky;
+use text::anew;
 use wind::read::has_visibility;
 use wind::read::has_wind;
 ghost use mathlib.Core.Path.{_≡_};
@@ -202,10 +203,11 @@ fn is_fit(edition: Edition, part: Part, all: bool, place: usize, count: usize, g
 fn fit_from(edition: Edition, part: Part, all: bool, place: usize, count: usize, g: &[u8]) -> usize
     ensures { λ r. ⌜ r ≡ fitFrom all place count (drop place (standsOf (row edition part) (now (g .entry)))) ⌝ }
 {
+    let group = anew(g);
     let mut i = place;
     let mut k = count;
     while i < 12 {
-        if is_fit(edition, part, all, i, k, g) {
+        if is_fit(edition, part, all, i, k, group) {
             return i;
         }
         i += 1;

@@ -118,7 +118,7 @@ join-sound gs a h = bytes-sound (join gs) (λ e. omega (arith, length-join gs)) 
     every : lead allowed (join gs) ≡ length (join gs)
     every = unfold join in every-lead allowed (parted gs ++ (61 ∷ [])) (every-append allowed (parted gs) (61 ∷ []) (every-parted allowed gs refl a) (refl, tt))
 
-whole-part : (t : List ℕ) (n : ℕ) → n ≡ length t → partOf t 0 n ≡ t
+pub whole-part : (t : List ℕ) (n : ℕ) → n ≡ length t → partOf t 0 n ≡ t
 whole-part t n e = part-is t 0 n (omega arith) (omega arith) ∙ rw (sub-zero, e) (take-length t)
 
 -- it is its own trimmed part

@@ -9,6 +9,7 @@ use places::may_answer;
 use places::most_at;
 use shapes::has_pattern;
 use sky::read::has_sky;
+use text::anew;
 use wind::read::has_visibility;
 use wind::read::has_wind;
 ghost use mathlib.Core.Path.{_≡_};
@@ -73,10 +74,11 @@ fn is_fit(free: bool, all: bool, place: usize, count: usize, g: &[u8]) -> bool
 fn fit_from(free: bool, all: bool, place: usize, count: usize, g: &[u8]) -> usize
     ensures { λ r. ⌜ r ≡ fitFrom all place count (drop place (standsOf (row free) (now (g .entry)))) ⌝ }
 {
+    let group = anew(g);
     let mut i = place;
     let mut k = count;
     while i < 8 {
-        if is_fit(free, all, i, k, g) {
+        if is_fit(free, all, i, k, group) {
             return i;
         }
         i += 1;

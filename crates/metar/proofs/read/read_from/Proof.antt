@@ -77,14 +77,14 @@ read-from-spec =
     ] in
     c .reading-with .ensures
     ∙ answers
-    ∙ ap answer (sym (leaves (m .before .before .loop .inv) (m .before .meet .result) (m .before .meet .ensures) (m .match .keys2) ∙ e .read-on .ensures .reads o)))
+    ∙ ap answer (sym (leaves (m .before .before .loop .inv) (m .before .meet .result) (m .before .meet .ensures) (m .match .keys2) ∙ e .before .before .before .follow .ensures o ∙ e .read-on .ensures .reads o)))
     (λ c κs. search needs) (λ c κs. search needs) (λ c κs. search needs) (λ c κs. search needs)
     (λ c.
     unfold behindName within comes in
     let e = c .before .before .before .before in
     let m = e .before .before .before .before in
     let o = m .before .before .loop .report in
-    let v = e .before .verdict .given .0 .0 in
+    let v = e .before .after .given .0 .0 in
     let t = c .before .blank-trend .result in
     let said = sym (c .before .before .before .is-refused .ensures) in
     let answers : reading v (beside (c .before .before .if2 .report) t) ≡ answer (outcomeOf v (beside o t)) =
@@ -93,7 +93,7 @@ read-from-spec =
       | inr w ↦ unblanked v o (said ∙ w .0 .left) (w .1)
     ] in
     let ends : afterPart (m .before .before .before .before .before .before .args .text .now) 0 (alone o) (e .before .before .before .follow .result) ≡ outcomeOf v (beside o t) =
-    rw (e .before .verdict .given .1, c .before .blank-trend .ensures) in
+    rw (e .before .after .given .1, c .before .blank-trend .ensures) in
     c .reading-of .ensures
     ∙ answers
     ∙ ap answer (sym (leaves (m .before .before .loop .inv) (m .before .meet .result) (m .before .meet .ensures) (m .match .keys2) ∙ e .before .before .before .follow .ensures o ∙ ends)))

@@ -9,14 +9,14 @@ pub read-on-spec : {M : Type 1} → statement M
 read-on-spec =
     tie.close
     (tie.spec
-    (λ c κs. search needs) (λ c. search needs) (λ c κs. search needs) (λ c. search needs) (λ c κs. search needs) (λ c κs. search needs)
+    (λ c. search needs) (λ c κs. search needs) (λ c. search needs) (λ c κs. search needs) (λ c κs. search needs)
     (λ c.
     record {
-      reads = λ o. c .before .before .before .before .follow .ensures o ∙ rw (c .before .before .next .given .1, c .blank-trend .ensures);
+      reads = λ o. rw (c .before .before .next .given .1, c .blank-trend .ensures);
       blank = λ is. c .blank-trend .ensures;
     })
     (λ c.
     record {
-      reads = λ o. c .before .before .before .before .before .follow .ensures o ∙ rw (c .before .before .before .next2 .given .1) (c .before .read-trend .ensures o ∙ c .unless-refused .ensures .same o);
+      reads = λ o. rw (c .before .before .before .next2 .given .1) (c .before .read-trend .ensures o ∙ c .unless-refused .ensures .same o);
       blank = c .unless-refused .ensures .blank;
     }))

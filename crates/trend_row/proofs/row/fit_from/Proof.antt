@@ -14,28 +14,28 @@ use Rattle.trend_row.proofs.row.fit_from.Statement.{statement}
 use Rattle.trend_row.proofs.row.fit_from.Tie as tie
 
 abbrev Inv : tie.InvT-loop
-Inv free all place count g i₀ k₀ i k = fitFrom all place count (drop place (standsOf (row free) g)) ≡ fitFrom all i k (drop i (standsOf (row free) g))
+Inv free all place count g group i₀ k₀ i k = fitFrom all place count (drop place (standsOf (row free) g)) ≡ fitFrom all i k (drop i (standsOf (row free) g))
 
 abbrev μ : tie.MeasureT-loop
-μ free all place count g i₀ k₀ i k = 8 - i
+μ free all place count g group i₀ k₀ i k = 8 - i
 
 pub fit-from-spec : {M : Type 1} → statement M
 fit-from-spec =
     tie.close
     (tie.spec Inv μ
-    (λ c. refl)
+    (λ c κs. search needs) (λ c. refl)
     (λ c κs. search needs)
     (λ c.
     let l = c .before .before .before .loop in
-    let a = c .before .before .before .before .before .args in
-    sym (l .inv ∙ fit-here (row (a .free)) (a .g .now) (a .all) (l .i) (l .k) (rw (row-length (a .free)) (omega arith)) (sym (c .before .is-fit .ensures) ∙ c .if1 .taken)))
+    let a = c .before .before .before .before .before .before .args in
+    sym (l .inv ∙ fit-here (row (a .free)) (a .g .now) (a .all) (l .i) (l .k) (rw (row-length (a .free)) (omega arith)) (rw (c .before .before .before .before .anew .ensures) at (sym (c .before .is-fit .ensures) ∙ c .if1 .taken))))
     (λ c. omega arith)
     (λ c. omega arith)
     (λ c.
     let l = c .before .before .before .loop in
-    let a = c .before .before .before .before .before .args in
-    l .inv ∙ fit-next (row (a .free)) (a .g .now) (a .all) (l .i) (l .k) (rw (row-length (a .free)) (omega arith)) (sym (c .before .is-fit .ensures) ∙ c .if1 .left))
+    let a = c .before .before .before .before .before .before .args in
+    l .inv ∙ fit-next (row (a .free)) (a .g .now) (a .all) (l .i) (l .k) (rw (row-length (a .free)) (omega arith)) (rw (c .before .before .before .before .anew .ensures) at (sym (c .before .is-fit .ensures) ∙ c .if1 .left)))
     (λ c.
     let l = c .before .loop in
-    let a = c .before .before .before .args in
+    let a = c .before .before .before .before .args in
     sym (l .inv ∙ fit-end (row (a .free)) (a .g .now) (a .all) (l .i) (l .k) (rw (row-length (a .free)) (omega arith)))))
