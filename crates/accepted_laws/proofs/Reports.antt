@@ -10,11 +10,12 @@ use Rattle.text.specs.declared.kinds.Refusal.{Refusal}
 use Rattle.text.specs.declared.kinds.Tail.{Tail}
 use Rattle.text.specs.declared.kinds.Tail.the-variants.{Clear, Junk}
 use Rattle.text.specs.Groups.{Piece}
+use Rattle.shapes.proofs.Patterns.{both-false}
 use Rattle.places.specs.Seek.{owed}
 use Rattle.places.specs.Engine.{Group, Read, mustsOf, Outcome, Done, Fault, finish}
 use Rattle.places.specs.Parts.{Begun, Word, Ends, Opens, Bars, Part, Parts, Further, turned, ended, unless, owes, partExits, partFrom, afterFirst, begins as begins-part, opened, further, reportOf}
 use Rattle.accepted_laws.proofs.Gives.{Gives, good, bad}
-use Rattle.accepted_laws.proofs.Stages.{both-false, Stage, Left, ServesRow, StandsAt, left-at, Reached, within, ended as over-there, runs-to}
+use Rattle.accepted_laws.proofs.Stages.{Stage, Left, ServesRow, StandsAt, left-at, Reached, within, ended as over-there, runs-to}
 
 -- what a reading comes to: something holds of the record, where the text is accepted
 pub data Comes {T : Type 0} (Q : T → Type 0) : Outcome T → Type 0 where

@@ -15,16 +15,13 @@ use Rattle.figures.proofs.Impossible.{impossible}
 use Rattle.text.specs.declared.kinds.Refusal.{Refusal}
 use Rattle.text.specs.declared.kinds.Refusal.the-variants as refusal
 use Rattle.text.specs.Groups.{Piece}
+use Rattle.shapes.proofs.Patterns.{both-false}
 use Rattle.places.specs.declared.kinds.Found.{Found}
 use Rattle.places.specs.declared.kinds.Found.the-variants.{Take, Skips, Full, Earlier, Unknown}
 use Rattle.places.specs.Seek.{Stand, seek, anywhere, orEarlier, findOf, owed}
 use Rattle.places.specs.Engine.{Group, Read, Place, placeAt, onward, standsOf, mustsOf, taken, judged, Step, On, Halt, Stop}
 use Rattle.places.specs.Parts.{Exits, carryTo, runTo}
 use Rattle.accepted_laws.proofs.Gives.{Gives, good, bad, gives-more}
-
-pub both-false : (a b : Bool) → (a || b) ≡ false → (a ≡ false) × (b ≡ false)
-both-false true b e = absurd (false≢true (sym e))
-both-false false b e = (refl, e)
 
 -- What a place leaves in the record: before a group can stand there, where so many stand, and once it is left behind.
 pub record Stage (R : Type 0) : Type 1 where

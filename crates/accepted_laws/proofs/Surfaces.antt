@@ -20,7 +20,7 @@ use Rattle.text.specs.declared.kinds.Judged.the-variants as judged
 use Rattle.text.specs.Judge.{judge}
 use Rattle.text.proofs.Judging.{fine}
 use Rattle.shapes.specs.Pattern.{low, high, fits, hasPattern}
-use Rattle.shapes.proofs.Patterns.{both, pattern-length}
+use Rattle.shapes.proofs.Patterns.{both, both-false, pattern-length}
 use Rattle.places.specs.Engine.{Group}
 use Rattle.scales.specs.declared.kinds.Figure.the-variants as figure
 use Rattle.scales.specs.declared.kinds.Tenths.the-variants as tenths
@@ -72,7 +72,6 @@ use Rattle.synop_groups.specs.Shows.{isInThree}
 use Rattle.accepted_laws.proofs.Tells.{Tells, told, refused, tells-cond, tells-figured, tells-may-miss, tells-missing, tells-part, tells-part-or-none, tells-used, tells-either, tells-tenths, tells-rain, tells-unless}
 use Rattle.accepted_laws.proofs.Values.{metres-own, metres-low, direction-own, direction-low, rain-own}
 use Rattle.accepted_laws.proofs.Fields.{field-bound, field-missing}
-use Rattle.accepted_laws.proofs.Stages.{both-false}
 
 from-zero : (n : ℕ) → leb 0 n ≡ true
 from-zero n = le-leb 0 n (omega arith)

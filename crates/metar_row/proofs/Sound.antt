@@ -6,7 +6,7 @@ use mathlib.Core.Bool.{true}
 use Rattle.shapes.specs.Pattern.{low, high, clash, clashEach, allApart}
 use Rattle.shapes.specs.Shape.{leading, split, partsOf, spellings}
 use Rattle.places.proofs.ReadBack.{one-pattern, two-patterns, sound, Covered}
-use Rattle.places.proofs.Words.{apart}
+use Rattle.places.proofs.Words.{wordless}
 use Rattle.weather.proofs.Covers.{recent-covered}
 use Rattle.body.proofs.Bodies.{body-covered}
 use Rattle.aerodrome_groups.proofs.RunwayBack.{runway-covered}
@@ -20,9 +20,9 @@ unfolding row words low high clash clashEach allApart leading split partsOf spel
 row-sound = refl
 
 -- no word has the shape of a place
-pub row-apart : apart words row ≡ true
+pub row-wordless : wordless words row ≡ true
 unfolding row words low high clash clashEach allApart leading split partsOf spellings codesOf
-row-apart = refl
+row-wordless = refl
 
 -- WHAT HAS THE SHAPE OF A PLACE FITS THE PATTERNS THAT COVER IT.
 pub row-covered : Covered row

@@ -21,7 +21,13 @@ turnBy Full = turn.Refused (refusalOf Full)
 turnBy Earlier = turn.Refused (refusalOf Earlier)
 turnBy Unknown = turn.Refused (refusalOf Unknown)
 
--- no place has its shape
+-- the turn of a group that comes where k groups stand at place c; past the row it is refused, and a word that halts stops the reading
+unfoldable pub turnAt : {R : Type 0} → List (Place R) → (Group → Bool) → ℕ → ℕ → Group → Turn
+turnAt row halts c k g = cond (leb (length row) c) (turn.Refused refusal.Shape) (cond (halts g) turn.Halt (turnBy (findOf (standsOf row g) c k)))
+
+-- ---- the same in the code's steps, where a word is asked for last
+
+-- no place has the group's shape
 abbrev pub isUnknown : Found → Bool
 isUnknown (Take i k) = false
 isUnknown Skips = false
@@ -29,10 +35,6 @@ isUnknown Full = false
 isUnknown Earlier = false
 isUnknown Unknown = true
 
--- a word that halts stops the reading, and another group that no place knows is refused
+-- then a word that halts stops the reading, and another group is refused
 abbrev pub turnUnknown : Bool → Turn
 turnUnknown halts = cond halts turn.Halt (turnBy Unknown)
-
--- the turn of a group that comes where k groups stand at place c; past the row it is refused, and a word that halts stops the reading
-unfoldable pub turnAt : {R : Type 0} → List (Place R) → (Group → Bool) → ℕ → ℕ → Group → Turn
-turnAt row halts c k g = cond (leb (length row) c) (turn.Refused refusal.Shape) (cond (halts g) turn.Halt (turnBy (findOf (standsOf row g) c k)))

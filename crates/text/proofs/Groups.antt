@@ -4,10 +4,10 @@ use mathlib.Core.Path.{_≡_, refl, sym, ap, _∙_, subst}
 use mathlib.Core.Bool.{Bool, true, false, false≢true}
 use mathlib.Core.List.{List, [], _∷_}
 use Prim.Native.Nat.{ℕ, zero, suc, _+_, _-_, _≤_, _<_}
-use native.Mathlib.Nat.{add-zero, add-suc, suc-add, add-sub-cancel-left, sub-self}
+use native.Mathlib.Nat.{add-zero, add-suc, suc-add, add-sub-cancel-left, sub-self, sub-zero}
 use native.Mathlib.Omega.{arith}
 use lib.ListN.{length, getD, take, drop, drop-of-length-le, length-drop}
-use lib.Seq.{drop-cons, drop-drop, drop-nil, getD-drop, length-take-le}
+use lib.Seq.{drop-cons, drop-drop, drop-nil, getD-drop, length-take-le, take-length}
 use lib.Dec.{leb}
 use borrow.Author.Tests.{le-leb, lt-leb, leb-true, leb-false}
 use Rattle.text.specs.declared.kinds.Cut.{Cut}
@@ -23,6 +23,10 @@ part-is t s e h k = simp (le-leb s e h, le-leb e (length t) k)
 
 pub part-length : (t : List ℕ) (s e : ℕ) → s ≤ e → e ≤ length t → length (partOf t s e) ≡ e - s
 part-length t s e h k = ap length (part-is t s e h k) ∙ length-take-le (e - s) (drop s t) (omega (arith, length-drop s t))
+
+-- the part from the first byte to the last is the whole
+pub whole-part : (t : List ℕ) (n : ℕ) → n ≡ length t → partOf t 0 n ≡ t
+whole-part t n e = part-is t 0 n (omega arith) (omega arith) ∙ rw (sub-zero, e) (take-length t)
 
 -- no part where it would end past the text
 part-over : (t : List ℕ) (s e : ℕ) → s ≤ e → length t < e → partOf t s e ≡ []

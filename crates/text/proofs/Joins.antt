@@ -5,11 +5,11 @@ use mathlib.Core.Path.{_≡_, refl, sym, ap, _∙_}
 use mathlib.Core.Bool.{Bool, true, false, false≢true, or-true}
 use mathlib.Core.List.{List, [], _∷_, _++_, map, append-assoc}
 use Prim.Native.Nat.{ℕ, suc, _+_, _≤_, _<_}
-use native.Mathlib.Nat.{add-zero, suc-add, zero-add, sub-zero}
+use native.Mathlib.Nat.{add-zero, suc-add, zero-add}
 use native.Mathlib.Numerals.{add-one}
 use native.Mathlib.Omega.{arith}
 use lib.ListN.{length, length-append}
-use lib.Seq.{take-append-seam, drop-append-seam, take-length}
+use lib.Seq.{take-append-seam, drop-append-seam}
 use lib.Dec.{eqb}
 use Rattle.text.specs.declared.kinds.Bytes.the-variants.{Sound}
 use Rattle.text.specs.declared.kinds.Tail.the-variants.{Clear}
@@ -17,7 +17,7 @@ use Rattle.text.specs.Bytes.{parting, inner, other, allowed, lead}
 use Rattle.text.specs.Groups.{Piece, groupsIn, groupsFrom, partOf, spaced, parted, join, opening, placed, written, Every, Everywhere, Whole, Wholes}
 use Rattle.text.specs.Text.{equalsAt, bytesOf, tailOf, trimmedOf}
 use Rattle.text.proofs.Leads.{lead-cons-yes, lead-cons-no, lead-end}
-use Rattle.text.proofs.Groups.{at-group, inner-not-parting, part-is}
+use Rattle.text.proofs.Groups.{at-group, inner-not-parting, part-is, whole-part}
 use Rattle.text.proofs.Texts.{bytes-sound, tail-clear, trimmed-start, trimmed-equals}
 
 -- ---- lists of which each byte passes a test
@@ -117,9 +117,6 @@ join-sound gs a h = bytes-sound (join gs) (λ e. omega (arith, length-join gs)) 
   where
     every : lead allowed (join gs) ≡ length (join gs)
     every = unfold join in every-lead allowed (parted gs ++ (61 ∷ [])) (every-append allowed (parted gs) (61 ∷ []) (every-parted allowed gs refl a) (refl, tt))
-
-pub whole-part : (t : List ℕ) (n : ℕ) → n ≡ length t → partOf t 0 n ≡ t
-whole-part t n e = part-is t 0 n (omega arith) (omega arith) ∙ rw (sub-zero, e) (take-length t)
 
 -- it is its own trimmed part
 pub join-trimmed : (gs : List (List ℕ)) → 0 < length gs → Wholes gs → trimmedOf (join gs) ≡ join gs

@@ -150,12 +150,13 @@ pub fn part(text: &[u8], start: usize, end: usize) -> &[u8]
     part_at(text, start, end)
 }
 
-// The same bytes, taken anew. A part is handed over as its place and its length, stored one by one and fetched as one, and a processor waits with that
-// until both are stored; of a part taken anew each is fetched by itself. It pays where much is asked of a group that was just cut.
+// The whole part anew, where it lies. A part is handed over as its place and its length, stored one by one and fetched as one, and a processor waits with
+// that until both are stored; of a part taken anew each is fetched by itself. It pays where much is asked of a group that was just cut.
 pub fn anew(g: &[u8]) -> &[u8]
-    ensures { λ r. ⌜ now r ≡ now (g .entry) ⌝ }
+    ensures { λ r. ⌜ PartAt (g .entry) r 0 (length (now (g .entry))) ⌝ }
 {
-    part(g, 0, g.len())
+    let end = g.len();
+    part_at(g, 0, end)
 }
 
 // The position after the last byte that is no parting byte; 0 where all are.

@@ -8,7 +8,7 @@ use Rattle.places.specs.Turn.{turnUnknown}
 use Rattle.places.proofs.Loop.{turn-past}
 use Rattle.places.proofs.Words.{turn-nowhere, turn-somewhere}
 use Rattle.metar_row.specs.Row.{row, words}
-use Rattle.metar_row.proofs.Sound.{row-apart, row-covered}
+use Rattle.metar_row.proofs.Sound.{row-wordless, row-covered}
 use Rattle.metar.proofs.Steps.{row-length}
 use Rattle.metar.proofs.step.decide.Statement.{statement}
 use Rattle.metar.proofs.step.decide.Tie as tie
@@ -25,4 +25,4 @@ decide-spec =
     (λ c κs. search needs)
     (λ c.
     let f = c .before .before in
-    turn-somewhere row words _ _ _ (rw row-length (omega (arith, f .before .before .if1 .left))) (f .before .find .ensures) row-apart row-covered (sym (f .is-unknown .ensures) ∙ c .before .if2 .left) (c .turn-by .ensures)))
+    turn-somewhere row words _ _ _ (rw row-length (omega (arith, f .before .before .if1 .left))) (f .before .find .ensures) row-wordless row-covered (sym (f .is-unknown .ensures) ∙ c .before .if2 .left) (c .turn-by .ensures)))
