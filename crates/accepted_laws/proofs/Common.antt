@@ -8,7 +8,7 @@ use mathlib.Core.Bool.{Bool, true, false, false≢true}
 use mathlib.Core.List.{List, [], ◌∷◌}
 use Rattle.places.specs.Engine.{Group, Read, Good, Place, then}
 use Rattle.accepted_laws.proofs.Gives.{Gives, good, bad, gives_more}
-use Rattle.accepted_laws.proofs.Stages.{Stage, Blank, andPast, Left, Moved, Serves}
+use Rattle.accepted_laws.proofs.Stages.{Stage, Blank, and_past, Left, Moved, Serves}
 
 -- said of one and then of the others
 infixr 5 ◌&◌
@@ -28,7 +28,7 @@ Past (s ∷ ss) r = s.past r × Past ss r
 
 pub left-all : {R : Type 0} (B : R → Type 0) (ss : List (Stage R)) (r : R) → Left B ss r → B r × Past ss r
 left-all B [] r x = (x, tt)
-left-all B (s ∷ ss) r x = let (b, p) = left-all (andPast B s) ss r x in (b.0, (b.1, p))
+left-all B (s ∷ ss) r x = let (b, p) = left-all (and_past B s) ss r x in (b.0, (b.1, p))
 
 -- ---- one group
 

@@ -28,9 +28,9 @@ module _ {A : Type 0} where
   each_snoc P [] x e p = (p, tt)
   each_snoc P (y ∷ xs) x e p = (e.0, each_snoc P xs x e.1 p)
 
-  every-blank : (isBlank : A → Bool) (blank : A) → isBlank blank ≡ true → (n : ℕ) → every isBlank (replicate n blank) ≡ true
-  every-blank isBlank blank b zero = refl
-  every-blank isBlank blank b (suc n) = rw (b, every-blank isBlank blank b n)
+  every-blank : (is_blank : A → Bool) (blank : A) → is_blank blank ≡ true → (n : ℕ) → every is_blank (replicate n blank) ≡ true
+  every-blank is_blank blank b zero = refl
+  every-blank is_blank blank b (suc n) = rw (b, every-blank is_blank blank b n)
 
   map_each : (f h : A → A) (P : A → Type 0) → ((x : A) → P x → f x ≡ h x) → (xs : List A) → Each P xs → map f xs ≡ map h xs
   map_each f h P e [] a = refl
@@ -92,8 +92,8 @@ module _ {A : Type 0} where
     filled-all Q q b = rw f.are (each_append Q f.done (replicate (most - k) blank) (each-so q f.done f.each) (each-blank Q blank b (most - k)))
 
     -- those that count are judged one by one, and past them all are blank
-    pub filled-slots : (isBlank : A → Bool) → isBlank blank ≡ true → (leb k most && every isBlank (drop k xs)) ≡ true
-    filled-slots isBlank b = rw (filled-drop, le-leb k most f.few) (every-blank isBlank blank b (most - k))
+    pub filled-slots : (is_blank : A → Bool) → is_blank blank ≡ true → (leb k most && every is_blank (drop k xs)) ≡ true
+    filled-slots is_blank b = rw (filled-drop, le-leb k most f.few) (every-blank is_blank blank b (most - k))
 
     pub filled-fine : (one : A → Judged) (each : List A → Judged) → each [] ≡ judged.Fine → ((x : A) (ys : List A) → each (x ∷ ys) ≡ and_then (one x) (each ys))
         → ((x : A) → P x → one x ≡ judged.Fine) → each (take k xs) ≡ judged.Fine

@@ -10,7 +10,7 @@ use Rattle.scales.specs.declared.kinds.Reading.{Reading}
 use Rattle.scales.specs.declared.kinds.Reading.TheVariants as reading
 use Rattle.text.specs.declared.kinds.Refusal.{Refusal}
 use Rattle.places.specs.Engine.{Read, Good, Bad, then}
-use Rattle.elements.specs.Parts.{figured, mayMiss, used, provided, agreeing}
+use Rattle.elements.specs.Parts.{figured, may_miss, used, provided, agreeing}
 
 module _ {A : Type 0} where
   pub data Gives (P : A → Type 0) : Read A → Type 0 where
@@ -41,7 +41,7 @@ module _ {A : Type 0} where
   gives-figured field.Mixed p = bad
   gives-figured field.Other p = bad
 
-  pub gives-may-miss : {P : A → Type 0} (f : Field) {x : Read A} {k : ℕ → Read A} → (f ≡ field.Missing → Gives P x) → ((n : ℕ) → f ≡ field.Number n → Gives P (k n)) → Gives P (mayMiss f x k)
+  pub gives-may-miss : {P : A → Type 0} (f : Field) {x : Read A} {k : ℕ → Read A} → (f ≡ field.Missing → Gives P x) → ((n : ℕ) → f ≡ field.Number n → Gives P (k n)) → Gives P (may_miss f x k)
   gives-may-miss (field.Number n) q p = p n refl
   gives-may-miss field.Missing q p = q refl
   gives-may-miss field.Mixed q p = bad

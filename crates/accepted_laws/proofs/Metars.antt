@@ -16,7 +16,7 @@ use Rattle.text.specs.declared.kinds.Judged.TheVariants as judged
 use Rattle.text.specs.declared.kinds.Tail.{Tail}
 use Rattle.text.specs.Judge.{judge, and_then}
 use Rattle.text.specs.Groups.{Piece}
-use Rattle.shapes.specs.Pattern.{hasPattern, hasAny}
+use Rattle.shapes.specs.Pattern.{has_pattern, has_any}
 use Rattle.places.specs.Engine.{Group}
 use Rattle.places.specs.Parts.{Ends, Bars}
 use Rattle.record.specs.declared.aerodrome.Body.{Body}
@@ -29,27 +29,27 @@ use Rattle.record.specs.declared.aerodrome.Qnh.{Qnh}
 use Rattle.record.specs.declared.aerodrome.Observation.{Observation}
 use Rattle.record.specs.declared.aerodrome.TrendChange.{TrendChange}
 use Rattle.record.specs.declared.aerodrome.Metar.{Metar}
-use Rattle.record.specs.Body.{setWind, setVisibility, setSky, blankWind, blankVisibility, blankWeathers, blankSky, blankBody}
-use Rattle.record.specs.Observation.{setTime, setNil, setBody, setVariation, setRunways, setTemperatures, setQnh, setRecents, setStates, blankRunways, blankStates, blankObservation}
-use Rattle.record.specs.Trend.{blankTrend}
-use Rattle.record.specs.SilentAerodrome.{isBlankBody, noObservation}
+use Rattle.record.specs.Body.{set_wind, set_visibility, set_sky, blank_wind, blank_visibility, blank_weathers, blank_sky, blank_body}
+use Rattle.record.specs.Observation.{set_time, set_nil, set_body, set_variation, set_runways, set_temperatures, set_qnh, set_recents, set_states, blank_runways, blank_states, blank_observation}
+use Rattle.record.specs.Trend.{blank_trend}
+use Rattle.record.specs.SilentAerodrome.{is_blank_body, no_observation}
 use Rattle.record.specs.Arrays.{ObservationArrays, MetarArrays}
-use Rattle.elements.specs.Wind.{judgeVariation, classVariation}
-use Rattle.elements.specs.Visibility.{isCavok}
-use Rattle.elements.specs.Weather.{withWeather, judgeRecent}
-use Rattle.elements.specs.Body.{classBody}
-use Rattle.aerodrome_groups.specs.Runway.{withRunway, classRunways}
-use Rattle.aerodrome_groups.specs.Temperatures.{classTemperatures, classQnh}
-use Rattle.runway_states.specs.State.{classStates}
-use Rattle.metar_row.specs.Row.{observed, row, stopWords}
+use Rattle.elements.specs.Wind.{judge_variation, class_variation}
+use Rattle.elements.specs.Visibility.{is_cavok}
+use Rattle.elements.specs.Weather.{with_weather, judge_recent}
+use Rattle.elements.specs.Body.{class_body}
+use Rattle.aerodrome_groups.specs.Runway.{with_runway, class_runways}
+use Rattle.aerodrome_groups.specs.Temperatures.{class_temperatures, class_qnh}
+use Rattle.runway_states.specs.State.{class_states}
+use Rattle.metar_row.specs.Row.{observed, row, stop_words}
 use Rattle.trend_row.specs.declared.kinds.Word.{Word}
 use Rattle.trend_row.specs.declared.kinds.Word.TheVariants as word
-use Rattle.trend_row.specs.Row.{isChange}
-use Rattle.trend.specs.Read.{opens as opens-word, start_of, nosigAfter, changeAfter, comesTo, taking, partAfter, parts}
-use Rattle.trend.specs.Write.{judgeTrend}
-use Rattle.metar.specs.Read.{mainPart, groupsRead}
-use Rattle.metar.specs.Write.{judgeHead, judgeObservation, judgeOf, classObservation, classedOf}
-use Rattle.accepted_laws.specs.Opened.{openBody, openMetar}
+use Rattle.trend_row.specs.Row.{is_change}
+use Rattle.trend.specs.Read.{opens as opens-word, start_of, nosig_after, change_after, comes_to, taking, part_after, parts}
+use Rattle.trend.specs.Write.{judge_trend}
+use Rattle.metar.specs.Read.{main_part, groups_read}
+use Rattle.metar.specs.Write.{judge_head, judge_observation, judge_of, class_observation, classed_of}
+use Rattle.accepted_laws.specs.Opened.{open_body, open_metar}
 use Rattle.accepted_laws.proofs.Gives.{good, bad, gives_more, gives-agreeing, gives_then}
 use Rattle.accepted_laws.proofs.Stages.{Stage, Blank, Left, ServesRow, StandsAt}
 use Rattle.accepted_laws.proofs.Reports.{Comes, Turns, ends, bars, opens, Leaves, report-leaves}
@@ -66,7 +66,7 @@ use Rattle.accepted_laws.proofs.Trends as trend
 
 -- recent weather, UP under AUTO alone
 abbrev RecentsHeld : ℕ → Observation → Type 0
-RecentsHeld k r = WeathersHeld (λ w. judgeRecent r.automatic w ≡ judged.Fine) k r.recents
+RecentsHeld k r = WeathersHeld (λ w. judge_recent r.automatic w ≡ judged.Fine) k r.recents
 
 -- SNOCLO where no state stands
 abbrev Alone : RunwayStates → Type 0
@@ -79,20 +79,20 @@ abbrev stages : List (Stage Observation)
 stages =
     free
     ∷ free
-    ∷ once StationRead blankObservation.station true (λ r. r.station)
-    ∷ once TimeRead blankObservation.time true (λ r. r.time)
+    ∷ once StationRead blank_observation.station true (λ r. r.station)
+    ∷ once TimeRead blank_observation.time true (λ r. r.time)
     ∷ ending (λ r. r.nil)
     ∷ flag (λ r. r.automatic)
-    ∷ once (WindRead false) blankWind true (λ r. r.body.wind)
-    ∷ once VariationRead blankObservation.variation false (λ r. r.variation)
-    ∷ once (VisibilityRead false) blankVisibility true (λ r. r.body.visibility)
-    ∷ many (λ r. r.runways ≡ blankRunways) (λ k r. RunwaysHeld k r.runways)
-    ∷ many (λ r. NoWeather r.body) (λ k r. WeatherHeld (observed r) (isCavok r.body.visibility) k r.body.nsw r.body.weathers)
-    ∷ many (λ r. r.body.sky ≡ blankSky) (λ k r. SkyHeld false (isCavok r.body.visibility) k r.body.sky)
-    ∷ once TemperaturesRead blankObservation.temperatures true (λ r. r.temperatures)
-    ∷ once QnhRead blankObservation.qnh true (λ r. r.qnh)
-    ∷ many (λ r. r.recents ≡ blankWeathers) RecentsHeld
-    ∷ many (λ r. (r.states.items ≡ blankStates.items) × (r.states.count ≡ 0)) (λ k r. StatesHeld k r.states.items r.states.count)
+    ∷ once (WindRead false) blank_wind true (λ r. r.body.wind)
+    ∷ once VariationRead blank_observation.variation false (λ r. r.variation)
+    ∷ once (VisibilityRead false) blank_visibility true (λ r. r.body.visibility)
+    ∷ many (λ r. r.runways ≡ blank_runways) (λ k r. RunwaysHeld k r.runways)
+    ∷ many (λ r. NoWeather r.body) (λ k r. WeatherHeld (observed r) (is_cavok r.body.visibility) k r.body.nsw r.body.weathers)
+    ∷ many (λ r. r.body.sky ≡ blank_sky) (λ k r. SkyHeld false (is_cavok r.body.visibility) k r.body.sky)
+    ∷ once TemperaturesRead blank_observation.temperatures true (λ r. r.temperatures)
+    ∷ once QnhRead blank_observation.qnh true (λ r. r.qnh)
+    ∷ many (λ r. r.recents ≡ blank_weathers) RecentsHeld
+    ∷ many (λ r. (r.states.items ≡ blank_states.items) × (r.states.count ≡ 0)) (λ k r. StatesHeld k r.states.items r.states.count)
     ∷ snoclo
     ∷ free
     ∷ free
@@ -104,26 +104,26 @@ pub record NilRead (r : Observation) : Type 0 where
   pub time : TimeRead r.time
   pub nil : r.nil ≡ true
   pub automatic : r.automatic ≡ false
-  pub body : r.body ≡ blankBody
-  pub variation : r.variation ≡ blankObservation.variation
-  pub runways : r.runways ≡ blankRunways
-  pub temperatures : r.temperatures ≡ blankObservation.temperatures
-  pub qnh : r.qnh ≡ blankObservation.qnh
-  pub recents : r.recents ≡ blankWeathers
-  pub states : r.states ≡ blankStates
+  pub body : r.body ≡ blank_body
+  pub variation : r.variation ≡ blank_observation.variation
+  pub runways : r.runways ≡ blank_runways
+  pub temperatures : r.temperatures ≡ blank_observation.temperatures
+  pub qnh : r.qnh ≡ blank_observation.qnh
+  pub recents : r.recents ≡ blank_weathers
+  pub states : r.states ≡ blank_states
 
-blank-states : (ss : RunwayStates) → ss.items ≡ blankStates.items → ss.count ≡ 0 → ss.snoclo ≡ false → ss ≡ blankStates
+blank-states : (ss : RunwayStates) → ss.items ≡ blank_states.items → ss.count ≡ 0 → ss.snoclo ≡ false → ss ≡ blank_states
 blank-states ss i c s = go ss.items ss.count ss.snoclo i c s
   where
-    go : (items : List RunwayState) (count : ℕ) (snoclo : Bool) → items ≡ blankStates.items → count ≡ 0 → snoclo ≡ false
-        → ◌≡◌ {A = RunwayStates} (record { items = items; count = count; snoclo = snoclo }) blankStates
+    go : (items : List RunwayState) (count : ℕ) (snoclo : Bool) → items ≡ blank_states.items → count ≡ 0 → snoclo ≡ false
+        → ◌≡◌ {A = RunwayStates} (record { items = items; count = count; snoclo = snoclo }) blank_states
     go items count snoclo i c s = rw (i, c, s)
 
 abbrev start : Observation → Type 0
 start r = Unit {0}
 
 -- read after the station and the time, where all behind it is blank
-nil-read : (r : Observation) → Given StationRead blankObservation.station true r.station → Given TimeRead blankObservation.time true r.time → Blank (drop 5 stages) r → NilRead (setNil true r)
+nil-read : (r : Observation) → Given StationRead blank_observation.station true r.station → Given TimeRead blank_observation.time true r.time → Blank (drop 5 stages) r → NilRead (set_nil true r)
 nil-read r s t (a, (w, (v, (y, (u, (x, (k, (d, (q, (c, (z, (n, _)))))))))))) =
     record {
       station = given-read StationRead _ r.station s;
@@ -145,68 +145,68 @@ serves =
     serves-free _ _ _ _ refl (λ k g r b e. good (b, e))
     & serves-free _ _ _ _ refl (λ k g r b e. good (b, e))
     & serves-once _ _ _ _ StationRead _ (λ r. r.station) refl (λ k g r room has b e. good (b, station-read g has, e))
-    & serves-once _ _ _ _ TimeRead _ (λ r. r.time) refl (λ k g r room has b e. gives-onto (λ t. setTime t r) (gives_more (time-read g) (λ t f. (b, f, e))))
+    & serves-once _ _ _ _ TimeRead _ (λ r. r.time) refl (λ k g r room has b e. gives-onto (λ t. set_time t r) (gives_more (time-read g) (λ t f. (b, f, e))))
     & serves-ending _ _ _ _ (λ r. r.nil) refl (λ k g r room b h e. good (nil-read r b.0.1 b.1 e))
     & serves-flag _ _ _ _ (λ r. r.automatic) refl (λ k g r b e. good (b, e))
     & serves-once _ _ _ _ (WindRead false) _ (λ r. r.body.wind) refl
-    (λ k g r room has b e. gives-onto (λ x. setBody x r) (gives-onto (λ x. setWind x r.body) (gives_more (wind-read false g) (λ x f. (b, f, e)))))
-    & serves-once _ _ _ _ VariationRead _ (λ r. r.variation) refl (λ k g r room has b e. gives-onto (λ x. setVariation x r) (gives_more (variation-read g) (λ x f. (b, f, e))))
+    (λ k g r room has b e. gives-onto (λ x. set_body x r) (gives-onto (λ x. set_wind x r.body) (gives_more (wind-read false g) (λ x f. (b, f, e)))))
+    & serves-once _ _ _ _ VariationRead _ (λ r. r.variation) refl (λ k g r room has b e. gives-onto (λ x. set_variation x r) (gives_more (variation-read g) (λ x f. (b, f, e))))
     & serves-once _ _ _ _ (VisibilityRead false) _ (λ r. r.body.visibility) refl
-    (λ k g r room has b e. gives-onto (λ x. setBody x r) (gives-onto (λ x. setVisibility x r.body) (gives_more (visibility-read false g) (λ x f. (b, f, e)))))
+    (λ k g r room has b e. gives-onto (λ x. set_body x r) (gives-onto (λ x. set_visibility x r.body) (gives_more (visibility-read false g) (λ x f. (b, f, e)))))
     & serves-many _ _ _ _ _ _ refl (λ r b e. rw e runways-none)
-    (λ k g r room b h e. gives-onto (λ x. setRunways (withRunway k r.runways x) r) (gives_more (runway-read g) (λ x f. (b, runways-more h room x f, e))))
-    & serves-many _ _ _ _ _ _ refl (λ r b e. rw (e.0, e.1) (no-weather (observed r) (isCavok r.body.visibility)))
-    (λ k g r room b h e. gives-onto (λ x. setBody x r) (weather-sets (observed r) k g r.body room h _ (λ n ws x. (b, x, e))))
-    & serves-many _ _ _ _ _ _ refl (λ r b e. rw e (sky-none false (isCavok r.body.visibility)))
-    (λ k g r room b h e. gives-onto (λ x. setBody x r) (gives-onto (λ x. setSky x r.body) (gives_more (sky-read false (isCavok r.body.visibility) k r.body.sky room g h) (λ x f. (b, f, e)))))
-    & serves-once _ _ _ _ TemperaturesRead _ (λ r. r.temperatures) refl (λ k g r room has b e. gives-onto (λ x. setTemperatures x r) (gives_more (temperatures-read g) (λ x f. (b, f, e))))
-    & serves-once _ _ _ _ QnhRead _ (λ r. r.qnh) refl (λ k g r room has b e. gives-onto (λ x. setQnh x r) (gives_more (qnh-read g) (λ x f. (b, f, e))))
+    (λ k g r room b h e. gives-onto (λ x. set_runways (with_runway k r.runways x) r) (gives_more (runway-read g) (λ x f. (b, runways-more h room x f, e))))
+    & serves-many _ _ _ _ _ _ refl (λ r b e. rw (e.0, e.1) (no-weather (observed r) (is_cavok r.body.visibility)))
+    (λ k g r room b h e. gives-onto (λ x. set_body x r) (weather-sets (observed r) k g r.body room h _ (λ n ws x. (b, x, e))))
+    & serves-many _ _ _ _ _ _ refl (λ r b e. rw e (sky-none false (is_cavok r.body.visibility)))
+    (λ k g r room b h e. gives-onto (λ x. set_body x r) (gives-onto (λ x. set_sky x r.body) (gives_more (sky-read false (is_cavok r.body.visibility) k r.body.sky room g h) (λ x f. (b, f, e)))))
+    & serves-once _ _ _ _ TemperaturesRead _ (λ r. r.temperatures) refl (λ k g r room has b e. gives-onto (λ x. set_temperatures x r) (gives_more (temperatures-read g) (λ x f. (b, f, e))))
+    & serves-once _ _ _ _ QnhRead _ (λ r. r.qnh) refl (λ k g r room has b e. gives-onto (λ x. set_qnh x r) (gives_more (qnh-read g) (λ x f. (b, f, e))))
     & serves-many _ _ _ _ _ _ refl (λ r b e. rw e (weathers-none _))
-    (λ k g r room b h e. gives-onto (λ w. setRecents (withWeather k r.recents w) r) (gives_more (recent-read r.automatic g) (λ w f. (b, weathers-more h room w f, e))))
+    (λ k g r room b h e. gives-onto (λ w. set_recents (with_weather k r.recents w) r) (gives_more (recent-read r.automatic g) (λ w f. (b, weathers-more h room w f, e))))
     & serves-many _ _ _ _ _ _ refl (λ r b e. rw (e.0, e.1) states-none)
-    (λ k g r room b h e. gives-onto (λ x. setStates x r) (states-set k g r.states h room _ (λ items held. (b, held, e))))
+    (λ k g r room b h e. gives-onto (λ x. set_states x r) (states-set k g r.states h room _ (λ items held. (b, held, e))))
     & record {
       begins = λ r b e s. absurd (false≢true (sym e ∙ s));
       passes = λ k r b m h. h;
-      takes = λ k g r room has b h e. gives-onto (λ x. setStates x r) (gives-agreeing (eqb r.states.count 0) (λ z. good (b, (λ s. eqb-true r.states.count 0 z), e)));
+      takes = λ k g r room has b h e. gives-onto (λ x. set_states x r) (gives-agreeing (eqb r.states.count 0) (λ z. good (b, (λ s. eqb-true r.states.count 0 z), e)));
     }
-    & serves-free _ _ _ _ refl (λ k g r b e. gives-onto (λ x. setStates x r) (gives_then (state-read g) (λ s f. bad)))
+    & serves-free _ _ _ _ refl (λ k g r b e. gives-onto (λ x. set_states x r) (gives_then (state-read g) (λ s f. bad)))
     & serves-free _ _ _ _ refl (λ k g r b e. bad)
     & tt
 
-begins-at : StandsAt NilRead start stages 0 0 blankObservation
+begins-at : StandsAt NilRead start stages 0 0 blank_observation
 begins-at = (tt, tt, tt & refl & refl & refl & refl & refl & refl & refl & refl & (refl, refl) & refl & refl & refl & refl & (refl, refl) & refl & tt & tt & tt)
 
 -- ---- THE OBSERVATION
 
-variation-fine : (v : Variation) → Given VariationRead blankObservation.variation false v → judgeVariation v ≡ judged.Fine
-unfolding judgeVariation
+variation-fine : (v : Variation) → Given VariationRead blank_observation.variation false v → judge_variation v ≡ judged.Fine
+unfolding judge_variation
 variation-fine v (inl (free, is)) = rw is
 variation-fine v (inr r) = r.fine
 
-variation-own : (v : Variation) → Given VariationRead blankObservation.variation false v → classVariation v ≡ v
+variation-own : (v : Variation) → Given VariationRead blank_observation.variation false v → class_variation v ≡ v
 variation-own v (inl (free, is)) = rw is
 variation-own v (inr r) = r.own
 
-observation-own : (o : Observation) → classBody o.body ≡ openBody o.body → classVariation o.variation ≡ o.variation → classRunways o.runways ≡ o.runways
-    → classTemperatures o.temperatures ≡ o.temperatures → classQnh o.qnh ≡ o.qnh → classStates o.states ≡ o.states → classObservation o ≡ setBody (openBody o.body) o
-unfolding classObservation row
+observation-own : (o : Observation) → class_body o.body ≡ open_body o.body → class_variation o.variation ≡ o.variation → class_runways o.runways ≡ o.runways
+    → class_temperatures o.temperatures ≡ o.temperatures → class_qnh o.qnh ≡ o.qnh → class_states o.states ≡ o.states → class_observation o ≡ set_body (open_body o.body) o
+unfolding class_observation row
 observation-own o b v r t q s =
-    ap (λ (x : Body). made x (classVariation o.variation) (classRunways o.runways) (classTemperatures o.temperatures) (classQnh o.qnh) (classStates o.states)) b
+    ap (λ (x : Body). made x (class_variation o.variation) (class_runways o.runways) (class_temperatures o.temperatures) (class_qnh o.qnh) (class_states o.states)) b
     ∙ rw (v, r, t, q, s)
   where
     made : Body → Variation → Runways → Temperatures → Qnh → RunwayStates → Observation
-    made b v r t q s = setBody b (setVariation v (setRunways r (setTemperatures t (setQnh q (setStates s o)))))
+    made b v r t q s = set_body b (set_variation v (set_runways r (set_temperatures t (set_qnh q (set_states s o)))))
 
 pub record ObservationRead (o : Observation) : Type 0 where
-  pub head : judgeHead o ≡ judged.Fine
+  pub head : judge_head o ≡ judged.Fine
   pub nil : o.nil ≡ false
-  pub fine : judgeObservation o ≡ judged.Fine
-  pub own : classObservation o ≡ setBody (openBody o.body) o
+  pub fine : judge_observation o ≡ judged.Fine
+  pub own : class_observation o ≡ set_body (open_body o.body) o
   pub arrays : ObservationArrays o
 
 observation-read : (o : Observation) → Left start stages o → ObservationRead o
-unfolding judgeHead judgeObservation
+unfolding judge_head judge_observation
 observation-read o x = go (left-all start stages o x).1
   where
     go : Past stages o → ObservationRead o
@@ -226,7 +226,7 @@ observation-read o x = go (left-all start stages o x).1
                 visibility-fine t o.body visibility,
                 runways-fine runways.1,
                 weather-fine t o.body weather.0 weather.1,
-                (sky-left false (isCavok o.body.visibility) sky.0 o.body.sky sky.1).fine,
+                (sky-left false (is_cavok o.body.visibility) sky.0 o.body.sky sky.1).fine,
                 degrees.fine,
                 pressure.fine,
                 weathers-fine recents.1,
@@ -250,8 +250,8 @@ record Whole (m : Metar) : Type 0 where
   trend : trend.TrendHeld m.trend
 
 pub record MetarRead (m : Metar) : Type 0 where
-  pub fine : judgeOf m ≡ judged.Fine
-  pub own : classedOf m ≡ openMetar m
+  pub fine : judge_of m ≡ judged.Fine
+  pub own : classed_of m ≡ open_metar m
   pub arrays : MetarArrays m
 
 whole-fine : (nil blank : Bool) (h o t : Judged) → nil ≡ false → h ≡ judged.Fine → o ≡ judged.Fine → t ≡ judged.Fine
@@ -259,23 +259,23 @@ whole-fine : (nil blank : Bool) (h o t : Judged) → nil ≡ false → h ≡ jud
 whole-fine nil blank h o t n a b c = rw (n, a, b, c)
 
 whole-read : (m : Metar) → Whole m → MetarRead m
-unfolding judgeOf classedOf
+unfolding judge_of classed_of
 whole-read m w =
     let o = w.observation in
     let t = trend.trend-arrays m.trend w.trend in
     record {
-      fine = whole-fine m.observation.nil _ (judgeHead m.observation) (judgeObservation m.observation) (judgeTrend m.trend) o.nil o.head o.fine (trend.trend-fine m.trend w.trend);
+      fine = whole-fine m.observation.nil _ (judge_head m.observation) (judge_observation m.observation) (judge_trend m.trend) o.nil o.head o.fine (trend.trend-fine m.trend w.trend);
       own = rw (o.own, trend.trend-own m.trend w.trend);
       arrays = record { observation = o.arrays; trend = t.0; each = t.1 };
     }
 
-nil-whole : (o : Observation) → NilRead o → MetarRead (record { observation = o; trend = blankTrend })
-unfolding judgeOf judgeHead noObservation isBlankBody classedOf
+nil-whole : (o : Observation) → NilRead o → MetarRead (record { observation = o; trend = blank_trend })
+unfolding judge_of judge_head no_observation is_blank_body classed_of
 nil-whole o n =
-    let t = trend.trend-arrays blankTrend trend.no-trend in
+    let t = trend.trend-arrays blank_trend trend.no-trend in
     record {
       fine = rw (n.nil, n.automatic, n.body, n.variation, n.runways, n.temperatures, n.qnh, n.recents, n.states, n.station.fine) (rw n.time.fine);
-      own = rw (observation-own o (rw n.body) (rw n.variation) (rw n.runways) (rw n.temperatures) (rw n.qnh) (rw n.states), trend.trend-own blankTrend trend.no-trend);
+      own = rw (observation-own o (rw n.body) (rw n.variation) (rw n.runways) (rw n.temperatures) (rw n.qnh) (rw n.states), trend.trend-own blank_trend trend.no-trend);
       arrays =
           record {
             observation = record { letters = n.station.four; body = rw n.body (record { weathers = refl; layers = refl }); runways = rw n.runways; recents = rw n.recents; states = rw n.states };
@@ -287,12 +287,12 @@ nil-whole o n =
 -- ---- what opens a part of the trend: NOSIG where nothing stands, a change where NOSIG does not
 
 abbrev Opened : Metar → Word → TrendChange → Type 0
-Opened m w c = (c ≡ start_of w) × (m.trend.nosig ≡ false) × (isChange w ≡ false → m.trend.count ≡ 0)
+Opened m w c = (c ≡ start_of w) × (m.trend.nosig ≡ false) × (is_change w ≡ false → m.trend.count ≡ 0)
 
-opens-so : (m : Metar) (w : Word) → m.trend.nosig ≡ false → (isChange w ≡ false → m.trend.count ≡ 0) → Turns Whole MetarRead Opened m (opens-word w)
+opens-so : (m : Metar) (w : Word) → m.trend.nosig ≡ false → (is_change w ≡ false → m.trend.count ≡ 0) → Turns Whole MetarRead Opened m (opens-word w)
 opens-so m w n c = opens (good (refl, n, c))
 
-nosig-turns : (m : Metar) → Turns Whole MetarRead Opened m (nosigAfter m.trend)
+nosig-turns : (m : Metar) → Turns Whole MetarRead Opened m (nosig_after m.trend)
 nosig-turns m = go m.trend.nosig refl (ltb 0 m.trend.count) refl
   where
     go : (b : Bool) → m.trend.nosig ≡ b → (c : Bool) → ltb 0 m.trend.count ≡ c
@@ -301,45 +301,45 @@ nosig-turns m = go m.trend.nosig refl (ltb 0 m.trend.count) refl
     go false n true e = bars
     go false n false e = opens-so m word.Nosig n (λ x. let z = ltb-false 0 m.trend.count e in omega (arith, z))
 
-change-turns : (m : Metar) (g : Group) → Turns Whole MetarRead Opened m (changeAfter m.trend g)
-change-turns m g = go m.trend.nosig refl (hasPattern g (bytes "BECMG"))
+change-turns : (m : Metar) (g : Group) → Turns Whole MetarRead Opened m (change_after m.trend g)
+change-turns m g = go m.trend.nosig refl (has_pattern g (bytes "BECMG"))
   where
     go : (b : Bool) → m.trend.nosig ≡ b → (c : Bool) → Turns Whole MetarRead Opened m (cond b (Bars refusal.Disagreement) (opens-word (cond c word.Becoming word.Temporary)))
     go true n c = bars
     go false n true = opens-so m word.Becoming n (λ x. absurd (false≢true (sym x)))
     go false n false = opens-so m word.Temporary n (λ x. absurd (false≢true (sym x)))
 
-turns : (m : Metar) (g : Group) → Turns Whole MetarRead Opened m (comesTo m.trend g)
-unfolding comesTo
-turns m g = go (hasAny stopWords g) (hasPattern g (bytes "NOSIG"))
+turns : (m : Metar) (g : Group) → Turns Whole MetarRead Opened m (comes_to m.trend g)
+unfolding comes_to
+turns m g = go (has_any stop_words g) (has_pattern g (bytes "NOSIG"))
   where
-    go : (a b : Bool) → Turns Whole MetarRead Opened m (cond a Ends (cond b (nosigAfter m.trend) (changeAfter m.trend g)))
+    go : (a b : Bool) → Turns Whole MetarRead Opened m (cond a Ends (cond b (nosig_after m.trend) (change_after m.trend g)))
     go true b = ends
     go false true = nosig-turns m
     go false false = change-turns m g
 
 -- ---- the parts
 
-taken_in : (m : Metar) (w : Word) (c : TrendChange) → Whole m → m.trend.nosig ≡ false → (isChange w ≡ false → m.trend.count ≡ 0)
-    → (isChange w ≡ true → trend.ChangeRead c) → Whole (record { observation = m.observation; trend = taking w m.trend c })
+taken_in : (m : Metar) (w : Word) (c : TrendChange) → Whole m → m.trend.nosig ≡ false → (is_change w ≡ false → m.trend.count ≡ 0)
+    → (is_change w ≡ true → trend.ChangeRead c) → Whole (record { observation = m.observation; trend = taking w m.trend c })
 taken_in m word.Nosig c w n alone r = record { observation = w.observation; trend = record { filled = w.trend.filled; alone = λ e. alone refl } }
 taken_in m word.Becoming c w n alone r = record { observation = w.observation; trend = trend.change-added m.trend c w.trend n (r refl) }
 taken_in m word.Temporary c w n alone r = record { observation = w.observation; trend = trend.change-added m.trend c w.trend n (r refl) }
 
-part-leaves : (m : Metar) (w : Word) (c : TrendChange) → Whole m → Opened m w c → Leaves Whole MetarRead Opened (partAfter m w) c
+part-leaves : (m : Metar) (w : Word) (c : TrendChange) → Whole m → Opened m w c → Leaves Whole MetarRead Opened (part_after m w) c
 part-leaves m w c h (is, n, alone) =
     record {
       over = trend.never;
       before = trend.Begun w;
-      stages = trend.stages (isChange w);
-      serves = trend.serves w (isChange w);
-      begins = rw is (trend.begins-at w (isChange w));
-      whole = λ q x e. taken_in m w q h n alone (λ change. trend.change-read w (isChange w) q change x e);
+      stages = trend.stages (is_change w);
+      serves = trend.serves w (is_change w);
+      begins = rw is (trend.begins-at w (is_change w));
+      whole = λ q x e. taken_in m w q h n alone (λ change. trend.change-read w (is_change w) q change x e);
       ended = λ q e. absurd e;
       word = λ u g f k. turns u g;
     }
 
-main-leaves : Leaves Whole MetarRead Opened mainPart blankObservation
+main-leaves : Leaves Whole MetarRead Opened main_part blank_observation
 main-leaves =
     record {
       over = NilRead;
@@ -353,7 +353,7 @@ main-leaves =
     }
 
 -- WHATEVER METAR OR SPECI IS ACCEPTED IS JUDGED FINE, AND COMES BACK WITH ITS SPEEDS OPENED.
-pub metar-read : (tail : Tail) (end : ℕ) (gs : List Piece) → Comes MetarRead (groupsRead tail end gs)
-unfolding groupsRead
+pub metar-read : (tail : Tail) (end : ℕ) (gs : List Piece) → Comes MetarRead (groups_read tail end gs)
+unfolding groups_read
 metar-read tail end gs =
-    report-leaves Whole MetarRead Opened tail end parts whole-read part-leaves (λ m w c g o e. absurd (false≢true e)) 3 mainPart blankObservation main-leaves gs
+    report-leaves Whole MetarRead Opened tail end parts whole-read part-leaves (λ m w c g o e. absurd (false≢true e)) 3 main_part blank_observation main-leaves gs

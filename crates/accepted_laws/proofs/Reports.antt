@@ -12,8 +12,8 @@ use Rattle.text.specs.declared.kinds.Tail.TheVariants.{Clear, Junk}
 use Rattle.text.specs.Groups.{Piece}
 use Rattle.shapes.proofs.Patterns.{both_false}
 use Rattle.places.specs.Seek.{owed}
-use Rattle.places.specs.Engine.{Group, Read, mustsOf, Outcome, Done, Fault, finish}
-use Rattle.places.specs.Parts.{Begun, Word, Ends, Opens, Bars, Part, Parts, Further, turned, ended, unless, owes, partExits, partFrom, afterFirst, begins as begins-part, opened, further, reportOf}
+use Rattle.places.specs.Engine.{Group, Read, musts_of, Outcome, Done, Fault, finish}
+use Rattle.places.specs.Parts.{Begun, Word, Ends, Opens, Bars, Part, Parts, Further, turned, ended, unless, owes, part_exits, part_from, after_first, begins as begins-part, opened, further, report_of}
 use Rattle.accepted_laws.proofs.Gives.{Gives, good, bad}
 use Rattle.accepted_laws.proofs.Stages.{Stage, Left, ServesRow, StandsAt, left_at, Reached, within, ended as over-there, runs_to}
 
@@ -71,9 +71,9 @@ module _ {T P W : Type 0} (F G : T → Type 0) (O : T → W → P → Type 0) wh
     turned-comes f on t g gs _ h bars = fault
     turned-comes f on t g gs _ h (opens {x} o) = on t g x gs h o
 
-    part-comes : {R : Type 0} (part : Part T P W R) (r : R) → Leaves part r → (f : Further T P W) → Goes_on f → (gs : List Piece) → Comes G (partFrom tail end part f 0 0 r gs)
+    part-comes : {R : Type 0} (part : Part T P W R) (r : R) → Leaves part r → (f : Further T P W) → Goes_on f → (gs : List Piece) → Comes G (part_from tail end part f 0 0 r gs)
     part-comes part r l f on gs =
-        runs_to l.over l.before part.row l.stages l.serves (Comes G) part.halts (partExits tail end part f)
+        runs_to l.over l.before part.row l.stages l.serves (Comes G) part.halts (part_exits tail end part f)
         (λ c k r st. at-end G tail end (owes part c k r) (part.takes r) (λ e. ends_so c k r st e))
         (λ c k r g gs st h. at-word G (owes part c k r) g.start (λ e.
         let t = part.takes r in
@@ -83,7 +83,7 @@ module _ {T P W : Type 0} (F G : T → Type 0) (O : T → W → P → Type 0) wh
       where
         whole-so : (c k : ℕ) (r : _) → StandsAt l.over l.before l.stages c k r → owes part c k r ≡ false → F (part.takes r)
         whole-so c k r st e =
-            let (due, lacks) = both_false (owed k (drop c (mustsOf part.row))) (part.lacks r) e in
+            let (due, lacks) = both_false (owed k (drop c (musts_of part.row))) (part.lacks r) e in
             l.whole r (left_at l.over l.before part.row l.stages l.serves c k r st due) lacks
 
         ends_so : (c k : ℕ) (r : _) → Reached l.over l.before l.stages part.row c k r → owes part c k r ≡ false → G (part.takes r)
@@ -94,7 +94,7 @@ module _ {T P W : Type 0} (F G : T → Type 0) (O : T → W → P → Type 0) wh
     begins-comes f on t w p [] h o = part-comes (parts.part t w) p (leaves t w p h o) f on []
     begins-comes f on t w p (g ∷ gs) h o = go (parts.joins w g.bytes) refl
       where
-        go : (b : Bool) → parts.joins w g.bytes ≡ b → Comes G (afterFirst tail end parts b f t w p g gs)
+        go : (b : Bool) → parts.joins w g.bytes ≡ b → Comes G (after_first tail end parts b f t w p g gs)
         go true e = part-comes (parts.part t (parts.joined w)) p (leaves t (parts.joined w) p h (joins t w p g.bytes o e)) f on gs
         go false e = part-comes (parts.part t w) p (leaves t w p h o) f on (g ∷ gs)
 
@@ -105,6 +105,6 @@ module _ {T P W : Type 0} (F G : T → Type 0) (O : T → W → P → Type 0) wh
     further-comes (suc n) t g _ gs h bad = fault
 
     -- WHAT A REPORT OF PARTS LEAVES.
-    pub report-leaves : {M : Type 0} (n : ℕ) (main : Part T P W M) (m : M) → Leaves main m → (gs : List Piece) → Comes G (reportOf tail end parts n main m gs)
-    unfolding reportOf
+    pub report-leaves : {M : Type 0} (n : ℕ) (main : Part T P W M) (m : M) → Leaves main m → (gs : List Piece) → Comes G (report_of tail end parts n main m gs)
+    unfolding report_of
     report-leaves n main m l gs = part-comes main m l (further tail end parts n) (further-comes n) gs

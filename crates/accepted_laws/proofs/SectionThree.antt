@@ -13,22 +13,22 @@ use Rattle.text.specs.declared.kinds.Refusal.TheVariants as refusal
 use Rattle.text.specs.declared.kinds.Judged.{Judged}
 use Rattle.text.specs.declared.kinds.Judged.TheVariants as judged
 use Rattle.text.specs.Judge.{judge}
-use Rattle.shapes.specs.Pattern.{hasPattern}
+use Rattle.shapes.specs.Pattern.{has_pattern}
 use Rattle.places.specs.Engine.{Group}
 use Rattle.record.specs.declared.surface.CloudLayer.{CloudLayer}
 use Rattle.record.specs.declared.surface.CloudLayers.{CloudLayers}
 use Rattle.record.specs.declared.surface.Section3.{Section3}
-use Rattle.record.specs.Blank.{blankLayer, blankLayers, blankSection3}
-use Rattle.record.specs.Set.{setMaximum, setMinimum, setLayers}
-use Rattle.record.specs.SilentSurface.{isBlankLayer}
+use Rattle.record.specs.Blank.{blank_layer, blank_layers, blank_section3}
+use Rattle.record.specs.Set.{set_maximum, set_minimum, set_layers}
+use Rattle.record.specs.SilentSurface.{is_blank_layer}
 use Rattle.synop_groups.specs.declared.kinds.Said.{Said}
 use Rattle.synop_groups.specs.declared.kinds.Said.TheVariants as said
-use Rattle.synop_groups.specs.Reads.{saidLayer}
-use Rattle.synop_groups.specs.Judge.{judgeAir, layerFits}
-use Rattle.synop_groups.specs.Classes.{classLayer}
+use Rattle.synop_groups.specs.Reads.{said_layer}
+use Rattle.synop_groups.specs.Judge.{judge_air, layer_fits}
+use Rattle.synop_groups.specs.Classes.{class_layer}
 use Rattle.section3.specs.declared.kinds.Told.TheVariants as says
-use Rattle.section3.specs.Row.{rises, airBy, toldBy, risen, layerAt, addLayer, withTold, classLayers, row}
-use Rattle.section3.specs.Write.{judgeEach, judgeLayers, judgeSection3, classSection3}
+use Rattle.section3.specs.Row.{rises, air_by, told_by, risen, layer_at, add_layer, with_told, class_layers, row}
+use Rattle.section3.specs.Write.{judge_each, judge_layers, judge_section3, class_section3}
 use Rattle.accepted_laws.proofs.Gives.{Gives, good, bad}
 use Rattle.accepted_laws.proofs.Stages.{Stage, Left, ServesRow, StandsAt}
 use Rattle.accepted_laws.proofs.Common.{◌&◌, kept, serves-kept}
@@ -39,71 +39,71 @@ use Rattle.accepted_laws.proofs.Surfaces.{air-told, LayerRead, layer-told}
 -- ---- the layers
 
 pub record LayersHeld (ls : CloudLayers) : Type 0 where
-  pub filled : Filled LayerRead blankLayer 4 ls.count ls.items
-  pub each : judgeEach [] filled.done ≡ judged.Fine
+  pub filled : Filled LayerRead blank_layer 4 ls.count ls.items
+  pub each : judge_each [] filled.done ≡ judged.Fine
 
-layers-none : LayersHeld blankLayers
+layers-none : LayersHeld blank_layers
 unfolding filled_none
-layers-none = record { filled = filled_none LayerRead blankLayer 4; each = refl }
+layers-none = record { filled = filled_none LayerRead blank_layer 4; each = refl }
 
 -- a layer after those before it
-abbrev judgeLayer : List CloudLayer → CloudLayer → Judged
-judgeLayer before l = judge (layerFits l) (rises before l)
+abbrev judge_layer : List CloudLayer → CloudLayer → Judged
+judge_layer before l = judge (layer_fits l) (rises before l)
 
-layer-added : (ls : CloudLayers) (l : CloudLayer) → LayersHeld ls → LayerRead l → rises (take ls.count ls.items) l ≡ true → LayersHeld (addLayer l ls)
+layer-added : (ls : CloudLayers) (l : CloudLayer) → LayersHeld ls → LayerRead l → rises (take ls.count ls.items) l ≡ true → LayersHeld (add_layer l ls)
 unfolding filled_more
 layer-added ls l h r up = go (ltb ls.count 4) refl
   where
     same : map (λ (x : CloudLayer). x) h.filled.done ≡ h.filled.done
     same = map_same LayerRead (λ x. x) (λ x y. refl) h.filled.done h.filled.each
 
-    after : judgeLayer (map (λ (x : CloudLayer). x) h.filled.done) l ≡ judged.Fine
+    after : judge_layer (map (λ (x : CloudLayer). x) h.filled.done) l ≡ judged.Fine
     after = rw (same, r.fits, rw (filled-take h.filled) at up)
 
     go : (b : Bool) → ltb ls.count 4 ≡ b → LayersHeld (cond b (record { items = set ls.items ls.count l; count = ls.count + 1 }) ls)
     go true e =
         record {
           filled = filled_more h.filled l (ltb-true ls.count 4 e) r;
-          each = judged-snoc judgeLayer (λ x. x) judgeEach (λ b. refl) (λ b y ys. refl) [] h.filled.done l h.each after;
+          each = judged-snoc judge_layer (λ x. x) judge_each (λ b. refl) (λ b y ys. refl) [] h.filled.done l h.each after;
         }
     go false e = h
 
 -- 8//// says nothing, a fifth layer is refused, and so is one that falls
-layer-gives : (J : Section3 → Type 0) (g : Group) (s : Section3) → hasPattern g (bytes "8####") ≡ true → LayersHeld s.layers → J s
-    → ((ls : CloudLayers) → LayersHeld ls → J (setLayers ls s)) → Gives J (withTold (layerAt s.layers g) s)
-unfolding layerAt
-layer-gives J g s has h same sets = some (hasPattern g (bytes "8////")) refl
+layer-gives : (J : Section3 → Type 0) (g : Group) (s : Section3) → has_pattern g (bytes "8####") ≡ true → LayersHeld s.layers → J s
+    → ((ls : CloudLayers) → LayersHeld ls → J (set_layers ls s)) → Gives J (with_told (layer_at s.layers g) s)
+unfolding layer_at
+layer-gives J g s has h same sets = some (has_pattern g (bytes "8////")) refl
   where
     up : (l : CloudLayer) → LayerRead l → (b : Bool) → rises (take s.layers.count s.layers.items) l ≡ b
-        → Gives J (withTold (cond b (says.Layer l) (says.Refused refusal.Disagreement)) s)
+        → Gives J (with_told (cond b (says.Layer l) (says.Refused refusal.Disagreement)) s)
     up l r true e = good (sets _ (layer-added s.layers l h r e))
     up l r false e = bad
 
-    judges : {x : Said} → Tells said.Layer LayerRead x → Gives J (withTold (risen s.layers (toldBy (airBy false) x)) s)
+    judges : {x : Said} → Tells said.Layer LayerRead x → Gives J (with_told (risen s.layers (told_by (air_by false) x)) s)
     judges (told {a = l} r) = up l r (rises (take s.layers.count s.layers.items) l) refl
     judges refused = bad
 
-    counts : (b : Bool) → hasPattern g (bytes "8////") ≡ false
-        → Gives J (withTold (cond b (says.Refused refusal.Limit) (risen s.layers (toldBy (airBy false) (saidLayer g)))) s)
+    counts : (b : Bool) → has_pattern g (bytes "8////") ≡ false
+        → Gives J (with_told (cond b (says.Refused refusal.Limit) (risen s.layers (told_by (air_by false) (said_layer g)))) s)
     counts true filled = bad
     counts false filled = judges (layer-told g has filled)
 
-    some : (b : Bool) → hasPattern g (bytes "8////") ≡ b
-        → Gives J (withTold (cond b says.Nothing (cond (leb 4 s.layers.count) (says.Refused refusal.Limit) (risen s.layers (toldBy (airBy false) (saidLayer g))))) s)
+    some : (b : Bool) → has_pattern g (bytes "8////") ≡ b
+        → Gives J (with_told (cond b says.Nothing (cond (leb 4 s.layers.count) (says.Refused refusal.Limit) (risen s.layers (told_by (air_by false) (said_layer g))))) s)
     some true e = good same
     some false e = counts (leb 4 s.layers.count) e
 
-layers-fine : (ls : CloudLayers) → LayersHeld ls → judgeLayers ls ≡ judged.Fine
-unfolding judgeLayers
-layers-fine ls h = rw (filled-slots h.filled isBlankLayer refl, filled-take h.filled, h.each)
+layers-fine : (ls : CloudLayers) → LayersHeld ls → judge_layers ls ≡ judged.Fine
+unfolding judge_layers
+layers-fine ls h = rw (filled-slots h.filled is_blank_layer refl, filled-take h.filled, h.each)
 
-layers-own : (ls : CloudLayers) → LayersHeld ls → classLayers ls ≡ ls
-layers-own ls h = rw (filled-read h.filled classLayer classLayer (λ x r. refl) refl, filled-own h.filled classLayer (λ x r. r.own) refl)
+layers-own : (ls : CloudLayers) → LayersHeld ls → class_layers ls ≡ ls
+layers-own ls h = rw (filled-read h.filled class_layer class_layer (λ x r. refl) refl, filled-own h.filled class_layer (λ x r. r.own) refl)
 
 -- ---- THE SECTION
 
 abbrev pub stages : List (Stage Section3)
-stages = kept (λ s. judgeAir s.maximum ≡ judged.Fine) ∷ kept (λ s. judgeAir s.minimum ≡ judged.Fine) ∷ kept (λ s. LayersHeld s.layers) ∷ []
+stages = kept (λ s. judge_air s.maximum ≡ judged.Fine) ∷ kept (λ s. judge_air s.minimum ≡ judged.Fine) ∷ kept (λ s. LayersHeld s.layers) ∷ []
 
 abbrev pub start : Section3 → Type 0
 start s = Unit {0}
@@ -112,24 +112,24 @@ pub serves : ServesRow (λ s. ⊥) start row stages
 unfolding row
 serves =
     serves-kept _ _ _ _ _ refl
-    (λ k g s has b h e. gives-told (λ x. withTold (toldBy (airBy false) x) s) (λ a. setMaximum a s) (λ a. refl) (λ f. refl) (air-told g) (λ a t. (b, t, e)))
+    (λ k g s has b h e. gives-told (λ x. with_told (told_by (air_by false) x) s) (λ a. set_maximum a s) (λ a. refl) (λ f. refl) (air-told g) (λ a t. (b, t, e)))
     & serves-kept _ _ _ _ _ refl
-    (λ k g s has b h e. gives-told (λ x. withTold (toldBy (airBy true) x) s) (λ a. setMinimum a s) (λ a. refl) (λ f. refl) (air-told g) (λ a t. (b, t, e)))
+    (λ k g s has b h e. gives-told (λ x. with_told (told_by (air_by true) x) s) (λ a. set_minimum a s) (λ a. refl) (λ f. refl) (air-told g) (λ a t. (b, t, e)))
     & serves-kept _ _ _ _ _ refl (λ k g s has b h e. layer-gives _ g s has h (b, h, e) (λ ls x. (b, x, e)))
     & tt
 
 -- it begins blank
-pub begins-blank : StandsAt (λ s. ⊥) start stages 0 0 blankSection3
-unfolding judgeAir
+pub begins-blank : StandsAt (λ s. ⊥) start stages 0 0 blank_section3
+unfolding judge_air
 begins-blank = (tt, refl, refl & layers-none & tt)
 
 pub record SectionThreeRead (s : Section3) : Type 0 where
-  pub fine : judgeSection3 s ≡ judged.Fine
-  pub own : classSection3 s ≡ s
+  pub fine : judge_section3 s ≡ judged.Fine
+  pub own : class_section3 s ≡ s
   pub four : length s.layers.items ≡ 4
 
-section-held : (s : Section3) → judgeAir s.maximum ≡ judged.Fine → judgeAir s.minimum ≡ judged.Fine → LayersHeld s.layers → SectionThreeRead s
-unfolding judgeSection3
+section-held : (s : Section3) → judge_air s.maximum ≡ judged.Fine → judge_air s.minimum ≡ judged.Fine → LayersHeld s.layers → SectionThreeRead s
+unfolding judge_section3
 section-held s a b h =
     record { fine = rw (a, b, layers-fine s.layers h); own = rw (layers-own s.layers h); four = filled-length h.filled }
 
@@ -137,6 +137,6 @@ pub section-read : (s : Section3) → Left start stages s → SectionThreeRead s
 section-read s x = section-held s x.0.0.1 x.0.1 x.1
 
 -- a report without it has a blank one
-pub section-absent : SectionThreeRead blankSection3
-unfolding judgeAir
-section-absent = section-held blankSection3 refl refl layers-none
+pub section-absent : SectionThreeRead blank_section3
+unfolding judge_air
+section-absent = section-held blank_section3 refl refl layers-none

@@ -18,9 +18,9 @@ use Rattle.text.specs.Groups.{Piece}
 use Rattle.shapes.proofs.Patterns.{both_false}
 use Rattle.places.specs.declared.kinds.Found.{Found}
 use Rattle.places.specs.declared.kinds.Found.TheVariants.{Take, Skips, Full, Earlier, Unknown}
-use Rattle.places.specs.Seek.{Stand, seek, anywhere, orEarlier, findOf, owed}
-use Rattle.places.specs.Engine.{Group, Read, Place, placeAt, onward, standsOf, mustsOf, taken, judged, Step, On, Halt, Stop}
-use Rattle.places.specs.Parts.{Exits, carryTo, runTo}
+use Rattle.places.specs.Seek.{Stand, seek, anywhere, or_earlier, find_of, owed}
+use Rattle.places.specs.Engine.{Group, Read, Place, place_at, onward, stands_of, musts_of, taken, judged, Step, On, Halt, Stop}
+use Rattle.places.specs.Parts.{Exits, carry_to, run_to}
 use Rattle.accepted_laws.proofs.Gives.{Gives, good, bad, gives_more}
 
 -- What a place leaves in the record: before a group can stand there, where so many stand, and once it is left behind.
@@ -35,13 +35,13 @@ module _ {R : Type 0} where
   Blank (s ∷ ss) r = s.blank r × Blank ss r
 
   -- once a place is left behind, beside what was known before
-  abbrev pub andPast : (R → Type 0) → Stage R → R → Type 0
-  andPast B s r = B r × s.past r
+  abbrev pub and_past : (R → Type 0) → Stage R → R → Type 0
+  and_past B s r = B r × s.past r
 
   -- the end: all places are left behind
   abbrev pub Left : (R → Type 0) → List (Stage R) → R → Type 0
   Left B [] r = B r
-  Left B (s ∷ ss) r = Left (andPast B s) ss r
+  Left B (s ∷ ss) r = Left (and_past B s) ss r
 
   -- Z: what holds where a place has ended the report. B: what was known before the row and what the places before have left.
   module _ (Z : R → Type 0) where
@@ -61,7 +61,7 @@ module _ {R : Type 0} where
     ServesRow B [] [] = Unit {0}
     ServesRow B [] (s ∷ ss) = ⊥
     ServesRow B (p ∷ ps) [] = ⊥
-    ServesRow B (p ∷ ps) (s ∷ ss) = Serves B p s ss × ServesRow (andPast B s) ps ss
+    ServesRow B (p ∷ ps) (s ∷ ss) = Serves B p s ss × ServesRow (and_past B s) ps ss
 
     -- reading stands at the first place, where k groups stand; at place c
     abbrev Stands : (R → Type 0) → List (Stage R) → ℕ → R → Type 0
@@ -71,17 +71,17 @@ module _ {R : Type 0} where
     abbrev pub StandsAt : (R → Type 0) → List (Stage R) → ℕ → ℕ → R → Type 0
     StandsAt B ss zero k r = Stands B ss k r
     StandsAt B [] (suc c) k r = ⊥
-    StandsAt B (s ∷ ss) (suc c) k r = StandsAt (andPast B s) ss c k r
+    StandsAt B (s ∷ ss) (suc c) k r = StandsAt (and_past B s) ss c k r
 
     -- ---- a place that is left behind
 
-    next-stands : (B : R → Type 0) (p : Place R) (s : Stage R) (ps : List (Place R)) (ss : List (Stage R)) → Serves B p s ss → ServesRow (andPast B s) ps ss
-        → (k : ℕ) (r : R) → (p.must ≡ true → 1 ≤ k) → Stands B (s ∷ ss) k r → Stands (andPast B s) ss 0 r
+    next-stands : (B : R → Type 0) (p : Place R) (s : Stage R) (ps : List (Place R)) (ss : List (Stage R)) → Serves B p s ss → ServesRow (and_past B s) ps ss
+        → (k : ℕ) (r : R) → (p.must ≡ true → 1 ≤ k) → Stands B (s ∷ ss) k r → Stands (and_past B s) ss 0 r
     next-stands B p s [] [] a b k r m (x, h, bs) = (x, a.passes k r x m h)
     next-stands B p s [] (s' ∷ ss) a b k r m e = absurd b
     next-stands B p s (p' ∷ ps) [] a b k r m e = absurd b
     next-stands B p s (p' ∷ ps) (s' ∷ ss) a b k r m (x, h, bs) =
-        let known : andPast B s r = (x, a.passes k r x m h) in
+        let known : and_past B s r = (x, a.passes k r x m h) in
         (known, b.0.begins r known bs.0, bs.1)
 
     not-owed : (must : Bool) (k : ℕ) → (must && eqb k 0) ≡ false → must ≡ true → 1 ≤ k
@@ -92,13 +92,13 @@ module _ {R : Type 0} where
 
     -- at place `off` of the row: the report has ended, or reading stands there
     abbrev Taken : (R → Type 0) → List (Place R) → List (Stage R) → ℕ → ℕ → R → Type 0
-    Taken B ps ss off n r = (((placeAt ps off).ends ≡ true) × Z r) ⊎ (((placeAt ps off).ends ≡ false) × StandsAt B ss off n r)
+    Taken B ps ss off n r = (((place_at ps off).ends ≡ true) × Z r) ⊎ (((place_at ps off).ends ≡ false) × StandsAt B ss off n r)
 
     -- where it goes, from place i on, and what it leaves
     record Took (B : R → Type 0) (ps : List (Place R)) (ss : List (Stage R)) (g : Group) (r : R) (i j n : ℕ) : Type 0 where
       off : ℕ
       is : j ≡ i + off
-      gives : Gives (Taken B ps ss off (n + 1)) ((placeAt ps off).read n g r)
+      gives : Gives (Taken B ps ss off (n + 1)) ((place_at ps off).read n g r)
 
     here : (B : R → Type 0) (p : Place R) (ps : List (Place R)) (s : Stage R) (ss : List (Stage R)) (n : ℕ) {x : Read R} (e : Bool) → p.ends ≡ e
         → Gives (Moved B s ss e n) x → Gives (Taken B (p ∷ ps) (s ∷ ss) 0 n) x
@@ -117,16 +117,16 @@ module _ {R : Type 0} where
         go false false e ih = ih e
 
     seek-takes : (B : R → Type 0) (ps : List (Place R)) (ss : List (Stage R)) → ServesRow B ps ss → (g : Group) (r : R) (i k : ℕ) (late : Bool) (j n : ℕ)
-        → Stands B ss k r → seek i k late (standsOf ps g) ≡ Take j n → Took B ps ss g r i j n
+        → Stands B ss k r → seek i k late (stands_of ps g) ≡ Take j n → Took B ps ss g r i j n
     unfolding seek
     seek-takes B [] ss v g r i k late j n st e = impossible (cc)
     seek-takes B (p ∷ ps) [] v g r i k late j n st e = absurd v
     seek-takes B (p ∷ ps) (s ∷ ss) v g r i k late j n st e =
         go (p.has g && ltb k p.most) refl late refl (p.has g && ltb 1 p.most) refl
-        (λ st' e'. seek-takes (andPast B s) ps ss v.1 g r (i + 1) 0 (late || (p.must && eqb k 0)) j n st' e')
+        (λ st' e'. seek-takes (and_past B s) ps ss v.1 g r (i + 1) 0 (late || (p.must && eqb k 0)) j n st' e')
       where
         go : (b : Bool) → (p.has g && ltb k p.most) ≡ b → (l : Bool) → late ≡ l → (f : Bool) → (p.has g && ltb 1 p.most) ≡ f
-            → (Stands (andPast B s) ss 0 r → seek (i + 1) 0 (late || (p.must && eqb k 0)) (standsOf ps g) ≡ Take j n → Took (andPast B s) ps ss g r (i + 1) j n)
+            → (Stands (and_past B s) ss 0 r → seek (i + 1) 0 (late || (p.must && eqb k 0)) (stands_of ps g) ≡ Take j n → Took (and_past B s) ps ss g r (i + 1) j n)
             → Took B (p ∷ ps) (s ∷ ss) g r i j n
         go true q true l f u ih =
             let a : Skips ≡ Take j n = rw (q, l) at e in
@@ -143,14 +143,14 @@ module _ {R : Type 0} where
             let a : Full ≡ Take j n = rw (q, u) at e in
             impossible (cc)
         go false q l o false u ih =
-            let e' : seek (i + 1) 0 (late || (p.must && eqb k 0)) (standsOf ps g) ≡ Take j n = rw (q, u) at e in
-            let due = (both_false late (p.must && eqb k 0) (not_late (standsOf ps g) (i + 1) 0 (late || (p.must && eqb k 0)) j n e')).1 in
+            let e' : seek (i + 1) 0 (late || (p.must && eqb k 0)) (stands_of ps g) ≡ Take j n = rw (q, u) at e in
+            let due = (both_false late (p.must && eqb k 0) (not_late (stands_of ps g) (i + 1) 0 (late || (p.must && eqb k 0)) j n e')).1 in
             let t = ih (next-stands B p s ps ss v.0 v.1 k r (not-owed p.must k due) st) e' in
             record { off = suc t.off; is = omega (arith, t.is); gives = t.gives }
 
     -- from any place on
     find-takes : (B : R → Type 0) (ps : List (Place R)) (ss : List (Stage R)) → ServesRow B ps ss → (g : Group) (r : R) (c i k : ℕ) (late : Bool) (j n : ℕ)
-        → StandsAt B ss c k r → seek (i + c) k late (drop c (standsOf ps g)) ≡ Take j n → Took B ps ss g r i j n
+        → StandsAt B ss c k r → seek (i + c) k late (drop c (stands_of ps g)) ≡ Take j n → Took B ps ss g r i j n
     find-takes B ps ss v g r zero i k late j n st e =
         let same : i + 0 ≡ i = omega arith in
         seek-takes B ps ss v g r i k late j n st (rw same at e)
@@ -159,27 +159,27 @@ module _ {R : Type 0} where
     find-takes B (p ∷ ps) [] v g r (suc c) i k late j n st e = absurd v
     find-takes B (p ∷ ps) (s ∷ ss) v g r (suc c) i k late j n st e =
         let same : i + suc c ≡ i + 1 + c = omega arith in
-        let t = find-takes (andPast B s) ps ss v.1 g r c (i + 1) k late j n st (rw same at e) in
+        let t = find-takes (and_past B s) ps ss v.1 g r c (i + 1) k late j n st (rw same at e) in
         record { off = suc t.off; is = omega (arith, t.is); gives = t.gives }
 
     -- ---- the end
 
-    ends-left : (B : R → Type 0) (ps : List (Place R)) (ss : List (Stage R)) → ServesRow B ps ss → (k : ℕ) (r : R) → Stands B ss k r → owed k (mustsOf ps) ≡ false → Left B ss r
+    ends-left : (B : R → Type 0) (ps : List (Place R)) (ss : List (Stage R)) → ServesRow B ps ss → (k : ℕ) (r : R) → Stands B ss k r → owed k (musts_of ps) ≡ false → Left B ss r
     unfolding owed
     ends-left B [] [] v k r st e = st
     ends-left B [] (s ∷ ss) v k r st e = absurd v
     ends-left B (p ∷ ps) [] v k r st e = absurd v
     ends-left B (p ∷ ps) (s ∷ ss) v k r st e =
-        let (here, later) = both_false (p.must && eqb k 0) (owed 0 (mustsOf ps)) e in
-        ends-left (andPast B s) ps ss v.1 0 r (next-stands B p s ps ss v.0 v.1 k r (not-owed p.must k here) st) later
+        let (here, later) = both_false (p.must && eqb k 0) (owed 0 (musts_of ps)) e in
+        ends-left (and_past B s) ps ss v.1 0 r (next-stands B p s ps ss v.0 v.1 k r (not-owed p.must k here) st) later
 
     pub left_at : (B : R → Type 0) (ps : List (Place R)) (ss : List (Stage R)) → ServesRow B ps ss → (c k : ℕ) (r : R) → StandsAt B ss c k r
-        → owed k (drop c (mustsOf ps)) ≡ false → Left B ss r
+        → owed k (drop c (musts_of ps)) ≡ false → Left B ss r
     left_at B ps ss v zero k r st e = ends-left B ps ss v k r st e
     left_at B [] [] v (suc c) k r st e = absurd st
     left_at B [] (s ∷ ss) v (suc c) k r st e = absurd v
     left_at B (p ∷ ps) [] v (suc c) k r st e = absurd v
-    left_at B (p ∷ ps) (s ∷ ss) v (suc c) k r st e = left_at (andPast B s) ps ss v.1 c k r st e
+    left_at B (p ∷ ps) (s ∷ ss) v (suc c) k r st e = left_at (and_past B s) ps ss v.1 c k r st e
 
     -- ---- a row, up to wherever its reading ends
 
@@ -199,7 +199,7 @@ module _ {R : Type 0} where
       taken-goes i n _ (good {a} (inl (e, z))) = rw e (ended (omega arith) z)
       taken-goes i n _ (good {a} (inr (e, st))) = rw e (within st)
 
-      found : (here : Bool) (f : Found) (j n : ℕ) → orEarlier here f ≡ Take j n → f ≡ Take j n
+      found : (here : Bool) (f : Found) (j n : ℕ) → or_earlier here f ≡ Take j n → f ≡ Take j n
       found here (Take i k) j n e = e
       found here Skips j n e = e
       found here Full j n e = e
@@ -207,13 +207,13 @@ module _ {R : Type 0} where
       found true Unknown j n e = impossible (cc)
       found false Unknown j n e = e
 
-      judged-goes : (c k : ℕ) (r : R) (g : Group) → StandsAt B ss c k r → (f : Found) → findOf (standsOf row g) c k ≡ f → Goes (judged row r g f)
-      unfolding findOf
+      judged-goes : (c k : ℕ) (r : R) (g : Group) → StandsAt B ss c k r → (f : Found) → find_of (stands_of row g) c k ≡ f → Goes (judged row r g f)
+      unfolding find_of
       judged-goes c k r g st (Take i n) e =
           let same : 0 + c ≡ c = omega arith in
-          let t = find-takes B row ss serves g r c 0 k false i n st (rw same (found (anywhere (standsOf row g)) _ i n e)) in
+          let t = find-takes B row ss serves g r c 0 k false i n st (rw same (found (anywhere (stands_of row g)) _ i n e)) in
           let at : t.off ≡ i = omega (arith, t.is) in
-          taken-goes i (n + 1) ((placeAt row i).read n g r) (rw at at t.gives)
+          taken-goes i (n + 1) ((place_at row i).read n g r) (rw at at t.gives)
       judged-goes c k r g st Skips e = tt
       judged-goes c k r g st Full e = tt
       judged-goes c k r g st Earlier e = tt
@@ -223,25 +223,25 @@ module _ {R : Type 0} where
           (at-end : (c k : ℕ) (r : R) → Reached B ss row c k r → Q (x.over c k r))
           (at-halt : (c k : ℕ) (r : R) (g : Piece) (gs : List Piece) → StandsAt B ss c k r → halts g.bytes ≡ true → Q (x.halt c k r g gs))
           (at-fault : (f : Refusal) (at : ℕ) → Q (x.fault f at)) where
-        pub runs_to : (gs : List Piece) (c k : ℕ) (r : R) → Reached B ss row c k r → Q (runTo row halts x c k r gs)
-        unfolding runTo
+        pub runs_to : (gs : List Piece) (c k : ℕ) (r : R) → Reached B ss row c k r → Q (run_to row halts x c k r gs)
+        unfolding run_to
         runs_to [] c k r st = at-end c k r st
         runs_to (g ∷ gs) c k r st = past (leb (length row) c) refl st (runs_to gs)
           where
             -- one group, by what its step comes to
-            step : (s : Step R) → Goes s → ((c k : ℕ) (r : R) → Reached B ss row c k r → Q (runTo row halts x c k r gs))
-                → Q (carryTo s x c k r g gs (λ c' k' r'. runTo row halts x c' k' r' gs))
+            step : (s : Step R) → Goes s → ((c k : ℕ) (r : R) → Reached B ss row c k r → Q (run_to row halts x c k r gs))
+                → Q (carry_to s x c k r g gs (λ c' k' r'. run_to row halts x c' k' r' gs))
             step (On c' k' r') h ih = ih c' k' r' h
             step Halt h ih = absurd h
             step (Stop f) h ih = at-fault f g.start
 
-            word : (b : Bool) → halts g.bytes ≡ b → StandsAt B ss c k r → ((c k : ℕ) (r : R) → Reached B ss row c k r → Q (runTo row halts x c k r gs))
-                → Q (carryTo (cond b Halt (judged row r g.bytes (findOf (standsOf row g.bytes) c k))) x c k r g gs (λ c' k' r'. runTo row halts x c' k' r' gs))
+            word : (b : Bool) → halts g.bytes ≡ b → StandsAt B ss c k r → ((c k : ℕ) (r : R) → Reached B ss row c k r → Q (run_to row halts x c k r gs))
+                → Q (carry_to (cond b Halt (judged row r g.bytes (find_of (stands_of row g.bytes) c k))) x c k r g gs (λ c' k' r'. run_to row halts x c' k' r' gs))
             word true h st ih = at-halt c k r g gs st h
-            word false h st ih = step (judged row r g.bytes (findOf (standsOf row g.bytes) c k)) (judged-goes c k r g.bytes st (findOf (standsOf row g.bytes) c k) refl) ih
+            word false h st ih = step (judged row r g.bytes (find_of (stands_of row g.bytes) c k)) (judged-goes c k r g.bytes st (find_of (stands_of row g.bytes) c k) refl) ih
 
-            past : (b : Bool) → leb (length row) c ≡ b → Reached B ss row c k r → ((c k : ℕ) (r : R) → Reached B ss row c k r → Q (runTo row halts x c k r gs))
-                → Q (carryTo (cond b (Stop refusal.Shape) (cond (halts g.bytes) Halt (judged row r g.bytes (findOf (standsOf row g.bytes) c k)))) x c k r g gs (λ c' k' r'. runTo row halts x c' k' r' gs))
+            past : (b : Bool) → leb (length row) c ≡ b → Reached B ss row c k r → ((c k : ℕ) (r : R) → Reached B ss row c k r → Q (run_to row halts x c k r gs))
+                → Q (carry_to (cond b (Stop refusal.Shape) (cond (halts g.bytes) Halt (judged row r g.bytes (find_of (stands_of row g.bytes) c k)))) x c k r g gs (λ c' k' r'. run_to row halts x c' k' r' gs))
             past true e st ih = at-fault refusal.Shape g.start
             past false e (within st) ih = word (halts g.bytes) refl st ih
             past false e (ended h z) ih = absurd (false≢true (sym e ∙ le-leb (length row) c h))

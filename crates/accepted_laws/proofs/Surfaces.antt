@@ -13,23 +13,23 @@ use borrow.Author.Tests.{leb-true, leb-false, le-leb, lt-leb, ltb-true, ltb-fals
 use Rattle.figures.proofs.Impossible.{impossible}
 use Rattle.figures.specs.declared.kinds.Field.TheVariants as field
 use Rattle.figures.specs.Quote.{bytes}
-use Rattle.figures.specs.Figures.{field_at, isSlash, every}
+use Rattle.figures.specs.Figures.{field_at, is_slash, every}
 use Rattle.figures.specs.Signed.{negative, with_sign}
 use Rattle.figures.proofs.Signs.{magnitude-back, sign-back}
 use Rattle.text.specs.declared.kinds.Judged.TheVariants as judged
 use Rattle.text.specs.Judge.{judge}
 use Rattle.text.proofs.Judging.{fine}
-use Rattle.shapes.specs.Pattern.{low, high, fits, hasPattern}
+use Rattle.shapes.specs.Pattern.{low, high, fits, has_pattern}
 use Rattle.shapes.proofs.Patterns.{both, both_false, pattern-length}
 use Rattle.places.specs.Engine.{Group}
 use Rattle.scales.specs.declared.kinds.Figure.TheVariants as figure
 use Rattle.scales.specs.declared.kinds.Tenths.TheVariants as tenths
 use Rattle.scales.specs.declared.kinds.Rain.{Rain}
 use Rattle.scales.specs.declared.kinds.Rain.TheVariants as rain
-use Rattle.scales.specs.Metres.{land, sea, base, metresReading}
-use Rattle.scales.specs.Rounded.{rainFits, rainFigure, rainReading, directionReading}
-use Rattle.scales.specs.Degrees.{signedReading}
-use Rattle.scales.specs.Layers.{layerSteps, layerBands}
+use Rattle.scales.specs.Metres.{land, sea, base, metres_reading}
+use Rattle.scales.specs.Rounded.{rain_fits, rain_figure, rain_reading, direction_reading}
+use Rattle.scales.specs.Degrees.{signed_reading}
+use Rattle.scales.specs.Layers.{layer_steps, layer_bands}
 use Rattle.scales.proofs.MetresRounds.{land-rounds, sea-rounds, base-rounds}
 use Rattle.scales.proofs.LayersLaws.{steps-rounds, bands-rounds}
 use Rattle.scales.proofs.RainLaws.{rain-rounds}
@@ -59,16 +59,16 @@ use Rattle.record.specs.declared.surface.Clock.{Clock}
 use Rattle.record.specs.declared.surface.BaseHeight.{BaseHeight}
 use Rattle.record.specs.declared.surface.BaseHeight.TheVariants as height
 use Rattle.record.specs.declared.surface.CloudLayer.{CloudLayer}
-use Rattle.record.specs.Missing.{isMissing, between, present, optional}
-use Rattle.record.specs.SilentSurface.{noHeight, isBlankLayer}
-use Rattle.record.specs.Classes.{classDirection}
+use Rattle.record.specs.Missing.{is_missing, between, present, optional}
+use Rattle.record.specs.SilentSurface.{no_height, is_blank_layer}
+use Rattle.record.specs.Classes.{class_direction}
 use Rattle.synop_groups.specs.declared.kinds.Said.{Said}
 use Rattle.synop_groups.specs.declared.kinds.Said.TheVariants as said
-use Rattle.synop_groups.specs.Position.{isQuadrant, isSouth, isWest, latitudeOf, longitudeOf}
-use Rattle.synop_groups.specs.Reads.{figured, mayMiss, missing, part, unless, is_unit, timeOf, saidTime, saidStation, latitudeIs, saidLatitude, readLatitude, position_of, saidLongitude, base_of, sight_of, indicatorsOf, saidIndicators, windBy, noWind, saidWind, speedIs, saidSpeed, airIs, saidAir, moistureIs, saidMoisture, pressureOf, saidPressure, isLevel, levelIs, saidLevel, tendencyIs, saidTendency, rainfallOf, saidRainfall, saidWeather, saidClouds, clockIs, saidClock, heightOf, saidLayer}
-use Rattle.synop_groups.specs.Judge.{metres, judgeTime, judgeStation, latitudeFits, longitudeFits, judgePosition, sightFits, judgeIndicators, windFits, windAgrees, judgeWind, judgeAir, judgeMoisture, judgePressure, judgeLevel, changeSuits, judgeTendency, judgeRainfall, judgeWeather, judgeClouds, judgeClock, heightFits, layerFits}
-use Rattle.synop_groups.specs.Classes.{classBase, classSight, classIndicators, classWind, classRainfall, classHeight, classLayer}
-use Rattle.synop_groups.specs.Shows.{isInThree}
+use Rattle.synop_groups.specs.Position.{is_quadrant, is_south, is_west, latitude_of, longitude_of}
+use Rattle.synop_groups.specs.Reads.{figured, may_miss, missing, part, unless, is_unit, time_of, said_time, said_station, latitude_is, said_latitude, read_latitude, position_of, said_longitude, base_of, sight_of, indicators_of, said_indicators, wind_by, no_wind, said_wind, speed_is, said_speed, air_is, said_air, moisture_is, said_moisture, pressure_of, said_pressure, is_level, level_is, said_level, tendency_is, said_tendency, rainfall_of, said_rainfall, said_weather, said_clouds, clock_is, said_clock, height_of, said_layer}
+use Rattle.synop_groups.specs.Judge.{metres, judge_time, judge_station, latitude_fits, longitude_fits, judge_position, sight_fits, judge_indicators, wind_fits, wind_agrees, judge_wind, judge_air, judge_moisture, judge_pressure, judge_level, change_suits, judge_tendency, judge_rainfall, judge_weather, judge_clouds, judge_clock, height_fits, layer_fits}
+use Rattle.synop_groups.specs.Classes.{class_base, class_sight, class_indicators, class_wind, class_rainfall, class_height, class_layer}
+use Rattle.synop_groups.specs.Shows.{is_in_three}
 use Rattle.accepted_laws.proofs.Tells.{Tells, told, refused, tells-cond, tells-figured, tells-may-miss, tells-missing, tells-part, tells-part-or-none, tells-used, tells-either, tells-tenths, tells-rain, tells-unless}
 use Rattle.accepted_laws.proofs.Values.{metres-own, metres-low, direction-own, direction-low, rain-own}
 use Rattle.accepted_laws.proofs.Fields.{field_bound, field-missing}
@@ -78,8 +78,8 @@ from_zero n = le-leb 0 n (omega arith)
 
 -- ---- time, station, position
 
-pub time-told : (g : Group) → Tells said.Time (λ t. judgeTime t ≡ judged.Fine) (saidTime g)
-unfolding saidTime timeOf judgeTime
+pub time-told : (g : Group) → Tells said.Time (λ t. judge_time t ≡ judged.Fine) (said_time g)
+unfolding said_time time_of judge_time
 time-told g =
     tells-figured (field_at g 0 2)
     (λ d a. tells-figured (field_at g 2 2)
@@ -93,68 +93,68 @@ time-told g =
         let hour = both (leb 1 d && leb d 31) (leb h 23) unit.0 in
         rw (hour.0, from_zero h, hour.1, unit.1)
 
-pub station-told : (g : Group) → Tells said.Station (λ n. judgeStation (number.Is n) ≡ judged.Fine) (saidStation g)
-unfolding saidStation judgeStation
+pub station-told : (g : Group) → Tells said.Station (λ n. judge_station (number.Is n) ≡ judged.Fine) (said_station g)
+unfolding said_station judge_station
 station-told g = tells-figured (field_at g 0 5) (λ n e. told (rw (from_zero n, le-leb n 99999 (omega (arith, field_bound g 0 5 n e)))))
 
-pub latitude-told : (g : Group) → Tells said.Position (λ p. Unit {0}) (saidLatitude g)
-unfolding saidLatitude latitudeIs
+pub latitude-told : (g : Group) → Tells said.Position (λ p. Unit {0}) (said_latitude g)
+unfolding said_latitude latitude_is
 latitude-told g = tells-figured (field_at g 2 3) (λ m e. tells-cond (leb m 900) (λ h. told tt) (λ h. refused))
 
-west-fits : (west : Bool) (m : ℕ) → m ≤ 1800 → longitudeFits (signed.Is (with_sign (west && not (eqb m 1800)) m)) ≡ true
+west-fits : (west : Bool) (m : ℕ) → m ≤ 1800 → longitude_fits (signed.Is (with_sign (west && not (eqb m 1800)) m)) ≡ true
 west-fits false m h = le-leb m 1800 h
 west-fits true m h = go (eqb m 1800) refl
   where
-    cold : (m : ℕ) → m ≤ 1799 → longitudeFits (signed.Is (with_sign true m)) ≡ true
+    cold : (m : ℕ) → m ≤ 1799 → longitude_fits (signed.Is (with_sign true m)) ≡ true
     cold zero h = refl
     cold (suc m) h = rw (le-leb m 1798 (omega (arith, h)))
 
-    go : (b : Bool) → eqb m 1800 ≡ b → longitudeFits (signed.Is (with_sign (true && not b) m)) ≡ true
+    go : (b : Bool) → eqb m 1800 ≡ b → longitude_fits (signed.Is (with_sign (true && not b) m)) ≡ true
     go true e = le-leb m 1800 h
     go false e = cold m (omega (arith, h, eqb-false m 1800 e))
 
-pub longitude-told : (p : Position) (g : Group) → Tells said.Position (λ q. judgePosition q ≡ judged.Fine) (saidLongitude p g)
-unfolding saidLongitude position_of judgePosition
+pub longitude-told : (p : Position) (g : Group) → Tells said.Position (λ q. judge_position q ≡ judged.Fine) (said_longitude p g)
+unfolding said_longitude position_of judge_position
 longitude-told p g =
     tells-figured (field_at g 0 1)
     (λ q a. tells-figured (field_at g 1 4)
-    (λ m b. tells-cond (leb (readLatitude p.latitude) 900 && leb m 1800 && isQuadrant q) (λ e. told (fits q m e)) (λ e. refused)))
+    (λ m b. tells-cond (leb (read_latitude p.latitude) 900 && leb m 1800 && is_quadrant q) (λ e. told (fits q m e)) (λ e. refused)))
   where
-    fits : (q m : ℕ) → (leb (readLatitude p.latitude) 900 && leb m 1800 && isQuadrant q) ≡ true
-        → judge (latitudeFits (signed.Is (latitudeOf q (readLatitude p.latitude))) && longitudeFits (signed.Is (longitudeOf q m))) true ≡ judged.Fine
+    fits : (q m : ℕ) → (leb (read_latitude p.latitude) 900 && leb m 1800 && is_quadrant q) ≡ true
+        → judge (latitude_fits (signed.Is (latitude_of q (read_latitude p.latitude))) && longitude_fits (signed.Is (longitude_of q m))) true ≡ judged.Fine
     fits q m e =
-        let x = (both (leb (readLatitude p.latitude) 900 && leb m 1800) (isQuadrant q) e).0 in
-        let y = both (leb (readLatitude p.latitude) 900) (leb m 1800) x in
-        rw (magnitude-back (isSouth q) (readLatitude p.latitude), y.0, west-fits (isWest q) m (leb-true m 1800 y.1))
+        let x = (both (leb (read_latitude p.latitude) 900 && leb m 1800) (is_quadrant q) e).0 in
+        let y = both (leb (read_latitude p.latitude) 900) (leb m 1800) x in
+        rw (magnitude-back (is_south q) (read_latitude p.latitude), y.0, west-fits (is_west q) m (leb-true m 1800 y.1))
 
 -- ---- iR ix h VV
 
 pub record IndicatorsRead (i : Indicators) : Type 0 where
-  pub fine : judgeIndicators i ≡ judged.Fine
-  pub own : classIndicators i ≡ i
+  pub fine : judge_indicators i ≡ judged.Fine
+  pub own : class_indicators i ≡ i
 
-pub indicators-told : (g : Group) → Tells said.Indicators IndicatorsRead (saidIndicators g)
-unfolding saidIndicators indicatorsOf judgeIndicators
+pub indicators-told : (g : Group) → Tells said.Indicators IndicatorsRead (said_indicators g)
+unfolding said_indicators indicators_of judge_indicators
 indicators-told g =
     tells-figured (field_at g 0 1)
     (λ r a. tells-figured (field_at g 1 1)
-    (λ x b. base-told (λ h. sight_of (field_at g 3 2) (λ v. indicatorsOf r x h v)) (λ h hr. sight-told (λ v. indicatorsOf r x h v)
+    (λ x b. base-told (λ h. sight_of (field_at g 3 2) (λ v. indicators_of r x h v)) (λ h hr. sight-told (λ v. indicators_of r x h v)
     (λ v vr. tells-cond (leb r 4 && leb 1 x && leb x 7) (λ e. told (record { fine = fits r x h v e hr.0 vr.0; own = rw (hr.1, vr.1) })) (λ e. refused)))))
   where
-    base-told : (k : Number → Said) → ((h : Number) → (optional metres h ≡ true) × (classBase h ≡ h) → Tells said.Indicators IndicatorsRead (k h))
+    base-told : (k : Number → Said) → ((h : Number) → (optional metres h ≡ true) × (class_base h ≡ h) → Tells said.Indicators IndicatorsRead (k h))
         → Tells said.Indicators IndicatorsRead (base_of (field_at g 2 1) k)
     base-told k p =
         tells-may-miss (field_at g 2 1) (λ none. p number.Missing (refl, refl))
-        (λ n e. tells-used (metresReading base n) (λ m f. p (number.Is m) (metres-low base base-rounds n m f, ap number.Is (metres-own base base-rounds n m f))))
+        (λ n e. tells-used (metres_reading base n) (λ m f. p (number.Is m) (metres-low base base-rounds n m f, ap number.Is (metres-own base base-rounds n m f))))
 
-    sight-told : (k : Sight → Said) → ((v : Sight) → (sightFits v ≡ true) × (classSight v ≡ v) → Tells said.Indicators IndicatorsRead (k v))
+    sight-told : (k : Sight → Said) → ((v : Sight) → (sight_fits v ≡ true) × (class_sight v ≡ v) → Tells said.Indicators IndicatorsRead (k v))
         → Tells said.Indicators IndicatorsRead (sight_of (field_at g 3 2) k)
     sight-told k p =
-        tells-either (λ v. (sightFits v ≡ true) × (classSight v ≡ v)) land sea sight.Land sight.Sea sight.Missing (field_at g 3 2) k land-rounds sea-rounds
+        tells-either (λ v. (sight_fits v ≡ true) × (class_sight v ≡ v)) land sea sight.Land sight.Sea sight.Missing (field_at g 3 2) k land-rounds sea-rounds
         (λ none. (refl, refl)) (λ m low own. (low, ap sight.Land own)) (λ m low own. (low, ap sight.Sea own)) p
 
-    fits : (r x : ℕ) (h : Number) (v : Sight) → (leb r 4 && leb 1 x && leb x 7) ≡ true → optional metres h ≡ true → sightFits v ≡ true
-        → judge ((leb 0 r && leb r 4) && (leb 1 x && leb x 7) && optional metres h && sightFits v) true ≡ judged.Fine
+    fits : (r x : ℕ) (h : Number) (v : Sight) → (leb r 4 && leb 1 x && leb x 7) ≡ true → optional metres h ≡ true → sight_fits v ≡ true
+        → judge ((leb 0 r && leb r 4) && (leb 1 x && leb x 7) && optional metres h && sight_fits v) true ≡ judged.Fine
     fits r x h v e a b =
         let l = both (leb r 4 && leb 1 x) (leb x 7) e in
         let m = both (leb r 4) (leb 1 x) l.0 in
@@ -163,37 +163,37 @@ indicators-told g =
 -- ---- N dd ff, and 00fff after ff 99
 
 pub record WindRead (w : Wind) : Type 0 where
-  pub fine : judgeWind w ≡ judged.Fine
-  pub own : classWind w ≡ w
+  pub fine : judge_wind w ≡ judged.Fine
+  pub own : class_wind w ≡ w
 
-wind-by-told : (n : Number) (dd ff : ℕ) → optional (between 0 9) n ≡ true → ff < 100 → Tells said.Wind WindRead (windBy n dd ff)
-unfolding windBy judgeWind
+wind-by-told : (n : Number) (dd ff : ℕ) → optional (between 0 9) n ≡ true → ff < 100 → Tells said.Wind WindRead (wind_by n dd ff)
+unfolding wind_by judge_wind
 wind-by-told n dd ff c few =
     let most = le-leb ff 999 (omega (arith, few)) in
     tells-cond (eqb dd 0) (λ z. tells-cond (eqb ff 0) (λ s. told (record { fine = rw (c, most, s); own = refl })) (λ s. refused))
     (λ z. tells-cond (eqb dd 99) (λ y. tells-cond (not (eqb ff 0)) (λ s. told (record { fine = rw (c, most, s); own = refl })) (λ s. refused))
-    (λ y. tells-used (directionReading dd)
+    (λ y. tells-used (direction_reading dd)
     (λ d e. tells-cond (not (eqb ff 0)) (λ s. told (record { fine = rw (c, direction-low dd d e, most, s); own = rw (direction-own dd d e) })) (λ s. refused))))
 
-pub wind-told : (g : Group) → Tells said.Wind WindRead (saidWind g)
-unfolding saidWind judgeWind
+pub wind-told : (g : Group) → Tells said.Wind WindRead (said_wind g)
+unfolding said_wind judge_wind
 wind-told g =
-    tells-part g 0 1 9 (λ n. mayMiss (field_at g 1 2) (missing (field_at g 3 2) (noWind n)) (λ dd. figured (field_at g 3 2) (λ ff. windBy n dd ff))) (omega arith)
+    tells-part g 0 1 9 (λ n. may_miss (field_at g 1 2) (missing (field_at g 3 2) (no_wind n)) (λ dd. figured (field_at g 3 2) (λ ff. wind_by n dd ff))) (omega arith)
     (λ n c. tells-may-miss (field_at g 1 2) (λ none. tells-missing (field_at g 3 2) (told (record { fine = rw c; own = refl })))
     (λ dd a. tells-figured (field_at g 3 2) (λ ff b. wind-by-told n dd ff c (field_bound g 3 2 ff b))))
 
-pub speed-told : (due : Bool) (g : Group) → Tells said.Speed (λ n. (due ≡ true) × (99 ≤ n) × (n ≤ 999)) (saidSpeed due g)
-unfolding saidSpeed speedIs
+pub speed-told : (due : Bool) (g : Group) → Tells said.Speed (λ n. (due ≡ true) × (99 ≤ n) × (n ≤ 999)) (said_speed due g)
+unfolding said_speed speed_is
 speed-told due g =
     tells-figured (field_at g 2 3)
     (λ n e. tells-cond (leb 99 n) (λ h. tells-cond due (λ d. told (d, leb-true 99 n h, omega (arith, field_bound g 2 3 n e))) (λ d. refused)) (λ h. refused))
 
 -- a wind of 99 units or more, with the speed that 00fff gives it
-pub speed-set : (w : Wind) (n : ℕ) → WindRead w → isInThree w.speed ≡ true → 99 ≤ n → n ≤ 999 → WindRead (record { cover = w.cover; direction = w.direction; speed = speed.Is n })
-unfolding judgeWind
+pub speed-set : (w : Wind) (n : ℕ) → WindRead w → is_in_three w.speed ≡ true → 99 ≤ n → n ≤ 999 → WindRead (record { cover = w.cover; direction = w.direction; speed = speed.Is n })
+unfolding judge_wind
 speed-set w n r three low high = go w.direction w.speed three (fine _ _ r.fine) (ap (λ (x : Wind). x.direction) r.own)
   where
-    go : (d : Direction) (s : Speed) → isInThree s ≡ true → ((optional (between 0 9) w.cover && windFits d s) ≡ true) × (windAgrees d s ≡ true) → classDirection d ≡ d
+    go : (d : Direction) (s : Speed) → is_in_three s ≡ true → ((optional (between 0 9) w.cover && wind_fits d s) ≡ true) × (wind_agrees d s ≡ true) → class_direction d ≡ d
         → WindRead (record { cover = w.cover; direction = d; speed = speed.Is n })
     go d speed.Missing t j o = absurd (false≢true t)
     go d (speed.Above k) t j o = absurd (false≢true t)
@@ -210,8 +210,8 @@ speed-set w n r three low high = go w.direction w.speed three (fine _ _ r.fine) 
 
 -- ---- 1, 2, 3, 4, 5
 
-signed_low : (s t : ℕ) (z : ℤ) → signedReading s t ≡ tenths.Is z → leb (nat_abs z) 999 ≡ true
-unfolding signedReading
+signed_low : (s t : ℕ) (z : ℤ) → signed_reading s t ≡ tenths.Is z → leb (nat_abs z) 999 ≡ true
+unfolding signed_reading
 signed_low s t z e = go (ltb 1 s || ltb 999 t || (eqb s 1 && eqb t 0)) refl e
   where
     go : (b : Bool) → (ltb 1 s || ltb 999 t || (eqb s 1 && eqb t 0)) ≡ b → cond b tenths.Unused (tenths.Is (with_sign (eqb s 1) t)) ≡ tenths.Is z → leb (nat_abs z) 999 ≡ true
@@ -221,47 +221,47 @@ signed_low s t z e = go (ltb 1 s || ltb 999 t || (eqb s 1 && eqb t 0)) refl e
         let low = (both_false (ltb 1 s) (ltb 999 t) (both_false (ltb 1 s || ltb 999 t) _ q).0).1 in
         rw (← is, magnitude-back (eqb s 1) t) (le-leb t 999 (ltb-false 999 t low))
 
-pub air-told : (g : Group) → Tells said.Air (λ a. judgeAir a ≡ judged.Fine) (saidAir g)
-unfolding saidAir airIs judgeAir
-air-told g = tells-may-miss (field_at g 1 4) (λ none. told refl) (λ n e. tells-tenths (signedReading (n / 1000) (n % 1000)) (λ t f. told (rw (signed_low _ _ t f))))
+pub air-told : (g : Group) → Tells said.Air (λ a. judge_air a ≡ judged.Fine) (said_air g)
+unfolding said_air air_is judge_air
+air-told g = tells-may-miss (field_at g 1 4) (λ none. told refl) (λ n e. tells-tenths (signed_reading (n / 1000) (n % 1000)) (λ t f. told (rw (signed_low _ _ t f))))
 
-pub moisture-told : (g : Group) → Tells said.Moisture (λ m. judgeMoisture m ≡ judged.Fine) (saidMoisture g)
-unfolding saidMoisture moistureIs judgeMoisture
+pub moisture-told : (g : Group) → Tells said.Moisture (λ m. judge_moisture m ≡ judged.Fine) (said_moisture g)
+unfolding said_moisture moisture_is judge_moisture
 moisture-told g =
     tells-may-miss (field_at g 1 4) (λ none. told refl)
     (λ n e. tells-cond (eqb (n / 1000) 9) (λ u. tells-cond (leb (n % 1000) 100) (λ h. told (rw h)) (λ h. refused))
-    (λ u. tells-tenths (signedReading (n / 1000) (n % 1000)) (λ t f. told (rw (signed_low _ _ t f)))))
+    (λ u. tells-tenths (signed_reading (n / 1000) (n % 1000)) (λ t f. told (rw (signed_low _ _ t f)))))
 
-pressure-within : (n low : ℕ) → n < 10000 → low ≤ 10000 → (999 < n → low ≤ n) → between low 10999 (pressureOf n) ≡ true
+pressure-within : (n low : ℕ) → n < 10000 → low ≤ 10000 → (999 < n → low ≤ n) → between low 10999 (pressure_of n) ≡ true
 pressure-within n low h z l = go (leb n 999) refl
   where
     go : (b : Bool) → leb n 999 ≡ b → between low 10999 (cond b (n + 10000) n) ≡ true
     go true e = let m = leb-true n 999 e in rw (le-leb low (n + 10000) (omega arith), le-leb (n + 10000) 10999 (omega (arith, m)))
     go false e = let m = leb-false n 999 e in rw (le-leb low n (l m), le-leb n 10999 (omega arith))
 
-pub pressure-told : (g : Group) → Tells said.Pressure (λ p. judgePressure p ≡ judged.Fine) (saidPressure g)
-unfolding saidPressure judgePressure
+pub pressure-told : (g : Group) → Tells said.Pressure (λ p. judge_pressure p ≡ judged.Fine) (said_pressure g)
+unfolding said_pressure judge_pressure
 pressure-told g =
     tells-may-miss (field_at g 1 4) (λ none. told refl) (λ n e. told (rw (pressure-within n 1000 (field_bound g 1 4 n e) (omega arith) (λ h. omega arith))))
 
-pub level-told : (g : Group) → Tells said.Level (λ l. judgeLevel l ≡ judged.Fine) (saidLevel g)
-unfolding saidLevel levelIs judgeLevel
+pub level-told : (g : Group) → Tells said.Level (λ l. judge_level l ≡ judged.Fine) (said_level g)
+unfolding said_level level_is judge_level
 level-told g =
     tells-may-miss (field_at g 1 4) (λ none. told refl)
     (λ n e. tells-cond (leb n 999 || leb 9000 n) (λ t. told (rw (pressure-within n 9000 (field_bound g 1 4 n e) (omega arith) (λ h. high n t h))))
-    (λ t. tells-cond (isLevel (n / 1000)) (λ l. told (rw (l, le-leb (n % 1000) 999 (omega (arith, mod-lt n {m = 1000} (omega arith)))))) (λ l. refused)))
+    (λ t. tells-cond (is_level (n / 1000)) (λ l. told (rw (l, le-leb (n % 1000) 999 (omega (arith, mod-lt n {m = 1000} (omega arith)))))) (λ l. refused)))
   where
     high : (n : ℕ) → (leb n 999 || leb 9000 n) ≡ true → 999 < n → 9000 ≤ n
     high n t h = leb-true 9000 n (rw (lt-leb n 999 h) at t)
 
-pub tendency-told : (g : Group) → Tells said.Tendency (λ t. judgeTendency t ≡ judged.Fine) (saidTendency g)
-unfolding saidTendency tendencyIs judgeTendency
+pub tendency-told : (g : Group) → Tells said.Tendency (λ t. judge_tendency t ≡ judged.Fine) (said_tendency g)
+unfolding said_tendency tendency_is judge_tendency
 tendency-told g =
     tells-may-miss (field_at g 1 4) (λ none. told refl)
     (λ n e. tells-cond (ltb 8 (n / 1000) || (eqb (n / 1000) 4 && not (eqb (n % 1000) 0))) (λ t. refused)
     (λ t. told (fits (n / 1000) (n % 1000) (omega (arith, mod-lt n {m = 1000} (omega arith))) t)))
   where
-    suits : (a p : ℕ) → (eqb a 4 && not (eqb p 0)) ≡ false → changeSuits a (with_sign (ltb 4 a) p) ≡ true
+    suits : (a p : ℕ) → (eqb a 4 && not (eqb p 0)) ≡ false → change_suits a (with_sign (ltb 4 a) p) ≡ true
     suits a p t = less (ltb a 4) refl (eqb a 4) refl
       where
         less : (b : Bool) → ltb a 4 ≡ b → (c : Bool) → eqb a 4 ≡ c
@@ -278,15 +278,15 @@ tendency-told g =
                 rw (far, minus)
 
     fits : (a p : ℕ) → p ≤ 999 → (ltb 8 a || (eqb a 4 && not (eqb p 0))) ≡ false
-        → judge (leb a 8 && leb (nat_abs (with_sign (ltb 4 a) p)) 999) (changeSuits a (with_sign (ltb 4 a) p)) ≡ judged.Fine
+        → judge (leb a 8 && leb (nat_abs (with_sign (ltb 4 a) p)) 999) (change_suits a (with_sign (ltb 4 a) p)) ≡ judged.Fine
     fits a p h t =
         let x = both_false (ltb 8 a) (eqb a 4 && not (eqb p 0)) t in
         rw (suits a p x.1, le-leb a 8 (ltb-false 8 a x.0), magnitude-back (ltb 4 a) p, le-leb p 999 h)
 
 -- ---- 6, 7, 8, 9
 
-rain-fits : (f : ℕ) (r : Rain) → rainFigure r ≡ figure.Is f → rainFits r ≡ true
-unfolding rainFigure
+rain-fits : (f : ℕ) (r : Rain) → rain_figure r ≡ figure.Is f → rain_fits r ≡ true
+unfolding rain_figure
 rain-fits f rain.Trace e = refl
 rain-fits f (rain.Tenths t) e = go (eqb t 0 || ltb 99999 t) refl e
   where
@@ -298,19 +298,19 @@ rain-fits f (rain.Tenths t) e = go (eqb t 0 || ltb 99999 t) refl e
         rw (le-leb 1 t (omega (arith, eqb-false t 0 x.0)), le-leb t 99999 (ltb-false 99999 t x.1))
 
 pub record RainfallRead (forbidden : Bool) (r : Rainfall) : Type 0 where
-  pub fine : judgeRainfall forbidden r ≡ judged.Fine
-  pub own : classRainfall r ≡ r
+  pub fine : judge_rainfall forbidden r ≡ judged.Fine
+  pub own : class_rainfall r ≡ r
 
-pub rainfall-told : (forbidden : Bool) (g : Group) → Tells said.Rainfall (RainfallRead forbidden) (saidRainfall forbidden g)
-unfolding saidRainfall judgeRainfall
+pub rainfall-told : (forbidden : Bool) (g : Group) → Tells said.Rainfall (RainfallRead forbidden) (said_rainfall forbidden g)
+unfolding said_rainfall judge_rainfall
 rainfall-told forbidden g =
     tells-may-miss (field_at g 1 3) (λ none. tells-missing (field_at g 4 1) (tells-unless forbidden (λ may. told {a = record { is = fall.Missing }} (record { fine = rw may; own = refl }))))
-    (λ n e. tells-part g 4 1 9 (λ t. rainfallOf forbidden n t) (omega arith)
-    (λ t c. tells-rain (rainReading n)
+    (λ n e. tells-part g 4 1 9 (λ t. rainfall_of forbidden n t) (omega arith)
+    (λ t c. tells-rain (rain_reading n)
     (λ r f. tells-unless forbidden (λ may. told {a = record { is = fall.Is r t }} (record { fine = rw (rain-fits n r (rain-rounds.own n r f), c, may); own = rw (rain-own n r f) })))))
 
-pub weather-told : (forbidden : Bool) (g : Group) → Tells said.Weather (λ w. judgeWeather forbidden w ≡ judged.Fine) (saidWeather forbidden g)
-unfolding saidWeather judgeWeather
+pub weather-told : (forbidden : Bool) (g : Group) → Tells said.Weather (λ w. judge_weather forbidden w ≡ judged.Fine) (said_weather forbidden g)
+unfolding said_weather judge_weather
 weather-told forbidden g =
     tells-part g 1 2 99 (λ w. part (field_at g 3 1) (λ p. part (field_at g 4 1) (λ q. said-so w p q))) (omega arith)
     (λ w a. tells-part g 3 1 9 (λ p. part (field_at g 4 1) (λ q. said-so w p q)) (omega arith)
@@ -319,8 +319,8 @@ weather-told forbidden g =
     said-so : Number → Number → Number → Said
     said-so w p q = unless forbidden (said.Weather (record { present = w; past = p; past2 = q }))
 
-pub clouds-told : (g : Group) → Tells said.Clouds (λ c. judgeClouds c ≡ judged.Fine) (saidClouds g)
-unfolding saidClouds judgeClouds
+pub clouds-told : (g : Group) → Tells said.Clouds (λ c. judge_clouds c ≡ judged.Fine) (said_clouds g)
+unfolding said_clouds judge_clouds
 clouds-told g =
     tells-part g 1 1 9 (λ n. part (field_at g 2 1) (λ l. part (field_at g 3 1) (λ m. part (field_at g 4 1) (λ h. said-so n l m h)))) (omega arith)
     (λ n a. tells-part g 2 1 9 (λ l. part (field_at g 3 1) (λ m. part (field_at g 4 1) (λ h. said-so n l m h))) (omega arith)
@@ -330,25 +330,25 @@ clouds-told g =
     said-so : Number → Number → Number → Number → Said
     said-so n l m h = said.Clouds (record { amount = n; low = l; middle = m; high = h })
 
-pub clock-told : (g : Group) → Tells said.Clock (λ c. judgeClock c ≡ judged.Fine) (saidClock g)
-unfolding saidClock clockIs judgeClock
+pub clock-told : (g : Group) → Tells said.Clock (λ c. judge_clock c ≡ judged.Fine) (said_clock g)
+unfolding said_clock clock_is judge_clock
 clock-told g =
     tells-figured (field_at g 1 2) (λ h a. tells-figured (field_at g 3 2) (λ m b. tells-cond (leb h 23 && leb m 59) (λ e. told (rw e)) (λ e. refused)))
 
 -- ---- 8NChh of section 3
 
 pub record LayerRead (l : CloudLayer) : Type 0 where
-  pub fits : layerFits l ≡ true
-  pub own : classLayer l ≡ l
+  pub fits : layer_fits l ≡ true
+  pub own : class_layer l ≡ l
 
 -- a group of this shape in which all is missing is 8////
-only-slashes : (g : Group) → hasPattern g (bytes "8####") ≡ true → field_at g 1 1 ≡ field.Missing → field_at g 2 1 ≡ field.Missing → field_at g 3 2 ≡ field.Missing
-    → hasPattern g (bytes "8////") ≡ true
-unfolding hasPattern fits low high
+only-slashes : (g : Group) → has_pattern g (bytes "8####") ≡ true → field_at g 1 1 ≡ field.Missing → field_at g 2 1 ≡ field.Missing → field_at g 3 2 ≡ field.Missing
+    → has_pattern g (bytes "8////") ≡ true
+unfolding has_pattern fits low high
 only-slashes g h p q r = go g (pattern-length g (bytes "8####") refl h) h (field-missing g 1 1 p) (field-missing g 2 1 q) (field-missing g 3 2 r)
   where
-    go : (g : Group) → length g ≡ 5 → hasPattern g (bytes "8####") ≡ true → every isSlash (take 1 (drop 1 g)) ≡ true → every isSlash (take 1 (drop 2 g)) ≡ true
-        → every isSlash (take 2 (drop 3 g)) ≡ true → hasPattern g (bytes "8////") ≡ true
+    go : (g : Group) → length g ≡ 5 → has_pattern g (bytes "8####") ≡ true → every is_slash (take 1 (drop 1 g)) ≡ true → every is_slash (take 1 (drop 2 g)) ≡ true
+        → every is_slash (take 2 (drop 3 g)) ≡ true → has_pattern g (bytes "8////") ≡ true
     go [] five h p q r = absurd (omega (arith, five))
     go (a ∷ []) five h p q r = absurd (omega (arith, five))
     go (a ∷ b ∷ []) five h p q r = absurd (omega (arith, five))
@@ -356,21 +356,21 @@ only-slashes g h p q r = go g (pattern-length g (bytes "8####") refl h) h (field
     go (a ∷ b ∷ c ∷ d ∷ []) five h p q r = absurd (omega (arith, five))
     go (a ∷ b ∷ c ∷ d ∷ e ∷ []) five h p q r =
         let eight = (both (leb 56 a && leb a 56) _ h).0 in
-        let amount = eqb-true b 47 (both (isSlash b) true p).0 in
-        let cloud = eqb-true c 47 (both (isSlash c) true q).0 in
-        let x = both (isSlash d) (isSlash e && true) r in
+        let amount = eqb-true b 47 (both (is_slash b) true p).0 in
+        let cloud = eqb-true c 47 (both (is_slash c) true q).0 in
+        let x = both (is_slash d) (is_slash e && true) r in
         let tens = eqb-true d 47 x.0 in
-        let ones = eqb-true e 47 (both (isSlash e) true x.1).0 in
+        let ones = eqb-true e 47 (both (is_slash e) true x.1).0 in
         rw (amount, cloud, tens, ones, eight)
     go (a ∷ b ∷ c ∷ d ∷ e ∷ f ∷ g) five h p q r = absurd (omega (arith, five))
 
 -- any other says something
-pub layer-told : (g : Group) → hasPattern g (bytes "8####") ≡ true → hasPattern g (bytes "8////") ≡ false → Tells said.Layer LayerRead (saidLayer g)
-unfolding saidLayer layerFits
+pub layer-told : (g : Group) → has_pattern g (bytes "8####") ≡ true → has_pattern g (bytes "8////") ≡ false → Tells said.Layer LayerRead (said_layer g)
+unfolding said_layer layer_fits
 layer-told g has filled =
-    tells-part-or-none g 1 1 9 (λ n. part (field_at g 2 1) (λ c. heightOf (field_at g 3 2) (λ h. said-so n c h))) (omega arith)
-    (λ n a x. tells-part-or-none g 2 1 9 (λ c. heightOf (field_at g 3 2) (λ h. said-so n c h)) (omega arith)
-    (λ c b y. tells-either HeightRead layerSteps layerBands height.Steps height.Bands height.Missing (field_at g 3 2) (λ h. said-so n c h) steps-rounds bands-rounds
+    tells-part-or-none g 1 1 9 (λ n. part (field_at g 2 1) (λ c. height_of (field_at g 3 2) (λ h. said-so n c h))) (omega arith)
+    (λ n a x. tells-part-or-none g 2 1 9 (λ c. height_of (field_at g 3 2) (λ h. said-so n c h)) (omega arith)
+    (λ c b y. tells-either HeightRead layer_steps layer_bands height.Steps height.Bands height.Missing (field_at g 3 2) (λ h. said-so n c h) steps-rounds bands-rounds
     (λ none. (refl, refl, λ m. none)) (λ m low own. (low, ap height.Steps own, λ m. absurd (false≢true m))) (λ m low own. (low, ap height.Bands own, λ m. absurd (false≢true m)))
     (λ h d. told (record { fits = rw (some n c h x y d.2, a, b, d.0); own = rw d.1 }))))
   where
@@ -378,15 +378,15 @@ layer-told g has filled =
     said-so n c h = said.Layer (record { amount = n; cloud = c; height = h })
 
     HeightRead : BaseHeight → Type 0
-    HeightRead h = (heightFits h ≡ true) × (classHeight h ≡ h) × (noHeight h ≡ true → field_at g 3 2 ≡ field.Missing)
+    HeightRead h = (height_fits h ≡ true) × (class_height h ≡ h) × (no_height h ≡ true → field_at g 3 2 ≡ field.Missing)
 
-    some : (n c : Number) (h : BaseHeight) → (isMissing n ≡ true → field_at g 1 1 ≡ field.Missing) → (isMissing c ≡ true → field_at g 2 1 ≡ field.Missing)
-        → (noHeight h ≡ true → field_at g 3 2 ≡ field.Missing) → isBlankLayer (record { amount = n; cloud = c; height = h }) ≡ false
-    some n c h x y z = go (isMissing n && isMissing c && noHeight h) refl
+    some : (n c : Number) (h : BaseHeight) → (is_missing n ≡ true → field_at g 1 1 ≡ field.Missing) → (is_missing c ≡ true → field_at g 2 1 ≡ field.Missing)
+        → (no_height h ≡ true → field_at g 3 2 ≡ field.Missing) → is_blank_layer (record { amount = n; cloud = c; height = h }) ≡ false
+    some n c h x y z = go (is_missing n && is_missing c && no_height h) refl
       where
-        go : (b : Bool) → (isMissing n && isMissing c && noHeight h) ≡ b → b ≡ false
+        go : (b : Bool) → (is_missing n && is_missing c && no_height h) ≡ b → b ≡ false
         go true e =
-            let p = both (isMissing n && isMissing c) (noHeight h) e in
-            let q = both (isMissing n) (isMissing c) p.0 in
+            let p = both (is_missing n && is_missing c) (no_height h) e in
+            let q = both (is_missing n) (is_missing c) p.0 in
             absurd (false≢true (sym filled ∙ only-slashes g has (x q.0) (y q.1) (z p.1)))
         go false e = refl

@@ -9,7 +9,7 @@ use lib.ListN.{length, take, drop, replicate, length-append, length-replicate}
 use lib.Seq.{take_at, drop_at}
 use lib.Dec.{leb}
 use borrow.Author.Tests.{leb-true, le-leb}
-use Rattle.figures.specs.Figures.{isFigure, isLetter, every}
+use Rattle.figures.specs.Figures.{is_figure, is_letter, every}
 use Rattle.text.specs.declared.kinds.Refusal.TheVariants as refusal
 use Rattle.text.specs.declared.kinds.Judged.{Judged}
 use Rattle.text.specs.declared.kinds.Judged.TheVariants as judged
@@ -17,7 +17,7 @@ use Rattle.text.specs.declared.kinds.Tail.{Tail}
 use Rattle.text.specs.declared.kinds.Tail.TheVariants.{Clear, Junk}
 use Rattle.text.specs.Judge.{judge, and_then}
 use Rattle.text.specs.Groups.{Piece}
-use Rattle.shapes.specs.Pattern.{hasPattern}
+use Rattle.shapes.specs.Pattern.{has_pattern}
 use Rattle.shapes.proofs.Patterns.{both}
 use Rattle.places.specs.Engine.{Group, Read, Good, Fault}
 use Rattle.places.specs.Parts.{Opens, Ends}
@@ -34,20 +34,20 @@ use Rattle.record.specs.declared.surface.Surface.{Surface}
 use Rattle.record.specs.declared.surface.Section3.{Section3}
 use Rattle.record.specs.declared.surface.Synop.{Synop}
 use Rattle.record.specs.Arrays.{SynopArrays}
-use Rattle.record.specs.Blank.{blankSite, blankSurface, blankSection3}
-use Rattle.record.specs.Set.{setStation, setSign, setPosition, setTime, setNil, set_site, setSurface, setSection3, setIndicators, setWind, setAir, setMoisture, setPressure, setLevel, setTendency, setRainfall, setWeather, setClouds, setClock}
-use Rattle.record.specs.Missing.{isMissing, noLetters}
-use Rattle.record.specs.SilentSurface.{noSign, noPosition, noSurface}
-use Rattle.synop_groups.specs.Judge.{judgeTime, judgeStation, judgeSign, judgePosition, judgeAir, judgeMoisture, judgePressure, judgeLevel, judgeTendency, judgeRainfall, judgeWeather, judgeClouds, judgeClock}
-use Rattle.synop_groups.specs.Shows.{isInThree}
-use Rattle.synop_groups.specs.Classes.{classIndicators, classWind, classRainfall}
+use Rattle.record.specs.Blank.{blank_site, blank_surface, blank_section3}
+use Rattle.record.specs.Set.{set_station, set_sign, set_position, set_time, set_nil, set_site, set_surface, set_section3, set_indicators, set_wind, set_air, set_moisture, set_pressure, set_level, set_tendency, set_rainfall, set_weather, set_clouds, set_clock}
+use Rattle.record.specs.Missing.{is_missing, no_letters}
+use Rattle.record.specs.SilentSurface.{no_sign, no_position, no_surface}
+use Rattle.synop_groups.specs.Judge.{judge_time, judge_station, judge_sign, judge_position, judge_air, judge_moisture, judge_pressure, judge_level, judge_tendency, judge_rainfall, judge_weather, judge_clouds, judge_clock}
+use Rattle.synop_groups.specs.Shows.{is_in_three}
+use Rattle.synop_groups.specs.Classes.{class_indicators, class_wind, class_rainfall}
 use Rattle.synop_row.specs.declared.kinds.Needs.{Needs}
-use Rattle.synop_row.specs.Row.{rainDue, weatherDue, figureIs, needsOf, setSpeed, withSaid, row, section3Word}
+use Rattle.synop_row.specs.Row.{rain_due, weather_due, figure_is, needs_of, set_speed, with_said, row, section3_word}
 use Rattle.section3.specs.Step.{Opened}
-use Rattle.section3.specs.Write.{judgeSection3, classSection3}
-use Rattle.synop_section.specs.Answer.{begun, word_of, firstPart, thirdPart, parts, section}
-use Rattle.synop.specs.Read.{Post, with_head, timePost, stationPost, isCallSign, sign_of, signPost, latitudePost, longitudePost, indicatorsPost, windPost, posts, isNil, afterNil, onward, walk, groupsRead}
-use Rattle.synop.specs.Write.{foreignBlank, judgeSite, judgeSection, judgeSurface, judgeOf, classedOf}
+use Rattle.section3.specs.Write.{judge_section3, class_section3}
+use Rattle.synop_section.specs.Answer.{begun, word_of, first_part, third_part, parts, section}
+use Rattle.synop.specs.Read.{Post, with_head, time_post, station_post, is_call_sign, sign_of, sign_post, latitude_post, longitude_post, indicators_post, wind_post, posts, is_nil, after_nil, onward, walk, groups_read}
+use Rattle.synop.specs.Write.{foreign_blank, judge_site, judge_section, judge_surface, judge_of, classed_of}
 use Rattle.accepted_laws.proofs.Gives.{Gives, good, bad}
 use Rattle.accepted_laws.proofs.Stages.{Stage, Left, ServesRow, StandsAt}
 use Rattle.accepted_laws.proofs.Reports.{Comes, done, fault, Turns, ends, opens, Leaves, report-leaves}
@@ -61,57 +61,57 @@ use Rattle.accepted_laws.proofs.SectionThree.{SectionThreeRead}
 
 -- what iR and ix need stays as it was said; the wind is fine, and stands in three figures where ff was 99
 abbrev Known : Needs → Surface → Type 0
-Known n s = IndicatorsRead s.indicators × (n.rain ≡ figureIs rainDue s.indicators.rain) × (n.weather ≡ figureIs weatherDue s.indicators.weather)
+Known n s = IndicatorsRead s.indicators × (n.rain ≡ figure_is rain_due s.indicators.rain) × (n.weather ≡ figure_is weather_due s.indicators.weather)
 
 abbrev Windy : Needs → Surface → Type 0
-Windy n s = WindRead s.wind × (n.speed ≡ isInThree s.wind.speed)
+Windy n s = WindRead s.wind × (n.speed ≡ is_in_three s.wind.speed)
 
 abbrev stages : Needs → List (Stage Surface)
 stages n =
     kept (Windy n)
-    ∷ kept (λ s. judgeAir s.air ≡ judged.Fine)
-    ∷ kept (λ s. judgeMoisture s.moisture ≡ judged.Fine)
-    ∷ kept (λ s. judgePressure s.pressure ≡ judged.Fine)
-    ∷ kept (λ s. judgeLevel s.level ≡ judged.Fine)
-    ∷ kept (λ s. judgeTendency s.tendency ≡ judged.Fine)
+    ∷ kept (λ s. judge_air s.air ≡ judged.Fine)
+    ∷ kept (λ s. judge_moisture s.moisture ≡ judged.Fine)
+    ∷ kept (λ s. judge_pressure s.pressure ≡ judged.Fine)
+    ∷ kept (λ s. judge_level s.level ≡ judged.Fine)
+    ∷ kept (λ s. judge_tendency s.tendency ≡ judged.Fine)
     ∷ kept (λ s. RainfallRead (not n.rain) s.rainfall)
-    ∷ kept (λ s. judgeWeather (not n.weather) s.weather ≡ judged.Fine)
-    ∷ kept (λ s. judgeClouds s.clouds ≡ judged.Fine)
-    ∷ kept (λ s. judgeClock s.clock ≡ judged.Fine)
+    ∷ kept (λ s. judge_weather (not n.weather) s.weather ≡ judged.Fine)
+    ∷ kept (λ s. judge_clouds s.clouds ≡ judged.Fine)
+    ∷ kept (λ s. judge_clock s.clock ≡ judged.Fine)
     ∷ []
 
 serves : (n : Needs) → ServesRow (λ s. ⊥) (Known n) (row n) (stages n)
-unfolding row withSaid
+unfolding row with_said
 serves n =
     serves-kept _ _ _ _ _ refl
-    (λ k g s has b h e. gives-told (λ x. withSaid x s) (λ m. setSpeed (speed.Is m) s) (λ m. refl) (λ f. refl) (speed-told n.speed g)
+    (λ k g s has b h e. gives-told (λ x. with_said x s) (λ m. set_speed (speed.Is m) s) (λ m. refl) (λ f. refl) (speed-told n.speed g)
     (λ m t. (b, (speed-set s.wind m h.0 (sym h.1 ∙ t.0) t.1 t.2, t.0 ∙ sym (le-leb 99 m t.1)), e)))
-    & serves-kept _ _ _ _ _ refl (λ k g s has b h e. gives-told (λ x. withSaid x s) (λ x. setAir x s) (λ x. refl) (λ f. refl) (air-told g) (λ x t. (b, t, e)))
-    & serves-kept _ _ _ _ _ refl (λ k g s has b h e. gives-told (λ x. withSaid x s) (λ x. setMoisture x s) (λ x. refl) (λ f. refl) (moisture-told g) (λ x t. (b, t, e)))
-    & serves-kept _ _ _ _ _ refl (λ k g s has b h e. gives-told (λ x. withSaid x s) (λ x. setPressure x s) (λ x. refl) (λ f. refl) (pressure-told g) (λ x t. (b, t, e)))
-    & serves-kept _ _ _ _ _ refl (λ k g s has b h e. gives-told (λ x. withSaid x s) (λ x. setLevel x s) (λ x. refl) (λ f. refl) (level-told g) (λ x t. (b, t, e)))
-    & serves-kept _ _ _ _ _ refl (λ k g s has b h e. gives-told (λ x. withSaid x s) (λ x. setTendency x s) (λ x. refl) (λ f. refl) (tendency-told g) (λ x t. (b, t, e)))
-    & serves-kept _ _ _ _ _ refl (λ k g s has b h e. gives-told (λ x. withSaid x s) (λ x. setRainfall x s) (λ x. refl) (λ f. refl) (rainfall-told (not n.rain) g) (λ x t. (b, t, e)))
-    & serves-kept _ _ _ _ _ refl (λ k g s has b h e. gives-told (λ x. withSaid x s) (λ x. setWeather x s) (λ x. refl) (λ f. refl) (weather-told (not n.weather) g) (λ x t. (b, t, e)))
-    & serves-kept _ _ _ _ _ refl (λ k g s has b h e. gives-told (λ x. withSaid x s) (λ x. setClouds x s) (λ x. refl) (λ f. refl) (clouds-told g) (λ x t. (b, t, e)))
-    & serves-kept _ _ _ _ _ refl (λ k g s has b h e. gives-told (λ x. withSaid x s) (λ x. setClock x s) (λ x. refl) (λ f. refl) (clock-told g) (λ x t. (b, t, e)))
+    & serves-kept _ _ _ _ _ refl (λ k g s has b h e. gives-told (λ x. with_said x s) (λ x. set_air x s) (λ x. refl) (λ f. refl) (air-told g) (λ x t. (b, t, e)))
+    & serves-kept _ _ _ _ _ refl (λ k g s has b h e. gives-told (λ x. with_said x s) (λ x. set_moisture x s) (λ x. refl) (λ f. refl) (moisture-told g) (λ x t. (b, t, e)))
+    & serves-kept _ _ _ _ _ refl (λ k g s has b h e. gives-told (λ x. with_said x s) (λ x. set_pressure x s) (λ x. refl) (λ f. refl) (pressure-told g) (λ x t. (b, t, e)))
+    & serves-kept _ _ _ _ _ refl (λ k g s has b h e. gives-told (λ x. with_said x s) (λ x. set_level x s) (λ x. refl) (λ f. refl) (level-told g) (λ x t. (b, t, e)))
+    & serves-kept _ _ _ _ _ refl (λ k g s has b h e. gives-told (λ x. with_said x s) (λ x. set_tendency x s) (λ x. refl) (λ f. refl) (tendency-told g) (λ x t. (b, t, e)))
+    & serves-kept _ _ _ _ _ refl (λ k g s has b h e. gives-told (λ x. with_said x s) (λ x. set_rainfall x s) (λ x. refl) (λ f. refl) (rainfall-told (not n.rain) g) (λ x t. (b, t, e)))
+    & serves-kept _ _ _ _ _ refl (λ k g s has b h e. gives-told (λ x. with_said x s) (λ x. set_weather x s) (λ x. refl) (λ f. refl) (weather-told (not n.weather) g) (λ x t. (b, t, e)))
+    & serves-kept _ _ _ _ _ refl (λ k g s has b h e. gives-told (λ x. with_said x s) (λ x. set_clouds x s) (λ x. refl) (λ f. refl) (clouds-told g) (λ x t. (b, t, e)))
+    & serves-kept _ _ _ _ _ refl (λ k g s has b h e. gives-told (λ x. with_said x s) (λ x. set_clock x s) (λ x. refl) (λ f. refl) (clock-told g) (λ x t. (b, t, e)))
     & tt
 
 record SurfaceRead (s : Surface) : Type 0 where
-  fine : judgeSurface s ≡ judged.Fine
-  indicators : classIndicators s.indicators ≡ s.indicators
-  wind : classWind s.wind ≡ s.wind
-  rainfall : classRainfall s.rainfall ≡ s.rainfall
+  fine : judge_surface s ≡ judged.Fine
+  indicators : class_indicators s.indicators ≡ s.indicators
+  wind : class_wind s.wind ≡ s.wind
+  rainfall : class_rainfall s.rainfall ≡ s.rainfall
 
 same-needs : (a b c a' b' c' : Bool) → a ≡ a' → b ≡ b' → c ≡ c' → ◌≡◌ {A = Needs} (record { rain = a; weather = b; speed = c }) (record { rain = a'; weather = b'; speed = c' })
 same-needs a b c a' b' c' p q r = rw (p, q, r)
 
-needs-still : (n : Needs) (s : Surface) → Known n s → n.speed ≡ isInThree s.wind.speed → needsOf s ≡ n
-unfolding needsOf
+needs-still : (n : Needs) (s : Surface) → Known n s → n.speed ≡ is_in_three s.wind.speed → needs_of s ≡ n
+unfolding needs_of
 needs-still n s k w = same-needs _ _ _ n.rain n.weather n.speed (sym k.1) (sym k.2) (sym w)
 
 section-read : (n : Needs) (s : Surface) → Known n s → Past (stages n) s → SurfaceRead s
-unfolding judgeSurface judgeSection
+unfolding judge_surface judge_section
 section-read n s known (wind, (air, (moisture, (pressure, (level, (tendency, (rainfall, (weather, (clouds, (clock, _)))))))))) =
     record {
       fine = rw (known.0.fine, wind.0.fine, needs-still n s known wind.1, air, moisture, pressure, level, tendency, rainfall.fine, weather, clouds, clock);
@@ -125,15 +125,15 @@ surface-read n s x = let (known, past) = left-all (Known n) (stages n) s x in se
 
 -- what stands before section 1: the groups through Nddff, and nothing behind them
 abbrev Begun : Surface → Type 0
-Begun s = (i : Indicators) × (w : Wind) × (s ≡ setWind w (setIndicators i blankSurface)) × IndicatorsRead i × WindRead w
+Begun s = (i : Indicators) × (w : Wind) × (s ≡ set_wind w (set_indicators i blank_surface)) × IndicatorsRead i × WindRead w
 
 section-begins : (i : Indicators) (w : Wind) → IndicatorsRead i → WindRead w
-    → StandsAt (λ s. ⊥) (Known (needsOf (setWind w (setIndicators i blankSurface)))) (stages (needsOf (setWind w (setIndicators i blankSurface)))) 0 0 (setWind w (setIndicators i blankSurface))
-unfolding needsOf judgeAir judgeMoisture judgePressure judgeLevel judgeTendency judgeRainfall judgeWeather judgeClouds judgeClock
+    → StandsAt (λ s. ⊥) (Known (needs_of (set_wind w (set_indicators i blank_surface)))) (stages (needs_of (set_wind w (set_indicators i blank_surface)))) 0 0 (set_wind w (set_indicators i blank_surface))
+unfolding needs_of judge_air judge_moisture judge_pressure judge_level judge_tendency judge_rainfall judge_weather judge_clouds judge_clock
 section-begins i w ir wr = (
   (ir, refl, refl),
   (wr, refl),
-  refl & refl & refl & refl & refl & record { fine = or-fine (not (figureIs rainDue i.rain)); own = refl } & or-fine (not (figureIs weatherDue i.weather)) & refl & refl & tt,
+  refl & refl & refl & refl & refl & record { fine = or-fine (not (figure_is rain_due i.rain)); own = refl } & or-fine (not (figure_is weather_due i.weather)) & refl & refl & tt,
 )
   where
     or-fine : (forbidden : Bool) → judge true (not forbidden || true) ≡ judged.Fine
@@ -143,35 +143,35 @@ section-begins i w ir wr = (
 -- ==== THE HEAD, group after group
 
 -- what the writer judges of a site
-abbrev siteJudged : Bool → Site → Judged
-siteJudged ship site = judgeSite (record { ship = ship; site = site; surface = blankSurface; section3 = blankSection3 })
+abbrev site_judged : Bool → Site → Judged
+site_judged ship site = judge_site (record { ship = ship; site = site; surface = blank_surface; section3 = blank_section3 })
 
 record HeadRead (ship : Bool) (site : Site) : Type 0 where
-  fine : siteJudged ship site ≡ judged.Fine
-  own : cond ship (isMissing site.station && not site.nil) (noSign site.sign && noPosition site.position) ≡ true
+  fine : site_judged ship site ≡ judged.Fine
+  own : cond ship (is_missing site.station && not site.nil) (no_sign site.sign && no_position site.position) ≡ true
   heard : site.nil ≡ false
   nine : length site.sign.letters ≡ 9
 
 pub record SynopRead (r : Synop) : Type 0 where
-  pub fine : judgeOf r ≡ judged.Fine
-  pub own : classedOf r ≡ r
+  pub fine : judge_of r ≡ judged.Fine
+  pub own : classed_of r ≡ r
   pub arrays : SynopArrays r
 
-same-site : (r : Synop) → judgeSite r ≡ siteJudged r.ship r.site
-unfolding judgeSite
+same-site : (r : Synop) → judge_site r ≡ site_judged r.ship r.site
+unfolding judge_site
 same-site r = refl
 
 whole-fine : (own heard : Bool) (site surface third : Judged) → own ≡ true → heard ≡ false → site ≡ judged.Fine → surface ≡ judged.Fine → third ≡ judged.Fine → (quiet : Bool)
     → and_then (cond (own && (not heard || quiet)) judged.Fine (judged.Refused refusal.Value)) (and_then site (cond heard judged.Fine (and_then surface third))) ≡ judged.Fine
 whole-fine own heard site surface third a b c d e quiet = rw (a, b, c, d, e)
 
-synop-own : (r : Synop) → classIndicators r.surface.indicators ≡ r.surface.indicators → classWind r.surface.wind ≡ r.surface.wind → classRainfall r.surface.rainfall ≡ r.surface.rainfall
-    → classSection3 r.section3 ≡ r.section3 → classedOf r ≡ r
-unfolding classedOf
-synop-own r a b c d = made (classIndicators r.surface.indicators) (classWind r.surface.wind) (classRainfall r.surface.rainfall) (classSection3 r.section3) a b c d
+synop-own : (r : Synop) → class_indicators r.surface.indicators ≡ r.surface.indicators → class_wind r.surface.wind ≡ r.surface.wind → class_rainfall r.surface.rainfall ≡ r.surface.rainfall
+    → class_section3 r.section3 ≡ r.section3 → classed_of r ≡ r
+unfolding classed_of
+synop-own r a b c d = made (class_indicators r.surface.indicators) (class_wind r.surface.wind) (class_rainfall r.surface.rainfall) (class_section3 r.section3) a b c d
   where
     made : (i : Indicators) (w : Wind) (f : Rainfall) (t : Section3) → i ≡ r.surface.indicators → w ≡ r.surface.wind → f ≡ r.surface.rainfall → t ≡ r.section3
-        → setSection3 t (setSurface (setIndicators i (setWind w (setRainfall f r.surface))) r) ≡ r
+        → set_section3 t (set_surface (set_indicators i (set_wind w (set_rainfall f r.surface))) r) ≡ r
     made i w f t a b c d = rw (a, b, c, d)
 
 record Whole (r : Synop) : Type 0 where
@@ -180,34 +180,34 @@ record Whole (r : Synop) : Type 0 where
   third : SectionThreeRead r.section3
 
 whole-read : (r : Synop) → Whole r → SynopRead r
-unfolding judgeOf foreignBlank
+unfolding judge_of foreign_blank
 whole-read r w =
     let h = w.head in
     let s = w.first in
     let t = w.third in
     record {
-      fine = whole-fine _ r.site.nil (judgeSite r) (judgeSurface r.surface) (judgeSection3 r.section3) h.own h.heard (same-site r ∙ h.fine) s.fine t.fine _;
+      fine = whole-fine _ r.site.nil (judge_site r) (judge_surface r.surface) (judge_section3 r.section3) h.own h.heard (same-site r ∙ h.fine) s.fine t.fine _;
       own = synop-own r s.indicators s.wind s.rainfall t.own;
       arrays = record { letters = h.nine; layers = t.four };
     }
 
 -- nothing stands behind the head
 abbrev Silent : Synop → Type 0
-Silent r = (r.surface ≡ blankSurface) × (r.section3 ≡ blankSection3)
+Silent r = (r.surface ≡ blank_surface) × (r.section3 ≡ blank_section3)
 
 -- NIL after IIiii, which ends a land report
-nil-read : (r : Synop) → r.ship ≡ false → HeadRead false r.site → Silent r → SynopRead (set_site (setNil true r.site) r)
-unfolding judgeOf foreignBlank judgeSite noSurface
+nil-read : (r : Synop) → r.ship ≡ false → HeadRead false r.site → Silent r → SynopRead (set_site (set_nil true r.site) r)
+unfolding judge_of foreign_blank judge_site no_surface
 nil-read r land h (quiet, no_third) =
     record {
       fine = rw (land, h.own, quiet, no_third, h.fine);
-      own = rw (quiet, no_third) (synop-own (set_site (setNil true r.site) (setSurface blankSurface (setSection3 blankSection3 r))) refl refl refl refl);
+      own = rw (quiet, no_third) (synop-own (set_site (set_nil true r.site) (set_surface blank_surface (set_section3 blank_section3 r))) refl refl refl refl);
       arrays = record { letters = h.nine; layers = rw no_third };
     }
 
 -- ---- a call sign
 
-zeros : (n : ℕ) → noLetters (replicate n 0) ≡ true
+zeros : (n : ℕ) → no_letters (replicate n 0) ≡ true
 zeros zero = refl
 zeros (suc n) = zeros n
 
@@ -227,13 +227,13 @@ padded (suc m) k (b ∷ g) h l =
     rw (less, padded m k g (omega (arith, h)) (omega (arith, l)))
 
 record SignRead (s : CallSign) : Type 0 where
-  fine : judgeSign s ≡ judged.Fine
+  fine : judge_sign s ≡ judged.Fine
   nine : length s.letters ≡ 9
 
-sign_read : (g : Group) → isCallSign g ≡ true → SignRead (sign_of g)
-unfolding sign_of judgeSign
+sign_read : (g : Group) → is_call_sign g ≡ true → SignRead (sign_of g)
+unfolding sign_of judge_sign
 sign_read g h =
-    let letters = both (leb 3 (length g) && leb (length g) 9) (every (λ b. isLetter b || isFigure b) g) h in
+    let letters = both (leb 3 (length g) && leb (length g) 9) (every (λ b. is_letter b || is_figure b) g) h in
     let range = both (leb 3 (length g)) (leb (length g) 9) letters.0 in
     let most = leb-true (length g) 9 range.1 in
     let is = padded 9 9 g most (omega arith) in
@@ -248,15 +248,15 @@ sign_read g h =
 
 module _ {Q I J : Synop → Type 0} (p : Post) (ps : List Post)
     (reads : (g : Group) (r : Synop) → p.has g ≡ true → I r → Gives J (p.read g r))
-    (silent : p.nil ≡ true → (r : Synop) → I r → Q (set_site (setNil true r.site) r))
+    (silent : p.nil ≡ true → (r : Synop) → I r → Q (set_site (set_nil true r.site) r))
     (rest : (r : Synop) (tail : Tail) (end : ℕ) (gs : List Piece) → J r → Comes Q (walk ps r tail end gs)) where
   post-walks : (r : Synop) (tail : Tail) (end : ℕ) (gs : List Piece) → I r → Comes Q (walk (p ∷ ps) r tail end gs)
   unfolding walk
   post-walks r (Junk at) end [] i = fault
   post-walks r Clear end [] i = fault
-  post-walks r tail end (g ∷ gs) i = nil p.nil refl (isNil g.bytes)
+  post-walks r tail end (g ∷ gs) i = nil p.nil refl (is_nil g.bytes)
     where
-      over : (tail : Tail) (gs : List Piece) → p.nil ≡ true → Comes Q (afterNil tail end r gs)
+      over : (tail : Tail) (gs : List Piece) → p.nil ≡ true → Comes Q (after_nil tail end r gs)
       over (Junk at) [] e = fault
       over Clear [] e = done (silent e r i)
       over (Junk at) (g ∷ gs) e = fault
@@ -271,7 +271,7 @@ module _ {Q I J : Synop → Type 0} (p : Post) (ps : List Post)
       has false e = fault
 
       nil : (b : Bool) → p.nil ≡ b → (c : Bool)
-          → Comes Q (cond (b && c) (afterNil tail end r gs) (cond (p.has g.bytes) (onward (p.read g.bytes r) g.start (λ r'. walk ps r' tail end gs)) (Fault refusal.Shape g.start)))
+          → Comes Q (cond (b && c) (after_nil tail end r gs) (cond (p.has g.bytes) (onward (p.read g.bytes r) g.start (λ r'. walk ps r' tail end gs)) (Fault refusal.Shape g.start)))
       nil true e true = over tail gs e
       nil true e false = has (p.has g.bytes) refl
       nil false e c = has (p.has g.bytes) refl
@@ -286,37 +286,37 @@ Headed ship r = (r.ship ≡ ship) × HeadRead ship r.site × Silent r
 
 abbrev Indicated : Bool → Synop → Type 0
 Indicated ship r =
-    (r.ship ≡ ship) × HeadRead ship r.site × ((i : Indicators) × (r.surface ≡ setIndicators i blankSurface) × IndicatorsRead i) × (r.section3 ≡ blankSection3)
+    (r.ship ≡ ship) × HeadRead ship r.site × ((i : Indicators) × (r.surface ≡ set_indicators i blank_surface) × IndicatorsRead i) × (r.section3 ≡ blank_section3)
 
 abbrev Winded : Bool → Synop → Type 0
-Winded ship r = (r.ship ≡ ship) × HeadRead ship r.site × Begun r.surface × (r.section3 ≡ blankSection3)
+Winded ship r = (r.ship ≡ ship) × HeadRead ship r.site × Begun r.surface × (r.section3 ≡ blank_section3)
 
 -- section 3 begins blank
 abbrev Fresh : Synop → Opened → Section3 → Type 0
-Fresh r w s = s ≡ blankSection3
+Fresh r w s = s ≡ blank_section3
 
 -- 333 opens it, and at any other stop word reading ends
 first_word : (r : Synop) (g : Group) → Turns Whole SynopRead Fresh r (word_of g)
-first_word r g = go (hasPattern g section3Word)
+first_word r g = go (has_pattern g section3_word)
   where
-    go : (b : Bool) → Turns Whole SynopRead Fresh r (cond b (Opens (Good (record { kind = tt; start = blankSection3 }))) Ends)
+    go : (b : Bool) → Turns Whole SynopRead Fresh r (cond b (Opens (Good (record { kind = tt; start = blank_section3 }))) Ends)
     go true = opens (good refl)
     go false = ends
 
-first-leaves : (ship : Bool) (r : Synop) → Winded ship r → Leaves Whole SynopRead Fresh (firstPart (needsOf r.surface) (λ s. setSurface s r)) r.surface
+first-leaves : (ship : Bool) (r : Synop) → Winded ship r → Leaves Whole SynopRead Fresh (first_part (needs_of r.surface) (λ s. set_surface s r)) r.surface
 first-leaves ship r (is, h, (i, w, begun-so, ir, wr), no_third) =
     record {
       over = λ s. ⊥;
-      before = Known (needsOf r.surface);
-      stages = stages (needsOf r.surface);
-      serves = serves (needsOf r.surface);
+      before = Known (needs_of r.surface);
+      stages = stages (needs_of r.surface);
+      serves = serves (needs_of r.surface);
       begins = rw begun-so (section-begins i w ir wr);
-      whole = λ s x e. record { head = rw is h; first = surface-read (needsOf r.surface) s x; third = rw no_third three.section-absent };
+      whole = λ s x e. record { head = rw is h; first = surface-read (needs_of r.surface) s x; third = rw no_third three.section-absent };
       ended = λ s z. absurd z;
       word = λ t g f e. first_word t g;
     }
 
-third-leaves : (r : Synop) (w : Opened) (s : Section3) → Whole r → Fresh r w s → Leaves Whole SynopRead Fresh (thirdPart r) s
+third-leaves : (r : Synop) (w : Opened) (s : Section3) → Whole r → Fresh r w s → Leaves Whole SynopRead Fresh (third_part r) s
 third-leaves r w s h is =
     record {
       over = λ s. ⊥;
@@ -332,101 +332,101 @@ third-leaves r w s h is =
 at-section : (ship : Bool) (r : Synop) (tail : Tail) (end : ℕ) (gs : List Piece) → Winded ship r → Comes SynopRead (walk [] r tail end gs)
 unfolding walk section
 at-section ship r tail end gs x =
-    report-leaves Whole SynopRead Fresh tail end parts whole-read third-leaves (λ t w s g o e. o) 1 (firstPart (needsOf r.surface) (λ s. setSurface s r)) r.surface (first-leaves ship r x) gs
+    report-leaves Whole SynopRead Fresh tail end parts whole-read third-leaves (λ t w s g o e. o) 1 (first_part (needs_of r.surface) (λ s. set_surface s r)) r.surface (first-leaves ship r x) gs
 
-at-wind : (ship : Bool) (r : Synop) (tail : Tail) (end : ℕ) (gs : List Piece) → Indicated ship r → Comes SynopRead (walk (windPost ∷ []) r tail end gs)
-unfolding with_head withSaid
+at-wind : (ship : Bool) (r : Synop) (tail : Tail) (end : ℕ) (gs : List Piece) → Indicated ship r → Comes SynopRead (walk (wind_post ∷ []) r tail end gs)
+unfolding with_head with_said
 at-wind ship =
-    post-walks windPost []
-    (λ g r has x. gives-told (λ y. with_head y r) (λ w. setSurface (setWind w r.surface) r) (λ w. refl) (λ f. refl) (wind-told g) (λ w t. (x.0, x.1, (x.2.0, w, ap (setWind w) x.2.1, x.2.2, t), x.3)))
+    post-walks wind_post []
+    (λ g r has x. gives-told (λ y. with_head y r) (λ w. set_surface (set_wind w r.surface) r) (λ w. refl) (λ f. refl) (wind-told g) (λ w t. (x.0, x.1, (x.2.0, w, ap (set_wind w) x.2.1, x.2.2, t), x.3)))
     (λ e r x. never e) (at-section ship)
 
-at-indicators : (ship land : Bool) → (land ≡ true → ship ≡ false) → (r : Synop) (tail : Tail) (end : ℕ) (gs : List Piece) → Headed ship r → Comes SynopRead (walk (indicatorsPost land ∷ windPost ∷ []) r tail end gs)
-unfolding with_head withSaid
+at-indicators : (ship land : Bool) → (land ≡ true → ship ≡ false) → (r : Synop) (tail : Tail) (end : ℕ) (gs : List Piece) → Headed ship r → Comes SynopRead (walk (indicators_post land ∷ wind_post ∷ []) r tail end gs)
+unfolding with_head with_said
 at-indicators ship land only =
-    post-walks (indicatorsPost land) (windPost ∷ [])
-    (λ g r has x. gives-told (λ y. with_head y r) (λ i. setSurface (setIndicators i r.surface) r) (λ i. refl) (λ f. refl) (indicators-told g) (λ i t. (x.0, x.1, (i, ap (setIndicators i) x.2.0, t), x.2.1)))
+    post-walks (indicators_post land) (wind_post ∷ [])
+    (λ g r has x. gives-told (λ y. with_head y r) (λ i. set_surface (set_indicators i r.surface) r) (λ i. refl) (λ f. refl) (indicators-told g) (λ i t. (x.0, x.1, (i, ap (set_indicators i) x.2.0, t), x.2.1)))
     (λ e r x. nil-read r (x.0 ∙ only e) (rw (only e) at x.1) x.2) (at-wind ship)
 
 -- ---- A LAND STATION
 
 abbrev Started : Bool → Synop → Type 0
-Started ship r = (r.ship ≡ ship) × (r.site ≡ blankSite) × Silent r
+Started ship r = (r.ship ≡ ship) × (r.site ≡ blank_site) × Silent r
 
 abbrev Timed : Synop → Type 0
-Timed r = (r.ship ≡ false) × ((t : Time) × (r.site ≡ setTime t blankSite) × (judgeTime t ≡ judged.Fine)) × Silent r
+Timed r = (r.ship ≡ false) × ((t : Time) × (r.site ≡ set_time t blank_site) × (judge_time t ≡ judged.Fine)) × Silent r
 
-land-head : (t : Time) (n : ℕ) → judgeTime t ≡ judged.Fine → judgeStation (number.Is n) ≡ judged.Fine → HeadRead false (setStation (number.Is n) (setTime t blankSite))
-unfolding judgeSite
+land-head : (t : Time) (n : ℕ) → judge_time t ≡ judged.Fine → judge_station (number.Is n) ≡ judged.Fine → HeadRead false (set_station (number.Is n) (set_time t blank_site))
+unfolding judge_site
 land-head t n a b = record { fine = rw (a, b); own = refl; heard = refl; nine = refl }
 
-at-station : (r : Synop) (tail : Tail) (end : ℕ) (gs : List Piece) → Timed r → Comes SynopRead (walk (stationPost ∷ indicatorsPost true ∷ windPost ∷ []) r tail end gs)
-unfolding with_head withSaid
+at-station : (r : Synop) (tail : Tail) (end : ℕ) (gs : List Piece) → Timed r → Comes SynopRead (walk (station_post ∷ indicators_post true ∷ wind_post ∷ []) r tail end gs)
+unfolding with_head with_said
 at-station =
-    post-walks stationPost (indicatorsPost true ∷ windPost ∷ [])
-    (λ g r has x. gives-told (λ y. with_head y r) (λ n. set_site (setStation (number.Is n) r.site) r) (λ n. refl) (λ f. refl) (station-told g)
+    post-walks station_post (indicators_post true ∷ wind_post ∷ [])
+    (λ g r has x. gives-told (λ y. with_head y r) (λ n. set_site (set_station (number.Is n) r.site) r) (λ n. refl) (λ f. refl) (station-told g)
     (λ n t. (x.0, rw x.1.1 (land-head x.1.0 n x.1.2 t), x.2)))
     (λ e r x. never e) (at-indicators false true (λ e. refl))
 
-land-walks : (r : Synop) (tail : Tail) (end : ℕ) (gs : List Piece) → Started false r → Comes SynopRead (walk (timePost ∷ stationPost ∷ indicatorsPost true ∷ windPost ∷ []) r tail end gs)
-unfolding with_head withSaid
+land-walks : (r : Synop) (tail : Tail) (end : ℕ) (gs : List Piece) → Started false r → Comes SynopRead (walk (time_post ∷ station_post ∷ indicators_post true ∷ wind_post ∷ []) r tail end gs)
+unfolding with_head with_said
 land-walks =
-    post-walks timePost (stationPost ∷ indicatorsPost true ∷ windPost ∷ [])
-    (λ g r has x. gives-told (λ y. with_head y r) (λ t. set_site (setTime t r.site) r) (λ t. refl) (λ f. refl) (time-told g) (λ t f. (x.0, (t, ap (setTime t) x.1, f), x.2)))
+    post-walks time_post (station_post ∷ indicators_post true ∷ wind_post ∷ [])
+    (λ g r has x. gives-told (λ y. with_head y r) (λ t. set_site (set_time t r.site) r) (λ t. refl) (λ f. refl) (time-told g) (λ t f. (x.0, (t, ap (set_time t) x.1, f), x.2)))
     (λ e r x. never e) at-station
 
 -- ---- A SHIP
 
 abbrev Signed : Synop → Type 0
-Signed r = (r.ship ≡ true) × ((s : CallSign) × (r.site ≡ setSign s blankSite) × SignRead s) × Silent r
+Signed r = (r.ship ≡ true) × ((s : CallSign) × (r.site ≡ set_sign s blank_site) × SignRead s) × Silent r
 
 abbrev SignedTimed : Synop → Type 0
-SignedTimed r = (r.ship ≡ true) × ((s : CallSign) × (t : Time) × (r.site ≡ setTime t (setSign s blankSite)) × SignRead s × (judgeTime t ≡ judged.Fine)) × Silent r
+SignedTimed r = (r.ship ≡ true) × ((s : CallSign) × (t : Time) × (r.site ≡ set_time t (set_sign s blank_site)) × SignRead s × (judge_time t ≡ judged.Fine)) × Silent r
 
 abbrev Placed : Synop → Type 0
 Placed r =
     (r.ship ≡ true)
-    × ((s : CallSign) × (t : Time) × (p : Position) × (r.site ≡ setPosition p (setTime t (setSign s blankSite))) × SignRead s × (judgeTime t ≡ judged.Fine))
+    × ((s : CallSign) × (t : Time) × (p : Position) × (r.site ≡ set_position p (set_time t (set_sign s blank_site))) × SignRead s × (judge_time t ≡ judged.Fine))
     × Silent r
 
-ship-head : (s : CallSign) (t : Time) (p : Position) → SignRead s → judgeTime t ≡ judged.Fine → judgePosition p ≡ judged.Fine → HeadRead true (setPosition p (setTime t (setSign s blankSite)))
-unfolding judgeSite
+ship-head : (s : CallSign) (t : Time) (p : Position) → SignRead s → judge_time t ≡ judged.Fine → judge_position p ≡ judged.Fine → HeadRead true (set_position p (set_time t (set_sign s blank_site)))
+unfolding judge_site
 ship-head s t p a b c = record { fine = rw (a.fine, b, c); own = refl; heard = refl; nine = a.nine }
 
-at-longitude : (r : Synop) (tail : Tail) (end : ℕ) (gs : List Piece) → Placed r → Comes SynopRead (walk (longitudePost ∷ indicatorsPost false ∷ windPost ∷ []) r tail end gs)
-unfolding with_head withSaid
+at-longitude : (r : Synop) (tail : Tail) (end : ℕ) (gs : List Piece) → Placed r → Comes SynopRead (walk (longitude_post ∷ indicators_post false ∷ wind_post ∷ []) r tail end gs)
+unfolding with_head with_said
 at-longitude =
-    post-walks longitudePost (indicatorsPost false ∷ windPost ∷ [])
-    (λ g r has x. gives-told (λ y. with_head y r) (λ p. set_site (setPosition p r.site) r) (λ p. refl) (λ f. refl) (longitude-told r.site.position g)
+    post-walks longitude_post (indicators_post false ∷ wind_post ∷ [])
+    (λ g r has x. gives-told (λ y. with_head y r) (λ p. set_site (set_position p r.site) r) (λ p. refl) (λ f. refl) (longitude-told r.site.position g)
     (λ p t. (x.0, rw x.1.3 (ship-head x.1.0 x.1.1 p x.1.4 x.1.5 t), x.2)))
     (λ e r x. never e) (at-indicators true false (λ e. never e))
 
-at-latitude : (r : Synop) (tail : Tail) (end : ℕ) (gs : List Piece) → SignedTimed r → Comes SynopRead (walk (latitudePost ∷ longitudePost ∷ indicatorsPost false ∷ windPost ∷ []) r tail end gs)
-unfolding with_head withSaid
+at-latitude : (r : Synop) (tail : Tail) (end : ℕ) (gs : List Piece) → SignedTimed r → Comes SynopRead (walk (latitude_post ∷ longitude_post ∷ indicators_post false ∷ wind_post ∷ []) r tail end gs)
+unfolding with_head with_said
 at-latitude =
-    post-walks latitudePost (longitudePost ∷ indicatorsPost false ∷ windPost ∷ [])
-    (λ g r has x. gives-told (λ y. with_head y r) (λ p. set_site (setPosition p r.site) r) (λ p. refl) (λ f. refl) (latitude-told g)
-    (λ p t. (x.0, (x.1.0, x.1.1, p, ap (setPosition p) x.1.2, x.1.3, x.1.4), x.2)))
+    post-walks latitude_post (longitude_post ∷ indicators_post false ∷ wind_post ∷ [])
+    (λ g r has x. gives-told (λ y. with_head y r) (λ p. set_site (set_position p r.site) r) (λ p. refl) (λ f. refl) (latitude-told g)
+    (λ p t. (x.0, (x.1.0, x.1.1, p, ap (set_position p) x.1.2, x.1.3, x.1.4), x.2)))
     (λ e r x. never e) at-longitude
 
 at-ship-time : (r : Synop) (tail : Tail) (end : ℕ) (gs : List Piece) → Signed r
-    → Comes SynopRead (walk (timePost ∷ latitudePost ∷ longitudePost ∷ indicatorsPost false ∷ windPost ∷ []) r tail end gs)
-unfolding with_head withSaid
+    → Comes SynopRead (walk (time_post ∷ latitude_post ∷ longitude_post ∷ indicators_post false ∷ wind_post ∷ []) r tail end gs)
+unfolding with_head with_said
 at-ship-time =
-    post-walks timePost (latitudePost ∷ longitudePost ∷ indicatorsPost false ∷ windPost ∷ [])
-    (λ g r has x. gives-told (λ y. with_head y r) (λ t. set_site (setTime t r.site) r) (λ t. refl) (λ f. refl) (time-told g)
-    (λ t f. (x.0, (x.1.0, t, ap (setTime t) x.1.1, x.1.2, f), x.2)))
+    post-walks time_post (latitude_post ∷ longitude_post ∷ indicators_post false ∷ wind_post ∷ [])
+    (λ g r has x. gives-told (λ y. with_head y r) (λ t. set_site (set_time t r.site) r) (λ t. refl) (λ f. refl) (time-told g)
+    (λ t f. (x.0, (x.1.0, t, ap (set_time t) x.1.1, x.1.2, f), x.2)))
     (λ e r x. never e) at-latitude
 
 ship-walks : (r : Synop) (tail : Tail) (end : ℕ) (gs : List Piece) → Started true r
-    → Comes SynopRead (walk (signPost ∷ timePost ∷ latitudePost ∷ longitudePost ∷ indicatorsPost false ∷ windPost ∷ []) r tail end gs)
+    → Comes SynopRead (walk (sign_post ∷ time_post ∷ latitude_post ∷ longitude_post ∷ indicators_post false ∷ wind_post ∷ []) r tail end gs)
 ship-walks =
-    post-walks signPost (timePost ∷ latitudePost ∷ longitudePost ∷ indicatorsPost false ∷ windPost ∷ [])
-    (λ g r has x. good (x.0, (sign_of g, ap (setSign (sign_of g)) x.1, sign_read g has), x.2))
+    post-walks sign_post (time_post ∷ latitude_post ∷ longitude_post ∷ indicators_post false ∷ wind_post ∷ [])
+    (λ g r has x. good (x.0, (sign_of g, ap (set_sign (sign_of g)) x.1, sign_read g has), x.2))
     (λ e r x. never e) at-ship-time
 
 -- WHATEVER SYNOP OR SHIP IS ACCEPTED IS JUDGED FINE, AND COMES BACK AS IT IS.
-pub synop-read : (ship : Bool) (tail : Tail) (end : ℕ) (gs : List Piece) → Comes SynopRead (groupsRead ship tail end gs)
-unfolding groupsRead posts
+pub synop-read : (ship : Bool) (tail : Tail) (end : ℕ) (gs : List Piece) → Comes SynopRead (groups_read ship tail end gs)
+unfolding groups_read posts
 synop-read false tail end gs = land-walks (begun false) tail end gs (refl, refl, (refl, refl))
 synop-read true tail end gs = ship-walks (begun true) tail end gs (refl, refl, (refl, refl))

@@ -18,16 +18,16 @@ use Rattle.scales.specs.declared.kinds.Tenths.TheVariants as tenths
 use Rattle.scales.specs.declared.kinds.Rain.{Rain}
 use Rattle.scales.specs.declared.kinds.RainReading.{RainReading}
 use Rattle.scales.specs.declared.kinds.RainReading.TheVariants as amount
-use Rattle.scales.specs.Scale.{Scale, footOf}
-use Rattle.scales.specs.Metres.{metresReading}
+use Rattle.scales.specs.Scale.{Scale, foot_of}
+use Rattle.scales.specs.Metres.{metres_reading}
 use Rattle.scales.proofs.MetresRounds.{MetresRounds}
 use Rattle.places.specs.Engine.{Group, Read, Good, Bad}
 use Rattle.record.specs.declared.values.Number.{Number}
 use Rattle.record.specs.declared.values.Number.TheVariants as number
-use Rattle.record.specs.Missing.{isMissing, between, optional}
+use Rattle.record.specs.Missing.{is_missing, between, optional}
 use Rattle.synop_groups.specs.declared.kinds.Said.{Said}
 use Rattle.synop_groups.specs.declared.kinds.Said.TheVariants as said
-use Rattle.synop_groups.specs.Reads.{figured, mayMiss, missing, part, used, usedTenths, usedRain, unless, either_of}
+use Rattle.synop_groups.specs.Reads.{figured, may_miss, missing, part, used, used_tenths, used_rain, unless, either_of}
 use Rattle.accepted_laws.proofs.Gives.{Gives, good, bad}
 use Rattle.accepted_laws.proofs.Values.{metres-own, metres-low}
 use Rattle.accepted_laws.proofs.Fields.{field_bound}
@@ -54,7 +54,7 @@ module _ {A : Type 0} {make : A → Said} {P : A → Type 0} where
   tells-figured field.Mixed p = refused
   tells-figured field.Other p = refused
 
-  pub tells-may-miss : (f : Field) {x : Said} {k : ℕ → Said} → (f ≡ field.Missing → Tells make P x) → ((n : ℕ) → f ≡ field.Number n → Tells make P (k n)) → Tells make P (mayMiss f x k)
+  pub tells-may-miss : (f : Field) {x : Said} {k : ℕ → Said} → (f ≡ field.Missing → Tells make P x) → ((n : ℕ) → f ≡ field.Number n → Tells make P (k n)) → Tells make P (may_miss f x k)
   tells-may-miss (field.Number n) q p = p n refl
   tells-may-miss field.Missing q p = q refl
   tells-may-miss field.Mixed q p = refused
@@ -68,7 +68,7 @@ module _ {A : Type 0} {make : A → Said} {P : A → Type 0} where
 
   -- a part of w figures that may be missing: its field is, where it is
   pub tells-part-or-none : (g : Group) (at w most : ℕ) (k : Number → Said) → 10 ^ w ≤ most + 1
-      → ((x : Number) → optional (between 0 most) x ≡ true → (isMissing x ≡ true → field_at g at w ≡ field.Missing) → Tells make P (k x)) → Tells make P (part (field_at g at w) k)
+      → ((x : Number) → optional (between 0 most) x ≡ true → (is_missing x ≡ true → field_at g at w ≡ field.Missing) → Tells make P (k x)) → Tells make P (part (field_at g at w) k)
   tells-part-or-none g at w most k few p = go (field_at g at w) refl
     where
       go : (f : Field) → field_at g at w ≡ f → Tells make P (part f k)
@@ -88,19 +88,19 @@ module _ {A : Type 0} {make : A → Said} {P : A → Type 0} where
 
   -- metres by one of two scales, that of the figures from 90 on being the upper: what is read is its own foot and may be written
   pub tells-either : {X : Type 0} (Q : X → Type 0) (lower upper : Scale ℕ) (low high : ℕ → X) (none : X) (f : Field) (k : X → Said) → MetresRounds lower → MetresRounds upper
-      → (f ≡ field.Missing → Q none) → ((m : ℕ) → leb m 99999 ≡ true → footOf lower m ≡ m → Q (low m)) → ((m : ℕ) → leb m 99999 ≡ true → footOf upper m ≡ m → Q (high m))
+      → (f ≡ field.Missing → Q none) → ((m : ℕ) → leb m 99999 ≡ true → foot_of lower m ≡ m → Q (low m)) → ((m : ℕ) → leb m 99999 ≡ true → foot_of upper m ≡ m → Q (high m))
       → ((x : X) → Q x → Tells make P (k x)) → Tells make P (either_of lower low upper high none f k)
   tells-either Q lower upper low high none f k below above missed lowly highly p =
       tells-may-miss f (λ m. p none (missed m))
       (λ n e. tells-cond (leb 90 n)
-      (λ s. tells-used (metresReading upper n) (λ m r. p (high m) (highly m (metres-low upper above n m r) (metres-own upper above n m r))))
-      (λ s. tells-used (metresReading lower n) (λ m r. p (low m) (lowly m (metres-low lower below n m r) (metres-own lower below n m r)))))
+      (λ s. tells-used (metres_reading upper n) (λ m r. p (high m) (highly m (metres-low upper above n m r) (metres-own upper above n m r))))
+      (λ s. tells-used (metres_reading lower n) (λ m r. p (low m) (lowly m (metres-low lower below n m r) (metres-own lower below n m r)))))
 
-  pub tells-tenths : (x : Tenths) {k : ℤ → Said} → ((t : ℤ) → x ≡ tenths.Is t → Tells make P (k t)) → Tells make P (usedTenths x k)
+  pub tells-tenths : (x : Tenths) {k : ℤ → Said} → ((t : ℤ) → x ≡ tenths.Is t → Tells make P (k t)) → Tells make P (used_tenths x k)
   tells-tenths (tenths.Is t) p = p t refl
   tells-tenths tenths.Unused p = refused
 
-  pub tells-rain : (x : RainReading) {k : Rain → Said} → ((r : Rain) → x ≡ amount.Is r → Tells make P (k r)) → Tells make P (usedRain x k)
+  pub tells-rain : (x : RainReading) {k : Rain → Said} → ((r : Rain) → x ≡ amount.Is r → Tells make P (k r)) → Tells make P (used_rain x k)
   tells-rain (amount.Is r) p = p r refl
   tells-rain amount.Unused p = refused
 

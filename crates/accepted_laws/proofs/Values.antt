@@ -14,10 +14,10 @@ use Rattle.scales.specs.declared.kinds.Tenths.TheVariants as tenths
 use Rattle.scales.specs.declared.kinds.Range.{Range}
 use Rattle.scales.specs.declared.kinds.Rain.{Rain}
 use Rattle.scales.specs.declared.kinds.RainReading.TheVariants as amount
-use Rattle.scales.specs.Scale.{Scale, footOf}
-use Rattle.scales.specs.Metres.{runway, metresFigure, metresReading, rangeFigure, rangeReading}
-use Rattle.scales.specs.Rounded.{directionReading, dddFigure, dddReading, roundedDirection, pressureFigure, pressureReading, roundedPressure, rainReading, roundedRain}
-use Rattle.scales.specs.Degrees.{degreesFit, degreesReading, roundedDegrees}
+use Rattle.scales.specs.Scale.{Scale, foot_of}
+use Rattle.scales.specs.Metres.{runway, metres_figure, metres_reading, range_figure, range_reading}
+use Rattle.scales.specs.Rounded.{direction_reading, ddd_figure, ddd_reading, rounded_direction, pressure_figure, pressure_reading, rounded_pressure, rain_reading, rounded_rain}
+use Rattle.scales.specs.Degrees.{degrees_fit, degrees_reading, rounded_degrees}
 use Rattle.scales.proofs.Rounds.{Rounds}
 use Rattle.scales.proofs.MetresRounds.{MetresRounds, runway-rounds}
 use Rattle.scales.proofs.DirectionLaws.{direction-rounds, rounded-below}
@@ -35,56 +35,56 @@ in-range : {A : Type 0} (b : Bool) (x y z : A) → (y ≡ z → ⊥) → cond b 
 in-range true x y z no-figure e = refl
 in-range false x y z no-figure e = absurd (no-figure e)
 
-module _ (s : Scale ℕ) (rounds : MetresRounds s) (f m : ℕ) (e : metresReading s f ≡ reading.Is m) where
-  pub metres-own : footOf s m ≡ m
+module _ (s : Scale ℕ) (rounds : MetresRounds s) (f m : ℕ) (e : metres_reading s f ≡ reading.Is m) where
+  pub metres-own : foot_of s m ≡ m
   metres-own = let back = back-own rounds f m e in cc
 
   pub metres-low : leb m 99999 ≡ true
-  unfolding metresFigure
+  unfolding metres_figure
   metres-low = in-range (leb m 99999) _ _ _ (λ i. impossible (cc)) (rounds.own f m e)
 
-module _ (f : Range) (m : ℕ) (e : rangeReading f ≡ reading.Is m) where
-  pub range-own : footOf runway m ≡ m
+module _ (f : Range) (m : ℕ) (e : range_reading f ≡ reading.Is m) where
+  pub range-own : foot_of runway m ≡ m
   range-own = let back = back-own runway-rounds f m e in cc
 
   pub range-low : leb m 99999 ≡ true
-  unfolding rangeFigure
+  unfolding range_figure
   range-low = in-range (leb m 99999) _ _ _ (λ i. impossible (cc)) (runway-rounds.own f m e)
 
-module _ (f d : ℕ) (e : directionReading f ≡ reading.Is d) where
-  pub direction-own : roundedDirection d ≡ d
+module _ (f d : ℕ) (e : direction_reading f ≡ reading.Is d) where
+  pub direction-own : rounded_direction d ≡ d
   direction-own = let back = back-own direction-rounds f d e in cc
 
   pub direction-low : leb d 359 ≡ true
   direction-low = let own = direction-own in le-leb d 359 (omega (arith, rounded-below d, own))
 
 -- "ddd 010-360 by tens"
-pub tens-read : (f d : ℕ) → dddReading f ≡ reading.Is d → directionReading (f / 10) ≡ reading.Is d
+pub tens-read : (f d : ℕ) → ddd_reading f ≡ reading.Is d → direction_reading (f / 10) ≡ reading.Is d
 tens-read f d e = let b = in-range (eqb (f % 10) 0) _ _ _ (λ i. impossible (cc)) e in rw b at e
 
 -- and that is the figure of what is read
-pub ddd-own : (f d : ℕ) → dddReading f ≡ reading.Is d → dddFigure d ≡ f
+pub ddd-own : (f d : ℕ) → ddd_reading f ≡ reading.Is d → ddd_figure d ≡ f
 ddd-own f d e =
     let tens = in-range (eqb (f % 10) 0) _ _ _ (λ i. impossible (cc)) e in
     let own = direction-rounds.own (f / 10) d (tens-read f d e) in
     let z = eqb-true (f % 10) 0 tens in
     rw own (omega (arith, z, mod-add-div' f 10))
 
-module _ (f p : ℕ) (e : pressureReading f ≡ reading.Is p) where
-  pub pressure-own : roundedPressure p ≡ p
+module _ (f p : ℕ) (e : pressure_reading f ≡ reading.Is p) where
+  pub pressure-own : rounded_pressure p ≡ p
   pressure-own = let back = back-own pressure-rounds f p e in cc
 
   pub pressure-low : leb p 99999 ≡ true
-  unfolding pressureFigure
+  unfolding pressure_figure
   pressure-low = in-range (leb p 99999) _ _ _ (λ i. impossible (cc)) (pressure-rounds.own f p e)
 
-module _ (minus : Bool) (n : ℕ) (t : ℤ) (e : degreesReading minus n ≡ tenths.Is t) where
-  pub degrees-own : roundedDegrees t ≡ t
+module _ (minus : Bool) (n : ℕ) (t : ℤ) (e : degrees_reading minus n ≡ tenths.Is t) where
+  pub degrees-own : rounded_degrees t ≡ t
   degrees-own = let back = back-own degrees-rounds (minus, n) t e in cc
 
-  pub degrees-fit : degreesFit t ≡ true
+  pub degrees-fit : degrees_fit t ≡ true
   degrees-fit = written-fits t minus n (degrees-rounds.own (minus, n) t e)
 
-module _ (f : ℕ) (r : Rain) (e : rainReading f ≡ amount.Is r) where
-  pub rain-own : roundedRain r ≡ r
+module _ (f : ℕ) (r : Rain) (e : rain_reading f ≡ amount.Is r) where
+  pub rain-own : rounded_rain r ≡ r
   rain-own = let back = back-own rain-rounds f r e in cc

@@ -10,13 +10,13 @@ use lib.Dec.{leb, eqb}
 use borrow.Author.Tests.{leb-true, eqb-true}
 use Rattle.figures.specs.Quote.{bytes}
 use Rattle.text.specs.declared.kinds.Judged.TheVariants as judged
-use Rattle.shapes.specs.Pattern.{hasPattern}
+use Rattle.shapes.specs.Pattern.{has_pattern}
 use Rattle.shapes.proofs.Patterns.{both, or_cases}
 use Rattle.places.specs.Engine.{Group, Read, Good}
 use Rattle.record.specs.declared.aerodrome.Intensity.{Intensity}
 use Rattle.record.specs.declared.aerodrome.Intensity.TheVariants as intensity
 use Rattle.record.specs.declared.aerodrome.Weather.{Weather}
-use Rattle.elements.specs.Weather.{codes_of, one, isDescriptor, isPrecipitation, isPhenomenon, allAmong, precipitations, single, suits, Joined, Bare, Under, joined, right, inVicinity, signed, letters, code_at, weatherOf, unsigned, with_sign, saidWeather, hasUnknown, unlessUnknown, readWeather, is_plain, onlyPlain, readRecent, gapless, listed, intensityFits, phenomenaFit, judgeWeather, judgeRecent}
+use Rattle.elements.specs.Weather.{codes_of, one, is_descriptor, is_precipitation, is_phenomenon, all_among, precipitations, single, suits, Joined, Bare, Under, joined, right, in_vicinity, signed, letters, code_at, weather_of, unsigned, with_sign, said_weather, has_unknown, unless_unknown, read_weather, is_plain, only_plain, read_recent, gapless, listed, intensity_fits, phenomena_fit, judge_weather, judge_recent}
 use Rattle.accepted_laws.proofs.Gives.{Gives, good, bad, gives_more, gives-cond, gives-provided, gives-agreeing}
 
 -- ---- codes of two letters
@@ -34,12 +34,12 @@ codes-paired (a ∷ b ∷ g) = (refl, codes-paired g)
 -- ---- what is joined rightly has three codes at most, beside a descriptor
 
 single-few : (test : List ℕ → Bool) (cs : List (List ℕ)) → single test cs ≡ true → length cs ≤ 3
-single-few test cs e = let n = eqb-true (length cs) 1 (both (eqb (length cs) 1) (allAmong test cs) e).0 in omega (arith, n)
+single-few test cs e = let n = eqb-true (length cs) 1 (both (eqb (length cs) 1) (all_among test cs) e).0 in omega (arith, n)
 
 falling-few : (cs : List (List ℕ)) → precipitations cs ≡ true → length cs ≤ 3
 falling-few cs e =
-    let t = (both (leb 1 (length cs) && leb (length cs) 3 && allAmong isPrecipitation cs) _ e).0 in
-    let u = (both (leb 1 (length cs) && leb (length cs) 3) (allAmong isPrecipitation cs) t).0 in
+    let t = (both (leb 1 (length cs) && leb (length cs) 3 && all_among is_precipitation cs) _ e).0 in
+    let u = (both (leb 1 (length cs) && leb (length cs) 3) (all_among is_precipitation cs) t).0 in
     leb-true (length cs) 3 (both (leb 1 (length cs)) (leb (length cs) 3) u).1
 
 none-few : (a : Bool) (cs : List (List ℕ)) → (a && eqb (length cs) 0) ≡ true → length cs ≤ 3
@@ -49,7 +49,7 @@ suits-few : (d : List ℕ) (cs : List (List ℕ)) → suits d cs ≡ true → le
 suits-few d cs e = go (one "MIBCPR" d) (one "DRBL" d) (one "SHTS" d) e
   where
     go : (a b c : Bool)
-        → cond a (single (one "FG") cs) (cond b (single (one "DUSASN") cs) (cond c (precipitations cs && allAmong (one "RASNPLGSGR") cs) (single (one "FG") cs || (precipitations cs && allAmong (one "DZRA") cs)))) ≡ true
+        → cond a (single (one "FG") cs) (cond b (single (one "DUSASN") cs) (cond c (precipitations cs && all_among (one "RASNPLGSGR") cs) (single (one "FG") cs || (precipitations cs && all_among (one "DZRA") cs)))) ≡ true
         → length cs ≤ 3
     go true b c e = single-few (one "FG") cs e
     go false true c e = single-few (one "DUSASN") cs e
@@ -61,16 +61,16 @@ Few (Bare cs) = length cs ≤ 3
 Few (Under d cs) = length cs ≤ 3
 
 right-few : (j : Joined) → right j ≡ true → Few j
-right-few (Bare cs) e = or_cases (single isPhenomenon cs) (precipitations cs) e (single-few isPhenomenon cs) (falling-few cs)
+right-few (Bare cs) e = or_cases (single is_phenomenon cs) (precipitations cs) e (single-few is_phenomenon cs) (falling-few cs)
 right-few (Under d cs) e = or_cases (one "TS" d && eqb (length cs) 0) (suits d cs) e (none-few (one "TS" d) cs) (suits-few d cs)
 
-near-few : (j : Joined) → inVicinity j ≡ true → Few j
+near-few : (j : Joined) → in_vicinity j ≡ true → Few j
 near-few (Bare cs) e = single-few (one "DSSSFGFCPOVA") cs e
 near-few (Under d cs) e =
     or_cases (one "SHTS" d && eqb (length cs) 0) (one "BL" d && single (one "DUSASN") cs) e (none-few (one "SHTS" d) cs)
     (λ h. single-few (one "DUSASN") cs (both (one "BL" d) (single (one "DUSASN") cs) h).1)
 
-fits-few : (i : Intensity) (j : Joined) → intensityFits i j ≡ true → Few j
+fits-few : (i : Intensity) (j : Joined) → intensity_fits i j ≡ true → Few j
 fits-few intensity.None j e = right-few j e
 fits-few intensity.Light j e = right-few j (both (right j) (signed false j) e).0
 fits-few intensity.Heavy j e = right-few j (both (right j) (signed true j) e).0
@@ -91,29 +91,29 @@ put (a ∷ b ∷ c ∷ d ∷ cs) p h = absurd (omega arith)
 
 abbrev Coded : Joined → Type 0
 Coded (Bare cs) = Paired cs
-Coded (Under d cs) = (d ≡ get_or d 0 0 ∷ get_or d 1 0 ∷ []) × (isDescriptor d ≡ true) × Paired cs
+Coded (Under d cs) = (d ≡ get_or d 0 0 ∷ get_or d 1 0 ∷ []) × (is_descriptor d ≡ true) × Paired cs
 
 joined-coded : (cs : List (List ℕ)) → Paired cs → Coded (joined cs)
 joined-coded [] p = tt
-joined-coded (c ∷ cs) p = go (isDescriptor c) refl
+joined-coded (c ∷ cs) p = go (is_descriptor c) refl
   where
-    go : (b : Bool) → isDescriptor c ≡ b → Coded (cond b (Under c cs) (Bare (c ∷ cs)))
+    go : (b : Bool) → is_descriptor c ≡ b → Coded (cond b (Under c cs) (Bare (c ∷ cs)))
     go true e = (p.0, e, p.1)
     go false e = p
 
-joined-fits : (i : Intensity) (j : Joined) → Coded j → intensityFits i j ≡ true → phenomenaFit (weatherOf i j).is ≡ true
+joined-fits : (i : Intensity) (j : Joined) → Coded j → intensity_fits i j ≡ true → phenomena_fit (weather_of i j).is ≡ true
 joined-fits i (Bare cs) p e = let q = put cs p (fits-few i (Bare cs) e) in rw (q.same, q.close) e
 joined-fits i (Under d cs) (two, is, p) e = let q = put cs p (fits-few i (Under d cs) e) in rw (q.same, q.close, ← two, is) e
 
 -- ---- what is said
 
 abbrev Fitting : Weather → Type 0
-Fitting w = phenomenaFit w.is ≡ true
+Fitting w = phenomena_fit w.is ≡ true
 
-said-as : (i : Intensity) (cs : List (List ℕ)) → Paired cs → intensityFits i (joined cs) ≡ true → Gives Fitting (Good (weatherOf i (joined cs)))
+said-as : (i : Intensity) (cs : List (List ℕ)) → Paired cs → intensity_fits i (joined cs) ≡ true → Gives Fitting (Good (weather_of i (joined cs)))
 said-as i cs p e = good (joined-fits i (joined cs) (joined-coded cs p) e)
 
-sign_fits : (heavy : Bool) (j : Joined) → (right j && signed heavy j) ≡ true → intensityFits (cond heavy intensity.Heavy intensity.Light) j ≡ true
+sign_fits : (heavy : Bool) (j : Joined) → (right j && signed heavy j) ≡ true → intensity_fits (cond heavy intensity.Heavy intensity.Light) j ≡ true
 sign_fits true j e = e
 sign_fits false j e = e
 
@@ -123,11 +123,11 @@ signed-said heavy cs p = gives-provided (right (joined cs) && signed heavy (join
 unsigned-said : (cs : List (List ℕ)) → Paired cs → Gives Fitting (unsigned cs)
 unsigned-said [] p = bad
 unsigned-said (c ∷ cs) p =
-    gives-cond (one "VC" c) (λ v. gives-provided (inVicinity (joined cs)) (said-as intensity.Vicinity cs p.1))
+    gives-cond (one "VC" c) (λ v. gives-provided (in_vicinity (joined cs)) (said-as intensity.Vicinity cs p.1))
     (λ v. gives-provided (right (joined (c ∷ cs))) (said-as intensity.None (c ∷ cs) p))
 
-weather-said : (g : Group) → Gives Fitting (saidWeather g)
-unfolding saidWeather
+weather-said : (g : Group) → Gives Fitting (said_weather g)
+unfolding said_weather
 weather-said [] = bad
 weather-said (b ∷ g) =
     gives-cond (eqb b 43) (λ e. signed-said true (codes_of g) (codes-paired g))
@@ -136,22 +136,22 @@ weather-said (b ∷ g) =
 -- ---- PRESENT AND RECENT WEATHER
 
 unless-unknown : (automatic : Bool) {P : Weather → Type 0} {x : Read Weather} → Gives P x
-    → Gives (λ w. P w × ((automatic || not (hasUnknown w.is)) ≡ true)) (unlessUnknown automatic x)
-unless-unknown automatic (good {a = w} p) = gives-agreeing (automatic || not (hasUnknown w.is)) (λ e. good (p, e))
+    → Gives (λ w. P w × ((automatic || not (has_unknown w.is)) ≡ true)) (unless_unknown automatic x)
+unless-unknown automatic (good {a = w} p) = gives-agreeing (automatic || not (has_unknown w.is)) (λ e. good (p, e))
 unless-unknown automatic bad = bad
 
-pub weather-read : (forecast automatic : Bool) (g : Group) → Gives (λ w. judgeWeather forecast automatic false w ≡ judged.Fine) (readWeather forecast automatic g)
-unfolding readWeather judgeWeather
+pub weather-read : (forecast automatic : Bool) (g : Group) → Gives (λ w. judge_weather forecast automatic false w ≡ judged.Fine) (read_weather forecast automatic g)
+unfolding read_weather judge_weather
 weather-read forecast automatic g =
-    gives-cond (hasPattern g (bytes "//")) (λ m. gives-provided (not forecast) (λ n. good (rw (n, or-true automatic))))
+    gives-cond (has_pattern g (bytes "//")) (λ m. gives-provided (not forecast) (λ n. good (rw (n, or-true automatic))))
     (λ m. gives_more (unless-unknown automatic (weather-said g)) (λ w f. rw (f.0, f.1)))
 
-only-plain : {P : Weather → Type 0} {x : Read Weather} → Gives P x → Gives (λ w. P w × (is_plain w.is ≡ true)) (onlyPlain x)
+only-plain : {P : Weather → Type 0} {x : Read Weather} → Gives P x → Gives (λ w. P w × (is_plain w.is ≡ true)) (only_plain x)
 only-plain (good {a = w} p) = gives-provided (is_plain w.is) (λ e. good (p, e))
 only-plain bad = bad
 
-pub recent-read : (automatic : Bool) (g : Group) → Gives (λ w. judgeRecent automatic w ≡ judged.Fine) (readRecent automatic g)
-unfolding readRecent judgeRecent
+pub recent-read : (automatic : Bool) (g : Group) → Gives (λ w. judge_recent automatic w ≡ judged.Fine) (read_recent automatic g)
+unfolding read_recent judge_recent
 recent-read automatic [] = bad
 recent-read automatic (r ∷ []) = bad
 recent-read automatic (r ∷ e ∷ g) = gives_more (unless-unknown automatic (only-plain (weather-said g))) (λ w f. rw (f.0.0, f.0.1, f.1))

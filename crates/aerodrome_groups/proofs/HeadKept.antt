@@ -8,33 +8,33 @@ use mathlib.Core.Bool.{Bool, true, false}
 use mathlib.Core.List.{[], ◌∷◌}
 use Rattle.figures.specs.Quote.{bytes}
 use Rattle.text.specs.declared.kinds.Judged.TheVariants as judged
-use Rattle.shapes.specs.Pattern.{low, high, hasPattern}
+use Rattle.shapes.specs.Pattern.{low, high, has_pattern}
 use Rattle.places.proofs.ReadBack.{one-pattern}
 use Rattle.places.proofs.Sizes.{measured, sized-any}
 use Rattle.places.proofs.Kept.{Kept, keep_one, keep-none}
 use Rattle.record.specs.declared.aerodrome.Instant.{Instant}
 use Rattle.record.specs.declared.aerodrome.Station.{Station}
-use Rattle.aerodrome_groups.specs.Head.{stationShape, stationOf, timeShape, showTime, judgeStation, judgeTime, wordPlace, stationPlace, timePlace}
+use Rattle.aerodrome_groups.specs.Head.{station_shape, station_of, time_shape, show_time, judge_station, judge_time, word_place, station_place, time_place}
 use Rattle.aerodrome_groups.proofs.HeadBack.{station-shaped, station-whole, time-shaped, time-back}
 
-pub kept_word : (word : String) (ends : Bool) (n : ℕ) (x : Bool) → hasPattern (bytes word) (bytes word) ≡ true → measured n (bytes word ∷ []) ≡ true
-    → Kept (wordPlace word ends) n x false
+pub kept_word : (word : String) (ends : Bool) (n : ℕ) (x : Bool) → has_pattern (bytes word) (bytes word) ≡ true → measured n (bytes word ∷ []) ≡ true
+    → Kept (word_place word ends) n x false
 kept_word word ends n true own room =
     let covered = one-pattern (bytes word) (bytes word) own in
     keep_one (bytes word) refl own covered (sized-any n (bytes word ∷ []) (bytes word) room covered) (omega arith) refl
 kept_word word ends n false own room = keep-none refl refl refl
 
-pub kept-station : (s acc : Station) → judgeStation s ≡ judged.Fine → Kept stationPlace 4 s acc
-unfolding stationOf low high
+pub kept-station : (s acc : Station) → judge_station s ≡ judged.Fine → Kept station_place 4 s acc
+unfolding station_of low high
 kept-station s acc e =
     let t = station-shaped s e in
-    let covered = one-pattern stationShape s.letters t.0 in
-    keep_one s.letters refl t.0 covered (sized-any 4 (stationShape ∷ []) s.letters refl covered) (omega arith)
+    let covered = one-pattern station_shape s.letters t.0 in
+    keep_one s.letters refl t.0 covered (sized-any 4 (station_shape ∷ []) s.letters refl covered) (omega arith)
     (rw (station-whole s.letters t.0, t.1))
 
-pub kept-time : (t acc : Instant) → judgeTime t ≡ judged.Fine → Kept timePlace 7 t acc
+pub kept-time : (t acc : Instant) → judge_time t ≡ judged.Fine → Kept time_place 7 t acc
 unfolding low high
 kept-time t acc e =
     let s = time-shaped t e in
-    let covered = one-pattern timeShape (showTime t) s in
-    keep_one (showTime t) refl s covered (sized-any 7 (timeShape ∷ []) (showTime t) refl covered) (omega arith) (rw (time-back t e))
+    let covered = one-pattern time_shape (show_time t) s in
+    keep_one (show_time t) refl s covered (sized-any 7 (time_shape ∷ []) (show_time t) refl covered) (omega arith) (rw (time-back t e))

@@ -6,8 +6,8 @@ use mathlib.Core.Path.{◌≡◌, refl}
 use mathlib.Core.List.{List, [], ◌∷◌, map}
 use lib.IntN.{ℤ}
 use Rattle.scales.specs.Metres.{runway}
-use Rattle.scales.specs.Degrees.{roundedDegrees}
-use Rattle.scales.specs.Rounded.{roundedPressure}
+use Rattle.scales.specs.Degrees.{rounded_degrees}
+use Rattle.scales.specs.Rounded.{rounded_pressure}
 use Rattle.scales.proofs.MetresLaws.{runway-laws}
 use Rattle.scales.proofs.DegreesLaws.{DegreesNear, degrees-near}
 use Rattle.scales.proofs.PressureLaws.{PressureNear, pressure-near}
@@ -20,30 +20,30 @@ use Rattle.record.specs.declared.aerodrome.Runways.{Runways}
 use Rattle.record.specs.declared.aerodrome.Temperatures.{Temperatures}
 use Rattle.record.specs.declared.aerodrome.Qnh.{Qnh}
 use Rattle.record.proofs.Near.{NumberDown, number-down}
-use Rattle.aerodrome_groups.specs.Runway.{classRange, classRunway, classRunways}
-use Rattle.aerodrome_groups.specs.Temperatures.{classTenths, classTemperatures, classPressure, classQnh}
+use Rattle.aerodrome_groups.specs.Runway.{class_range, class_runway, class_runways}
+use Rattle.aerodrome_groups.specs.Temperatures.{class_tenths, class_temperatures, class_pressure, class_qnh}
 
 -- ---- which number comes back, and how far off
 
 -- a runway range and its reading
-pub range-kept : (x : Number) → NumberDown runway x (classRange x)
+pub range-kept : (x : Number) → NumberDown runway x (class_range x)
 range-kept = number-down runway-laws
 
 -- a temperature and its reading, which is that of its class
 pub data TenthsKept : Tenths → Tenths → Type 0 where
   no-tenths : TenthsKept tenths.Missing tenths.Missing
-  near-tenths : {t u : ℤ} → u ≡ roundedDegrees t → DegreesNear t u → TenthsKept (tenths.Is t) (tenths.Is u)
+  near-tenths : {t u : ℤ} → u ≡ rounded_degrees t → DegreesNear t u → TenthsKept (tenths.Is t) (tenths.Is u)
 
-pub tenths-kept : (x : Tenths) → TenthsKept x (classTenths x)
+pub tenths-kept : (x : Tenths) → TenthsKept x (class_tenths x)
 tenths-kept tenths.Missing = no-tenths
 tenths-kept (tenths.Is t) = near-tenths refl (degrees-near t)
 
 -- Q and its reading, which is that of its class
 pub data PressureKept : Number → Number → Type 0 where
   no-pressure : PressureKept number.Missing number.Missing
-  near-pressure : {p q : ℕ} → q ≡ roundedPressure p → PressureNear p q → PressureKept (number.Is p) (number.Is q)
+  near-pressure : {p q : ℕ} → q ≡ rounded_pressure p → PressureNear p q → PressureKept (number.Is p) (number.Is q)
 
-pub pressure-kept : (x : Number) → PressureKept x (classPressure x)
+pub pressure-kept : (x : Number) → PressureKept x (class_pressure x)
 pressure-kept number.Missing = no-pressure
 pressure-kept (number.Is p) = near-pressure refl (pressure-near p)
 
@@ -71,18 +71,18 @@ pub record TemperaturesKept (t u : Temperatures) : Type 0 where
 pub record QnhKept (p q : Qnh) : Type 0 where
   pub is : PressureKept p.is q.is
 
-runway-kept : (w : Runway) → RunwayKept w (classRunway w)
+runway-kept : (w : Runway) → RunwayKept w (class_runway w)
 runway-kept w = record { number = refl; side = refl; range = range-kept w.range; course = refl }
 
-each-kept : (ws : List Runway) → EachKept ws (map classRunway ws)
+each-kept : (ws : List Runway) → EachKept ws (map class_runway ws)
 each-kept [] = no-runway
 each-kept (w ∷ ws) = one_more (runway-kept w) (each-kept ws)
 
-pub runways-kept : (rs : Runways) → RunwaysKept rs (classRunways rs)
+pub runways-kept : (rs : Runways) → RunwaysKept rs (class_runways rs)
 runways-kept rs = record { items = each-kept rs.items; count = refl }
 
-pub temperatures-kept : (t : Temperatures) → TemperaturesKept t (classTemperatures t)
+pub temperatures-kept : (t : Temperatures) → TemperaturesKept t (class_temperatures t)
 temperatures-kept t = record { air = tenths-kept t.air; dew = tenths-kept t.dew }
 
-pub qnh-kept : (q : Qnh) → QnhKept q (classQnh q)
+pub qnh-kept : (q : Qnh) → QnhKept q (class_qnh q)
 qnh-kept q = record { is = pressure-kept q.is }

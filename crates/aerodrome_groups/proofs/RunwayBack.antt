@@ -8,17 +8,17 @@ use mathlib.Core.List.{List, [], ◌∷◌}
 use lib.Dec.{leb}
 use borrow.Author.Tests.{leb-true}
 use Rattle.figures.specs.Quote.{bytes}
-use Rattle.shapes.specs.Pattern.{low, high, hasAny}
+use Rattle.shapes.specs.Pattern.{low, high, has_any}
 use Rattle.shapes.specs.declared.kinds.Value.{Value}
-use Rattle.shapes.specs.Shape.{leading, split, parts_of, spellings, unled, unledEach, clear, printable, sound, hasShape}
+use Rattle.shapes.specs.Shape.{leading, split, parts_of, spellings, unled, unled_each, clear, printable, sound, has_shape}
 use Rattle.shapes.proofs.Patterns.{both}
 use Rattle.shapes.proofs.Shapes.{covered}
 use Rattle.places.specs.Engine.{Group, Good}
 use Rattle.scales.specs.declared.kinds.Range.{Range}
 use Rattle.scales.specs.declared.kinds.Range.TheVariants as range
 use Rattle.scales.specs.declared.kinds.Reading.TheVariants as reading
-use Rattle.scales.specs.Scale.{run, figureOf, footOf}
-use Rattle.scales.specs.Metres.{runway, answered, rangeReading}
+use Rattle.scales.specs.Scale.{run, figure_of, foot_of}
+use Rattle.scales.specs.Metres.{runway, answered, range_reading}
 use Rattle.scales.proofs.Laws.{figure-such}
 use Rattle.scales.proofs.Answers.{foot-low}
 use Rattle.scales.proofs.MetresLaws.{runway-laws}
@@ -29,14 +29,14 @@ use Rattle.record.specs.declared.aerodrome.Side.TheVariants as side
 use Rattle.record.specs.declared.aerodrome.Course.{Course}
 use Rattle.record.specs.declared.aerodrome.Course.TheVariants as course
 use Rattle.record.specs.declared.aerodrome.Runway.{Runway}
-use Rattle.elements.specs.Judge.{metresFit}
+use Rattle.elements.specs.Judge.{metres_fit}
 use Rattle.elements.specs.Wind.{chosen, numbered}
 use Rattle.aerodrome_groups.specs.Head.{field_of}
-use Rattle.aerodrome_groups.specs.Runway.{runwayShape, side_of, courseOf, readRange, runwayBy, readRunway, sideValue, courseValue, mark_of, figuresOf, markValue, rangeValue, showRunway, isRunway, classRange, classRunway}
+use Rattle.aerodrome_groups.specs.Runway.{runway_shape, side_of, course_of, read_range, runway_by, read_runway, side_value, course_value, mark_of, figures_of, mark_value, range_value, show_runway, is_runway, class_range, class_runway}
 use Rattle.aerodrome_groups.proofs.Printed.{SaidAt, Shaped, Printed, printed}
 
-pub runway-covered : (g : Group) → hasShape runwayShape g ≡ true → hasAny (spellings (parts_of runwayShape)) g ≡ true
-runway-covered g h = covered runwayShape g h
+pub runway-covered : (g : Group) → has_shape runway_shape g ≡ true → has_any (spellings (parts_of runway_shape)) g ≡ true
+runway-covered g h = covered runway_shape g h
 
 -- ---- every class of the scale is written in four figures
 
@@ -45,125 +45,125 @@ number_of (range.Below n) = n
 number_of (range.Exact n) = n
 number_of (range.Above n) = n
 
-four-figures : (m : ℕ) → number_of (figureOf runway m) ≤ 9999
+four-figures : (m : ℕ) → number_of (figure_of runway m) ≤ 9999
 four-figures m =
-    leb-true (number_of (figureOf runway m)) 9999 (figure-such (λ r. leb (number_of r) 9999) runway m (unfold runway run in refl))
+    leb-true (number_of (figure_of runway m)) 9999 (figure-such (λ r. leb (number_of r) 9999) runway m (unfold runway run in refl))
 
 -- ---- what is written can be said by the shape
 
-number-said : (n : Number) → isRunway n ≡ true → SaidAt (bytes "R##" ∷ []) (numbered 0 (field_of n))
+number-said : (n : Number) → is_runway n ≡ true → SaidAt (bytes "R##" ∷ []) (numbered 0 (field_of n))
 unfolding leading
 number-said number.Missing e = absurd (false≢true e)
 number-said (number.Is n) e = (refl, omega (arith, leb-true n 36 (both (leb 1 n) (leb n 36) e).1))
 
-side-said : (s : Side) → SaidAt (bytes "L" ∷ bytes "C" ∷ bytes "R" ∷ [] ∷ []) (sideValue s)
+side-said : (s : Side) → SaidAt (bytes "L" ∷ bytes "C" ∷ bytes "R" ∷ [] ∷ []) (side_value s)
 unfolding leading
 side-said side.None = (refl, refl)
 side-said side.Left = (refl, refl)
 side-said side.Centre = (refl, refl)
 side-said side.Right = (refl, refl)
 
-course-said : (c : Course) → SaidAt (bytes "U" ∷ bytes "D" ∷ bytes "N" ∷ [] ∷ []) (courseValue c)
+course-said : (c : Course) → SaidAt (bytes "U" ∷ bytes "D" ∷ bytes "N" ∷ [] ∷ []) (course_value c)
 unfolding leading
 course-said course.None = (refl, refl)
 course-said course.Up = (refl, refl)
 course-said course.Down = (refl, refl)
 course-said course.NoChange = (refl, refl)
 
-mark-said : (x : Number) → SaidAt (bytes "M" ∷ bytes "P" ∷ [] ∷ []) (markValue x)
+mark-said : (x : Number) → SaidAt (bytes "M" ∷ bytes "P" ∷ [] ∷ []) (mark_value x)
 unfolding leading
 mark-said number.Missing = (refl, refl)
-mark-said (number.Is m) = by (figureOf runway m)
+mark-said (number.Is m) = by (figure_of runway m)
   where
     by : (r : Range) → SaidAt (bytes "M" ∷ bytes "P" ∷ [] ∷ []) (mark_of r)
     by (range.Below n) = (refl, refl)
     by (range.Exact n) = (refl, refl)
     by (range.Above n) = (refl, refl)
 
-range-said : (x : Number) → SaidAt (bytes "####" ∷ []) (rangeValue x)
+range-said : (x : Number) → SaidAt (bytes "####" ∷ []) (range_value x)
 unfolding leading
 range-said number.Missing = (refl, tt)
-range-said (number.Is m) = by (figureOf runway m) (four-figures m)
+range-said (number.Is m) = by (figure_of runway m) (four-figures m)
   where
-    by : (r : Range) → number_of r ≤ 9999 → SaidAt (bytes "####" ∷ []) (figuresOf r)
+    by : (r : Range) → number_of r ≤ 9999 → SaidAt (bytes "####" ∷ []) (figures_of r)
     by (range.Below n) h = (refl, omega arith)
     by (range.Exact n) h = (refl, omega arith)
     by (range.Above n) h = (refl, omega arith)
 
 abbrev values_of : Runway → List Value
-values_of w = numbered 0 (field_of w.number) ∷ sideValue w.side ∷ chosen 0 ∷ markValue w.range ∷ rangeValue w.range ∷ courseValue w.course ∷ []
+values_of w = numbered 0 (field_of w.number) ∷ side_value w.side ∷ chosen 0 ∷ mark_value w.range ∷ range_value w.range ∷ course_value w.course ∷ []
 
-runway-sound : sound runwayShape ≡ true
-unfolding sound clear printable parts_of split leading spellings unledEach unled low high
+runway-sound : sound runway_shape ≡ true
+unfolding sound clear printable parts_of split leading spellings unled_each unled low high
 runway-sound = refl
 
-runway-printed : (w : Runway) → isRunway w.number ≡ true → Printed runwayShape (values_of w) (showRunway w)
-unfolding showRunway parts_of split leading
+runway-printed : (w : Runway) → is_runway w.number ≡ true → Printed runway_shape (values_of w) (show_runway w)
+unfolding show_runway parts_of split leading
 runway-printed w e =
-    printed runwayShape (values_of w) runway-sound
+    printed runway_shape (values_of w) runway-sound
     (number-said w.number e, (side-said w.side, ((refl, refl), (mark-said w.range, (range-said w.range, (course-said w.course, tt))))))
     refl
 
 -- ---- what was written is read back
 
-range_back : (x : Number) → readRange (markValue x) (rangeValue x) ≡ Good (classRange x)
+range_back : (x : Number) → read_range (mark_value x) (range_value x) ≡ Good (class_range x)
 range_back number.Missing = refl
-range_back (number.Is m) = by (figureOf runway m) (unfold rangeReading in ap answered (runway-laws.reads-back m))
+range_back (number.Is m) = by (figure_of runway m) (unfold range_reading in ap answered (runway-laws.reads-back m))
   where
-    by : (r : Range) → rangeReading r ≡ reading.Is (footOf runway m) → readRange (mark_of r) (figuresOf r) ≡ Good (number.Is (footOf runway m))
+    by : (r : Range) → range_reading r ≡ reading.Is (foot_of runway m) → read_range (mark_of r) (figures_of r) ≡ Good (number.Is (foot_of runway m))
     by (range.Below n) e = rw e
     by (range.Exact n) e = rw e
     by (range.Above n) e = rw e
 
-side-back : (s : Side) → side_of (sideValue s).which ≡ s
+side-back : (s : Side) → side_of (side_value s).which ≡ s
 side-back side.None = refl
 side-back side.Left = refl
 side-back side.Centre = refl
 side-back side.Right = refl
 
-course-back : (c : Course) → courseOf (courseValue c).which ≡ c
+course-back : (c : Course) → course_of (course_value c).which ≡ c
 course-back course.None = refl
 course-back course.Up = refl
 course-back course.Down = refl
 course-back course.NoChange = refl
 
-values-back : (n : Number) (s : Side) (x : Number) (c : Course) → isRunway n ≡ true
-    → runwayBy (numbered 0 (field_of n)) (sideValue s) (markValue x) (rangeValue x) (courseValue c) ≡ Good (record { number = n; side = s; range = classRange x; course = c })
+values-back : (n : Number) (s : Side) (x : Number) (c : Course) → is_runway n ≡ true
+    → runway_by (numbered 0 (field_of n)) (side_value s) (mark_value x) (range_value x) (course_value c) ≡ Good (record { number = n; side = s; range = class_range x; course = c })
 values-back number.Missing s x c e = absurd (false≢true e)
 values-back (number.Is n) s x c e = rw (e, range_back x, side-back s, course-back c)
 
 -- a runway that is judged fine
-abbrev pub runwayFits : Runway → Bool
-runwayFits w = isRunway w.number && metresFit false w.range
+abbrev pub runway_fits : Runway → Bool
+runway_fits w = is_runway w.number && metres_fit false w.range
 
-module _ (w : Runway) (e : runwayFits w ≡ true) where
-  pub runway-shaped : Shaped runwayShape (showRunway w)
-  runway-shaped = (runway-printed w (both (isRunway w.number) (metresFit false w.range) e).0).shaped
+module _ (w : Runway) (e : runway_fits w ≡ true) where
+  pub runway-shaped : Shaped runway_shape (show_runway w)
+  runway-shaped = (runway-printed w (both (is_runway w.number) (metres_fit false w.range) e).0).shaped
 
-  pub runway-back : readRunway (showRunway w) ≡ Good (classRunway w)
-  unfolding readRunway
+  pub runway-back : read_runway (show_runway w) ≡ Good (class_runway w)
+  unfolding read_runway
   runway-back =
-      let n = (both (isRunway w.number) (metresFit false w.range) e).0 in
+      let n = (both (is_runway w.number) (metres_fit false w.range) e).0 in
       let p = runway-printed w n in
       rw (p.says 0, p.says 1, p.says 3, p.says 4, p.says 5) (values-back w.number w.side w.range w.course n)
 
-  pub runway-classed : runwayFits (classRunway w) ≡ true
+  pub runway-classed : runway_fits (class_runway w) ≡ true
   runway-classed =
-      let t = both (isRunway w.number) (metresFit false w.range) e in
+      let t = both (is_runway w.number) (metres_fit false w.range) e in
       rw t.0 (by w.range t.1)
     where
-      by : (x : Number) → metresFit false x ≡ true → metresFit false (classRange x) ≡ true
+      by : (x : Number) → metres_fit false x ≡ true → metres_fit false (class_range x) ≡ true
       by number.Missing e = refl
       by (number.Is m) e = foot-low runway-laws m e
 
-pub runway-again : (w : Runway) → showRunway (classRunway w) ≡ showRunway w
-unfolding showRunway
+pub runway-again : (w : Runway) → show_runway (class_runway w) ≡ show_runway w
+unfolding show_runway
 runway-again w = rw (mark w.range, figures w.range)
   where
-    mark : (x : Number) → markValue (classRange x) ≡ markValue x
+    mark : (x : Number) → mark_value (class_range x) ≡ mark_value x
     mark number.Missing = refl
     mark (number.Is m) = ap mark_of (runway-laws.again m)
 
-    figures : (x : Number) → rangeValue (classRange x) ≡ rangeValue x
+    figures : (x : Number) → range_value (class_range x) ≡ range_value x
     figures number.Missing = refl
-    figures (number.Is m) = ap figuresOf (runway-laws.again m)
+    figures (number.Is m) = ap figures_of (runway-laws.again m)

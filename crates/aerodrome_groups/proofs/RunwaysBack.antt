@@ -19,102 +19,102 @@ use Rattle.places.proofs.Rows.{drop-map}
 use Rattle.places.proofs.ReadBack.{All}
 use Rattle.record.specs.declared.aerodrome.Runway.{Runway}
 use Rattle.record.specs.declared.aerodrome.Runways.{Runways}
-use Rattle.record.specs.Observation.{blankRunway, blankRunways}
+use Rattle.record.specs.Observation.{blank_runway, blank_runways}
 use Rattle.elements.specs.Parts.{then}
-use Rattle.record.specs.SilentAerodrome.{isBlankRunway}
+use Rattle.record.specs.SilentAerodrome.{is_blank_runway}
 use Rattle.record.proofs.AerodromeBlanks.{runway-blank}
 use Rattle.figures.specs.Figures.{every}
 use Rattle.figures.proofs.Every.{every-is}
-use Rattle.aerodrome_groups.specs.Runway.{runwayShape, readRunway, withRunway, showRunway, showRunways, judgeEachRunway, judgeRunways, classRunway, classRunways}
+use Rattle.aerodrome_groups.specs.Runway.{runway_shape, read_runway, with_runway, show_runway, show_runways, judge_each_runway, judge_runways, class_runway, class_runways}
 use Rattle.aerodrome_groups.proofs.Printed.{Shaped}
-use Rattle.aerodrome_groups.proofs.RunwayBack.{runwayFits, runway-shaped, runway-back, runway-again, runway-classed}
+use Rattle.aerodrome_groups.proofs.RunwayBack.{runway_fits, runway-shaped, runway-back, runway-again, runway-classed}
 
 -- groups read one after the other, from where k stand
-abbrev pub addEach : ℕ → List Group → Runways → Read Runways
-addEach k [] rs = Good rs
-addEach k (g ∷ gs) rs = then (readRunway g) (λ x. addEach (k + 1) gs (withRunway k rs x))
+abbrev pub add_each : ℕ → List Group → Runways → Read Runways
+add_each k [] rs = Good rs
+add_each k (g ∷ gs) rs = then (read_runway g) (λ x. add_each (k + 1) gs (with_runway k rs x))
 
 -- ---- what is judged fine
 
 abbrev EachFits : List Runway → Type 0
 EachFits [] = Unit {0}
-EachFits (w ∷ ws) = (runwayFits w ≡ true) × EachFits ws
+EachFits (w ∷ ws) = (runway_fits w ≡ true) × EachFits ws
 
-each_fits : (ws : List Runway) → judgeEachRunway ws ≡ judged.Fine → EachFits ws
+each_fits : (ws : List Runway) → judge_each_runway ws ≡ judged.Fine → EachFits ws
 each_fits [] e = tt
-each_fits (w ∷ ws) e = let t = and-then (judge (runwayFits w) true) (judgeEachRunway ws) e in ((fine (runwayFits w) true t.0).0, each_fits ws t.1)
+each_fits (w ∷ ws) e = let t = and-then (judge (runway_fits w) true) (judge_each_runway ws) e in ((fine (runway_fits w) true t.0).0, each_fits ws t.1)
 
-each-fine : (ws : List Runway) → EachFits ws → judgeEachRunway ws ≡ judged.Fine
+each-fine : (ws : List Runway) → EachFits ws → judge_each_runway ws ≡ judged.Fine
 each-fine [] f = refl
 each-fine (w ∷ ws) f = rw f.0 (each-fine ws f.1)
 
 record RunwaysFit (rs : Runways) : Type 0 where
   few : rs.count ≤ 4
-  past : every isBlankRunway (drop rs.count rs.items) ≡ true
+  past : every is_blank_runway (drop rs.count rs.items) ≡ true
   each : EachFits (take rs.count rs.items)
 
-runways-fit : (rs : Runways) → judgeRunways rs ≡ judged.Fine → RunwaysFit rs
-unfolding judgeRunways
+runways-fit : (rs : Runways) → judge_runways rs ≡ judged.Fine → RunwaysFit rs
+unfolding judge_runways
 runways-fit rs e =
-    let t = and-then (judge (leb rs.count 4 && every isBlankRunway (drop rs.count rs.items)) true) (judgeEachRunway (take rs.count rs.items)) e in
-    let u = both (leb rs.count 4) (every isBlankRunway (drop rs.count rs.items)) (fine _ true t.0).0 in
+    let t = and-then (judge (leb rs.count 4 && every is_blank_runway (drop rs.count rs.items)) true) (judge_each_runway (take rs.count rs.items)) e in
+    let u = both (leb rs.count 4) (every is_blank_runway (drop rs.count rs.items)) (fine _ true t.0).0 in
     record { few = leb-true rs.count 4 u.0; past = u.1; each = each_fits (take rs.count rs.items) t.1 }
 
 -- ---- blank runways
 
-blanks : (ws : List Runway) → every isBlankRunway ws ≡ true → ws ≡ replicate (length ws) blankRunway
-blanks ws e = every-is isBlankRunway blankRunway runway-blank ws e
+blanks : (ws : List Runway) → every is_blank_runway ws ≡ true → ws ≡ replicate (length ws) blank_runway
+blanks ws e = every-is is_blank_runway blank_runway runway-blank ws e
 
 -- the class of a blank runway is blank
-blanks-classed : (n : ℕ) → map classRunway (replicate n blankRunway) ≡ replicate n blankRunway
+blanks-classed : (n : ℕ) → map class_runway (replicate n blank_runway) ≡ replicate n blank_runway
 blanks-classed zero = refl
-blanks-classed (suc n) = ap (λ (l : List Runway). blankRunway ∷ l) (blanks-classed n)
+blanks-classed (suc n) = ap (λ (l : List Runway). blank_runway ∷ l) (blanks-classed n)
 
-blanks-blank : (n : ℕ) → every isBlankRunway (replicate n blankRunway) ≡ true
+blanks-blank : (n : ℕ) → every is_blank_runway (replicate n blank_runway) ≡ true
 blanks-blank zero = refl
 blanks-blank (suc n) = blanks-blank n
 
 -- ---- what is written
 
-shaped-each : (ws : List Runway) → EachFits ws → All (Shaped runwayShape) (map showRunway ws)
+shaped-each : (ws : List Runway) → EachFits ws → All (Shaped runway_shape) (map show_runway ws)
 shaped-each [] f = tt
 shaped-each (w ∷ ws) f = (runway-shaped w f.0, shaped-each ws f.1)
 
-pub runways-shaped : (rs : Runways) → judgeRunways rs ≡ judged.Fine → All (Shaped runwayShape) (showRunways rs)
-unfolding showRunways
+pub runways-shaped : (rs : Runways) → judge_runways rs ≡ judged.Fine → All (Shaped runway_shape) (show_runways rs)
+unfolding show_runways
 runways-shaped rs e = shaped-each (take rs.count rs.items) (runways-fit rs e).each
 
-pub runways-few : (rs : Runways) → length rs.items ≡ 4 → judgeRunways rs ≡ judged.Fine → length (showRunways rs) ≤ 4
-unfolding showRunways
+pub runways-few : (rs : Runways) → length rs.items ≡ 4 → judge_runways rs ≡ judged.Fine → length (show_runways rs) ≤ 4
+unfolding show_runways
 runways-few rs four e =
-    rw (length-map (take rs.count rs.items) showRunway, length-take rs.count rs.items) (omega (arith, (runways-fit rs e).few))
+    rw (length-map (take rs.count rs.items) show_runway, length-take rs.count rs.items) (omega (arith, (runways-fit rs e).few))
 
 -- ---- what is read back
 
 -- runways that fit, read where n are done and the rest is blank
 add_back : (ws done : List Runway) (n rest : ℕ) → EachFits ws → length done ≡ n → n + (length ws + rest) ≡ 4
-    → addEach n (map showRunway ws) (record { items = done ++ replicate (length ws + rest) blankRunway; count = n })
-    ≡ Good (record { items = done ++ (map classRunway ws ++ replicate rest blankRunway); count = n + length ws })
+    → add_each n (map show_runway ws) (record { items = done ++ replicate (length ws + rest) blank_runway; count = n })
+    ≡ Good (record { items = done ++ (map class_runway ws ++ replicate rest blank_runway); count = n + length ws })
 add_back [] done n rest f len sum = rw (add-zero n, zero-add rest)
 add_back (w ∷ ws) done n rest f len sum =
-    let x = classRunway w in
+    let x = class_runway w in
     let next : length (done ++ (x ∷ [])) ≡ n + 1 = simp length-append (omega arith) in
     let count : n + 1 + length ws ≡ n + suc (length ws) = omega arith in
-    rw (suc-add (length ws) rest, runway-back w f.0, lt-ltb n 4 (omega arith), set_at done blankRunway (replicate (length ws + rest) blankRunway) x n len)
+    rw (suc-add (length ws) rest, runway-back w f.0, lt-ltb n 4 (omega arith), set_at done blank_runway (replicate (length ws + rest) blank_runway) x n len)
     (rw count at (simp append_assoc at (add_back ws (done ++ (x ∷ [])) (n + 1) rest f.1 next (omega arith))))
 
-module _ (rs : Runways) (four : length rs.items ≡ 4) (e : judgeRunways rs ≡ judged.Fine) where
-  past : drop rs.count rs.items ≡ replicate (4 - rs.count) blankRunway
+module _ (rs : Runways) (four : length rs.items ≡ 4) (e : judge_runways rs ≡ judged.Fine) where
+  past : drop rs.count rs.items ≡ replicate (4 - rs.count) blank_runway
   past = blanks (drop rs.count rs.items) (runways-fit rs e).past ∙ rw (length-drop, four)
 
-  classed : map classRunway rs.items ≡ map classRunway (take rs.count rs.items) ++ replicate (4 - rs.count) blankRunway
+  classed : map class_runway rs.items ≡ map class_runway (take rs.count rs.items) ++ replicate (4 - rs.count) blank_runway
   classed =
-      ap (map classRunway) (sym (take-append-drop rs.count rs.items))
-      ∙ map-append classRunway (take rs.count rs.items) (drop rs.count rs.items)
+      ap (map class_runway) (sym (take-append-drop rs.count rs.items))
+      ∙ map-append class_runway (take rs.count rs.items) (drop rs.count rs.items)
       ∙ rw (past, blanks-classed)
 
-  pub runways-back : addEach 0 (showRunways rs) blankRunways ≡ Good (classRunways rs)
-  unfolding showRunways
+  pub runways-back : add_each 0 (show_runways rs) blank_runways ≡ Good (class_runways rs)
+  unfolding show_runways
   runways-back =
       let fit = runways-fit rs e in
       let count : length (take rs.count rs.items) ≡ rs.count = length-take-le rs.count rs.items (omega (arith, fit.few)) in
@@ -128,21 +128,21 @@ take-map f zero l = refl
 take-map f (suc n) [] = refl
 take-map f (suc n) (x ∷ l) = rw (take-map f n l)
 
-again-each : (ws : List Runway) → map showRunway (map classRunway ws) ≡ map showRunway ws
+again-each : (ws : List Runway) → map show_runway (map class_runway ws) ≡ map show_runway ws
 again-each [] = refl
 again-each (w ∷ ws) = rw (runway-again w, again-each ws)
 
-pub runways-again : (rs : Runways) → showRunways (classRunways rs) ≡ showRunways rs
-unfolding showRunways
-runways-again rs = rw (take-map classRunway rs.count rs.items) (again-each (take rs.count rs.items))
+pub runways-again : (rs : Runways) → show_runways (class_runways rs) ≡ show_runways rs
+unfolding show_runways
+runways-again rs = rw (take-map class_runway rs.count rs.items) (again-each (take rs.count rs.items))
 
-classed-each : (ws : List Runway) → EachFits ws → EachFits (map classRunway ws)
+classed-each : (ws : List Runway) → EachFits ws → EachFits (map class_runway ws)
 classed-each [] f = tt
 classed-each (w ∷ ws) f = (runway-classed w f.0, classed-each ws f.1)
 
-pub runways-classed : (rs : Runways) → judgeRunways rs ≡ judged.Fine → judgeRunways (classRunways rs) ≡ judged.Fine
-unfolding judgeRunways
+pub runways-classed : (rs : Runways) → judge_runways rs ≡ judged.Fine → judge_runways (class_runways rs) ≡ judged.Fine
+unfolding judge_runways
 runways-classed rs e =
     let fit = runways-fit rs e in
-    rw (le-leb rs.count 4 fit.few, drop-map classRunway rs.items rs.count, blanks (drop rs.count rs.items) fit.past, blanks-classed, blanks-blank, take-map classRunway rs.count rs.items)
-    (each-fine (map classRunway (take rs.count rs.items)) (classed-each (take rs.count rs.items) fit.each))
+    rw (le-leb rs.count 4 fit.few, drop-map class_runway rs.items rs.count, blanks (drop rs.count rs.items) fit.past, blanks-classed, blanks-blank, take-map class_runway rs.count rs.items)
+    (each-fine (map class_runway (take rs.count rs.items)) (classed-each (take rs.count rs.items) fit.each))

@@ -9,18 +9,18 @@ use lib.ListN.{replicate}
 use lib.Dec.{leb, leb-zero, eqb}
 use Rattle.figures.specs.Quote.{bytes}
 use Rattle.figures.specs.declared.kinds.Field.TheVariants as field
-use Rattle.figures.specs.Figures.{field_at, fieldText, Fits}
+use Rattle.figures.specs.Figures.{field_at, field_text, Fits}
 use Rattle.figures.proofs.Figures.{field_back}
 use Rattle.text.specs.declared.kinds.Judged.TheVariants as judged
 use Rattle.text.proofs.Judging.{fine}
-use Rattle.shapes.specs.Pattern.{low, high, fits, hasPattern, hasAny}
+use Rattle.shapes.specs.Pattern.{low, high, fits, has_pattern, has_any}
 use Rattle.shapes.specs.declared.kinds.Value.{Value}
-use Rattle.shapes.specs.Shape.{leading, split, parts_of, spellings, unled, unledEach, clear, printable, sound, hasShape}
+use Rattle.shapes.specs.Shape.{leading, split, parts_of, spellings, unled, unled_each, clear, printable, sound, has_shape}
 use Rattle.shapes.proofs.Patterns.{both, pattern-append, field-pattern}
 use Rattle.shapes.proofs.Shapes.{covered}
 use Rattle.places.specs.Engine.{Group, Good}
-use Rattle.scales.specs.Degrees.{roundedDegrees}
-use Rattle.scales.specs.Rounded.{pressureReading, roundedPressure}
+use Rattle.scales.specs.Degrees.{rounded_degrees}
+use Rattle.scales.specs.Rounded.{pressure_reading, rounded_pressure}
 use Rattle.scales.proofs.DegreesLaws.{degrees-rounds, fit_written, written-fits, two-figures}
 use Rattle.scales.proofs.PressureLaws as pressures
 use Rattle.record.specs.declared.values.Number.{Number}
@@ -30,13 +30,13 @@ use Rattle.record.specs.declared.values.Tenths.TheVariants as signed
 use Rattle.record.specs.declared.aerodrome.Temperatures.{Temperatures}
 use Rattle.record.specs.declared.aerodrome.Qnh.{Qnh}
 use Rattle.record.specs.Missing.{optional}
-use Rattle.elements.specs.Parts.{mayMiss, used}
+use Rattle.elements.specs.Parts.{may_miss, used}
 use Rattle.elements.specs.Wind.{chosen, numbered}
-use Rattle.aerodrome_groups.specs.Temperatures.{temperaturesShape, readDegrees, readTemperatures, degreesValues, showTemperatures, tenthsFit, isPressure, judgeTemperatures, classTenths, classTemperatures, qnhShape, readQnh, pressureField, showQnh, judgeQnh, classPressure, classQnh}
+use Rattle.aerodrome_groups.specs.Temperatures.{temperatures_shape, read_degrees, read_temperatures, degrees_values, show_temperatures, tenths_fit, is_pressure, judge_temperatures, class_tenths, class_temperatures, qnh_shape, read_qnh, pressure_field, show_qnh, judge_qnh, class_pressure, class_qnh}
 use Rattle.aerodrome_groups.proofs.Printed.{SaidAt, Shaped, Printed, printed}
 
-pub temperatures-covered : (g : Group) → hasShape temperaturesShape g ≡ true → hasAny (spellings (parts_of temperaturesShape)) g ≡ true
-temperatures-covered g h = covered temperaturesShape g h
+pub temperatures-covered : (g : Group) → has_shape temperatures_shape g ≡ true → has_any (spellings (parts_of temperatures_shape)) g ≡ true
+temperatures-covered g h = covered temperatures_shape g h
 
 -- ---- one temperature
 
@@ -44,10 +44,10 @@ temperatures-covered g h = covered temperaturesShape g h
 record Told (x : Signed) : Type 0 where
   mark : Value
   whole : Value
-  same : degreesValues x ≡ mark ∷ whole ∷ []
+  same : degrees_values x ≡ mark ∷ whole ∷ []
   mark-said : SaidAt (bytes "M" ∷ [] ∷ []) mark
   whole-said : SaidAt (bytes "##" ∷ []) whole
-  back : readDegrees mark whole ≡ Good (classTenths x)
+  back : read_degrees mark whole ≡ Good (class_tenths x)
 
 minus-said : (minus : Bool) → SaidAt (bytes "M" ∷ [] ∷ []) (chosen (cond minus 0 1))
 unfolding leading
@@ -58,7 +58,7 @@ minus-back : (minus : Bool) → eqb (cond minus 0 1) 0 ≡ minus
 minus-back true = refl
 minus-back false = refl
 
-told : (x : Signed) → tenthsFit x ≡ true → Told x
+told : (x : Signed) → tenths_fit x ≡ true → Told x
 unfolding leading
 told signed.Missing e =
     record { mark = chosen 1; whole = numbered 0 field.Missing; same = refl; mark-said = minus-said false; whole-said = (refl, tt); back = refl }
@@ -74,108 +74,108 @@ told (signed.Is t) e =
       back = rw (minus-back w.0.0, r);
     }
 
-tenths-again : (x : Signed) → tenthsFit x ≡ true → degreesValues (classTenths x) ≡ degreesValues x
+tenths-again : (x : Signed) → tenths_fit x ≡ true → degrees_values (class_tenths x) ≡ degrees_values x
 tenths-again signed.Missing e = refl
 tenths-again (signed.Is t) e = let w = fit_written t e in rw (w.1, degrees-rounds.again t w.0 w.1)
 
-tenths-classed : (x : Signed) → tenthsFit x ≡ true → tenthsFit (classTenths x) ≡ true
+tenths-classed : (x : Signed) → tenths_fit x ≡ true → tenths_fit (class_tenths x) ≡ true
 tenths-classed signed.Missing e = refl
 tenths-classed (signed.Is t) e =
     let w = fit_written t e in
-    written-fits (roundedDegrees t) w.0.0 w.0.1 (degrees-rounds.again t w.0 w.1)
+    written-fits (rounded_degrees t) w.0.0 w.0.1 (degrees-rounds.again t w.0 w.1)
 
 -- ---- T/Td
 
-temperatures-sound : sound temperaturesShape ≡ true
-unfolding sound clear printable parts_of split leading spellings unledEach unled low high
+temperatures-sound : sound temperatures_shape ≡ true
+unfolding sound clear printable parts_of split leading spellings unled_each unled low high
 temperatures-sound = refl
 
-temperatures-fit : (t : Temperatures) → judgeTemperatures t ≡ judged.Fine → (tenthsFit t.air ≡ true) × (tenthsFit t.dew ≡ true)
-unfolding judgeTemperatures
-temperatures-fit t e = both (tenthsFit t.air) (tenthsFit t.dew) (fine _ true e).0
+temperatures-fit : (t : Temperatures) → judge_temperatures t ≡ judged.Fine → (tenths_fit t.air ≡ true) × (tenths_fit t.dew ≡ true)
+unfolding judge_temperatures
+temperatures-fit t e = both (tenths_fit t.air) (tenths_fit t.dew) (fine _ true e).0
 
-module _ (t : Temperatures) (e : judgeTemperatures t ≡ judged.Fine) where
+module _ (t : Temperatures) (e : judge_temperatures t ≡ judged.Fine) where
   air : Told t.air
   air = told t.air (temperatures-fit t e).0
 
   dew : Told t.dew
   dew = told t.dew (temperatures-fit t e).1
 
-  temperatures-printed : Printed temperaturesShape (air.mark ∷ air.whole ∷ chosen 0 ∷ dew.mark ∷ dew.whole ∷ []) (showTemperatures t)
-  unfolding showTemperatures parts_of split leading
+  temperatures-printed : Printed temperatures_shape (air.mark ∷ air.whole ∷ chosen 0 ∷ dew.mark ∷ dew.whole ∷ []) (show_temperatures t)
+  unfolding show_temperatures parts_of split leading
   temperatures-printed =
       rw (air.same, dew.same)
-      (printed temperaturesShape (air.mark ∷ air.whole ∷ chosen 0 ∷ dew.mark ∷ dew.whole ∷ []) temperatures-sound
+      (printed temperatures_shape (air.mark ∷ air.whole ∷ chosen 0 ∷ dew.mark ∷ dew.whole ∷ []) temperatures-sound
       (air.mark-said, (air.whole-said, ((refl, refl), (dew.mark-said, (dew.whole-said, tt)))))
       refl)
 
-  pub temperatures-shaped : Shaped temperaturesShape (showTemperatures t)
+  pub temperatures-shaped : Shaped temperatures_shape (show_temperatures t)
   temperatures-shaped = temperatures-printed.shaped
 
-  pub temperatures-back : readTemperatures (showTemperatures t) ≡ Good (classTemperatures t)
-  unfolding readTemperatures
+  pub temperatures-back : read_temperatures (show_temperatures t) ≡ Good (class_temperatures t)
+  unfolding read_temperatures
   temperatures-back =
       let p = temperatures-printed in
       rw (p.says 0, p.says 1, p.says 3, p.says 4, air.back, dew.back)
 
-  pub temperatures-again : showTemperatures (classTemperatures t) ≡ showTemperatures t
-  unfolding showTemperatures
+  pub temperatures-again : show_temperatures (class_temperatures t) ≡ show_temperatures t
+  unfolding show_temperatures
   temperatures-again = let f = temperatures-fit t e in rw (tenths-again t.air f.0, tenths-again t.dew f.1)
 
-  pub temperatures-classed : judgeTemperatures (classTemperatures t) ≡ judged.Fine
-  unfolding judgeTemperatures
+  pub temperatures-classed : judge_temperatures (class_temperatures t) ≡ judged.Fine
+  unfolding judge_temperatures
   temperatures-classed = let f = temperatures-fit t e in rw (tenths-classed t.air f.0, tenths-classed t.dew f.1)
 
 -- ---- Q
 
 -- a pressure in range is not above the greatest
-not-over : (p : ℕ) → isPressure p ≡ true → leb p 99999 ≡ true
+not-over : (p : ℕ) → is_pressure p ≡ true → leb p 99999 ≡ true
 not-over p e = (both (leb 0 p) (leb p 99999) e).1
 
 -- what is in range has a figure of four figures
-pressure-fits : (n : Number) → optional isPressure n ≡ true → Fits 4 (pressureField n)
+pressure-fits : (n : Number) → optional is_pressure n ≡ true → Fits 4 (pressure_field n)
 pressure-fits number.Missing e = tt
 pressure-fits (number.Is p) e = let w = pressures.pressure-written p (not-over p e) in rw w.1 (omega (arith, w.2))
 
-module _ (q : Qnh) (e : judgeQnh q ≡ judged.Fine) where
-  in-range : optional isPressure q.is ≡ true
-  unfolding judgeQnh
-  in-range = (fine (optional isPressure q.is) true e).0
+module _ (q : Qnh) (e : judge_qnh q ≡ judged.Fine) where
+  in-range : optional is_pressure q.is ≡ true
+  unfolding judge_qnh
+  in-range = (fine (optional is_pressure q.is) true e).0
 
-  four : Fits 4 (pressureField q.is)
+  four : Fits 4 (pressure_field q.is)
   four = pressure-fits q.is in-range
 
-  pub qnh-shaped : hasPattern (showQnh q) qnhShape ≡ true
-  unfolding showQnh hasPattern fits low high
+  pub qnh-shaped : has_pattern (show_qnh q) qnh_shape ≡ true
+  unfolding show_qnh has_pattern fits low high
   qnh-shaped =
-      pattern-append (bytes "Q") (fieldText 4 (pressureField q.is)) (bytes "Q") (replicate 4 35) refl refl
-      ∙ field-pattern 4 (pressureField q.is) (omega arith) four
+      pattern-append (bytes "Q") (field_text 4 (pressure_field q.is)) (bytes "Q") (replicate 4 35) refl refl
+      ∙ field-pattern 4 (pressure_field q.is) (omega arith) four
 
-  field_is : field_at (showQnh q) 1 4 ≡ pressureField q.is
-  unfolding showQnh
-  field_is = rw append-nil at (field_back (bytes "Q") [] 4 (pressureField q.is) (omega arith) (omega arith) four)
+  field_is : field_at (show_qnh q) 1 4 ≡ pressure_field q.is
+  unfolding show_qnh
+  field_is = rw append-nil at (field_back (bytes "Q") [] 4 (pressure_field q.is) (omega arith) (omega arith) four)
 
-  pub qnh-back : readQnh (showQnh q) ≡ Good (classQnh q)
-  unfolding readQnh
+  pub qnh-back : read_qnh (show_qnh q) ≡ Good (class_qnh q)
+  unfolding read_qnh
   qnh-back = rw field_is (by q.is in-range)
     where
-      by : (n : Number) → optional isPressure n ≡ true
-          → mayMiss {A = Qnh} (pressureField n) (Good (record { is = number.Missing })) (λ n. used (pressureReading n) (λ p. Good (record { is = number.Is p }))) ≡ Good (record { is = classPressure n })
+      by : (n : Number) → optional is_pressure n ≡ true
+          → may_miss {A = Qnh} (pressure_field n) (Good (record { is = number.Missing })) (λ n. used (pressure_reading n) (λ p. Good (record { is = number.Is p }))) ≡ Good (record { is = class_pressure n })
       by number.Missing h = refl
       by (number.Is p) h = let w = pressures.pressure-written p (not-over p h) in rw (w.1, (pressures.pressure-rounds).back p w.0 w.1)
 
-  pub qnh-classed : judgeQnh (classQnh q) ≡ judged.Fine
-  unfolding judgeQnh
+  pub qnh-classed : judge_qnh (class_qnh q) ≡ judged.Fine
+  unfolding judge_qnh
   qnh-classed = rw (by q.is in-range)
     where
-      by : (n : Number) → optional isPressure n ≡ true → optional isPressure (classPressure n) ≡ true
+      by : (n : Number) → optional is_pressure n ≡ true → optional is_pressure (class_pressure n) ≡ true
       by number.Missing h = refl
-      by (number.Is p) h = rw (leb-zero (roundedPressure p)) (pressures.pressure-low p (not-over p h))
+      by (number.Is p) h = rw (leb-zero (rounded_pressure p)) (pressures.pressure-low p (not-over p h))
 
-pub qnh-again : (q : Qnh) → showQnh (classQnh q) ≡ showQnh q
-unfolding showQnh
+pub qnh-again : (q : Qnh) → show_qnh (class_qnh q) ≡ show_qnh q
+unfolding show_qnh
 qnh-again q = rw (by q.is)
   where
-    by : (n : Number) → pressureField (classPressure n) ≡ pressureField n
+    by : (n : Number) → pressure_field (class_pressure n) ≡ pressure_field n
     by number.Missing = refl
     by (number.Is p) = rw (pressures.pressure-again p)

@@ -5,37 +5,37 @@ use native.Mathlib.Omega.{arith}
 use mathlib.Core.Path.{◌≡◌, refl, sym, ap}
 use mathlib.Core.List.{[], ◌∷◌}
 use Rattle.shapes.specs.declared.kinds.Value.{Value}
-use Rattle.shapes.specs.Shape.{split, parts_of, printOf}
+use Rattle.shapes.specs.Shape.{split, parts_of, print_of}
 use Rattle.scales.specs.declared.kinds.Range.{Range}
 use Rattle.scales.specs.declared.kinds.Range.TheVariants as range
-use Rattle.scales.specs.Scale.{Class, run, lastIn, figureOf}
+use Rattle.scales.specs.Scale.{Class, run, last_in, figure_of}
 use Rattle.scales.specs.Metres.{runway}
 use Rattle.scales.proofs.MetresLaws.{runway-laws}
 use Rattle.record.specs.declared.values.Tenths.{Tenths}
 use Rattle.record.specs.declared.values.Tenths.TheVariants as tenths
 use Rattle.elements.proofs.Scanned.{print-enough}
-use Rattle.aerodrome_groups.specs.Runway.{runwayShape}
-use Rattle.aerodrome_groups.specs.Temperatures.{temperaturesShape, degreesValues}
-use Rattle.aerodrome_groups.specs.Values.{minusOf, whole_of}
+use Rattle.aerodrome_groups.specs.Runway.{runway_shape}
+use Rattle.aerodrome_groups.specs.Temperatures.{temperatures_shape, degrees_values}
+use Rattle.aerodrome_groups.specs.Values.{minus_of, whole_of}
 
 -- ---- values past a shape's parts are not printed
 
-pub runway-text : (a b c d e f x y : Value) → printOf runwayShape (a ∷ b ∷ c ∷ d ∷ e ∷ f ∷ x ∷ y ∷ []) ≡ printOf runwayShape (a ∷ b ∷ c ∷ d ∷ e ∷ f ∷ [])
+pub runway-text : (a b c d e f x y : Value) → print_of runway_shape (a ∷ b ∷ c ∷ d ∷ e ∷ f ∷ x ∷ y ∷ []) ≡ print_of runway_shape (a ∷ b ∷ c ∷ d ∷ e ∷ f ∷ [])
 runway-text a b c d e f x y =
-    print-enough runwayShape (a ∷ b ∷ c ∷ d ∷ e ∷ f ∷ []) (x ∷ y ∷ []) (unfold parts_of split in omega arith)
+    print-enough runway_shape (a ∷ b ∷ c ∷ d ∷ e ∷ f ∷ []) (x ∷ y ∷ []) (unfold parts_of split in omega arith)
 
-pub temperatures-text : (a b c d e x y z : Value) → printOf temperaturesShape (a ∷ b ∷ c ∷ d ∷ e ∷ x ∷ y ∷ z ∷ []) ≡ printOf temperaturesShape (a ∷ b ∷ c ∷ d ∷ e ∷ [])
+pub temperatures-text : (a b c d e x y z : Value) → print_of temperatures_shape (a ∷ b ∷ c ∷ d ∷ e ∷ x ∷ y ∷ z ∷ []) ≡ print_of temperatures_shape (a ∷ b ∷ c ∷ d ∷ e ∷ [])
 temperatures-text a b c d e x y z =
-    print-enough temperaturesShape (a ∷ b ∷ c ∷ d ∷ e ∷ []) (x ∷ y ∷ z ∷ []) (unfold parts_of split in omega arith)
+    print-enough temperatures_shape (a ∷ b ∷ c ∷ d ∷ e ∷ []) (x ∷ y ∷ z ∷ []) (unfold parts_of split in omega arith)
 
 -- ---- the figure of a range
 
 -- past 2,000 m there is one class
-pub last-class : (m : ℕ) → 2000 < m → range.Above 2000 ≡ figureOf runway m
-unfolding runway run lastIn
+pub last-class : (m : ℕ) → 2000 < m → range.Above 2000 ≡ figure_of runway m
+unfolding runway run last_in
 last-class m h = sym (ap (λ (c : Class Range). c.figure) (runway-laws.last m h))
 
 -- ---- a temperature has two values
-pub two-values : (x : Tenths) → degreesValues x ≡ minusOf x ∷ whole_of x ∷ []
+pub two-values : (x : Tenths) → degrees_values x ≡ minus_of x ∷ whole_of x ∷ []
 two-values tenths.Missing = refl
 two-values (tenths.Is t) = refl

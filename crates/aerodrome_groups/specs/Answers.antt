@@ -9,10 +9,10 @@ use Rattle.aerodrome_groups.specs.declared.read.DegreesRead.{DegreesRead}
 use Rattle.aerodrome_groups.specs.declared.read.DegreesRead.TheVariants as degrees
 
 -- parts of a group: a runway's range, one temperature
-abbrev pub asRange : Read Number → RangeRead
-asRange (Good x) = range.Good x
-asRange (Bad f) = range.Bad f
+abbrev pub as_range : Read Number → RangeRead
+as_range (Good x) = range.Good x
+as_range (Bad f) = range.Bad f
 
-abbrev pub asDegrees : Read Tenths → DegreesRead
-asDegrees (Good x) = degrees.Good x
-asDegrees (Bad f) = degrees.Bad f
+abbrev pub as_degrees : Read Tenths → DegreesRead
+as_degrees (Good x) = degrees.Good x
+as_degrees (Bad f) = degrees.Bad f

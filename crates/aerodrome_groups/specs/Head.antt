@@ -6,10 +6,10 @@ use Prim.Native.String.{String}
 use Rattle.figures.specs.Quote.{bytes}
 use Rattle.figures.specs.declared.kinds.Field.{Field}
 use Rattle.figures.specs.declared.kinds.Field.TheVariants as field
-use Rattle.figures.specs.Figures.{field_at, fieldText, isLetter, every}
+use Rattle.figures.specs.Figures.{field_at, field_text, is_letter, every}
 use Rattle.text.specs.declared.kinds.Judged.{Judged}
 use Rattle.text.specs.Judge.{judge}
-use Rattle.shapes.specs.Pattern.{Pattern, hasPattern}
+use Rattle.shapes.specs.Pattern.{Pattern, has_pattern}
 use Rattle.places.specs.Engine.{Group, Read, Good, Place}
 use Rattle.record.specs.declared.values.Number.{Number}
 use Rattle.record.specs.declared.values.Number.TheVariants as number
@@ -18,31 +18,31 @@ use Rattle.record.specs.declared.aerodrome.Station.{Station}
 use Rattle.record.specs.Missing.{present}
 use Rattle.elements.specs.Parts.{figured, provided}
 
-abbrev pub stationShape : Pattern
-stationShape = bytes "@@@@"
+abbrev pub station_shape : Pattern
+station_shape = bytes "@@@@"
 
 -- the four letters; a shorter group has blanks after it
-unfoldable pub stationOf : Group → Station
-stationOf g = record { letters = take 4 (g ++ replicate 4 0) }
+unfoldable pub station_of : Group → Station
+station_of g = record { letters = take 4 (g ++ replicate 4 0) }
 
-abbrev pub timeShape : Pattern
-timeShape = bytes "######Z"
+abbrev pub time_shape : Pattern
+time_shape = bytes "######Z"
 
-abbrev pub isDay : ℕ → Bool
-isDay d = leb 1 d && leb d 31
+abbrev pub is_day : ℕ → Bool
+is_day d = leb 1 d && leb d 31
 
-abbrev pub isHour : ℕ → Bool
-isHour h = leb h 23
+abbrev pub is_hour : ℕ → Bool
+is_hour h = leb h 23
 
-abbrev pub isMinute : ℕ → Bool
-isMinute m = leb m 59
+abbrev pub is_minute : ℕ → Bool
+is_minute m = leb m 59
 
-unfoldable pub readTime : Group → Read Instant
-readTime g =
+unfoldable pub read_time : Group → Read Instant
+read_time g =
     figured (field_at g 0 2)
     (λ d. figured (field_at g 2 2)
     (λ h. figured (field_at g 4 2)
-    (λ m. provided (isDay d && isHour h && isMinute m) (Good (record { day = number.Is d; hour = number.Is h; minute = number.Is m })))))
+    (λ m. provided (is_day d && is_hour h && is_minute m) (Good (record { day = number.Is d; hour = number.Is h; minute = number.Is m })))))
 
 -- ---- writing
 
@@ -50,27 +50,27 @@ abbrev pub field_of : Number → Field
 field_of number.Missing = field.Missing
 field_of (number.Is n) = field.Number n
 
-unfoldable pub showTime : Instant → Group
-showTime t = fieldText 2 (field_of t.day) ++ fieldText 2 (field_of t.hour) ++ fieldText 2 (field_of t.minute) ++ bytes "Z"
+unfoldable pub show_time : Instant → Group
+show_time t = field_text 2 (field_of t.day) ++ field_text 2 (field_of t.hour) ++ field_text 2 (field_of t.minute) ++ bytes "Z"
 
 -- ---- judging: a station has four letters, and a time is there
 
-unfoldable pub judgeStation : Station → Judged
-judgeStation s = judge (eqb (length s.letters) 4 && every isLetter s.letters) true
+unfoldable pub judge_station : Station → Judged
+judge_station s = judge (eqb (length s.letters) 4 && every is_letter s.letters) true
 
-abbrev pub instantFits : Instant → Bool
-instantFits t = present isDay t.day && present isHour t.hour && present isMinute t.minute
+abbrev pub instant_fits : Instant → Bool
+instant_fits t = present is_day t.day && present is_hour t.hour && present is_minute t.minute
 
-unfoldable pub judgeTime : Instant → Judged
-judgeTime t = judge (instantFits t) true
+unfoldable pub judge_time : Instant → Judged
+judge_time t = judge (instant_fits t) true
 
 -- ---- the places
 
 -- a word; whether it ends the report
-abbrev pub wordPlace : String → Bool → Place Bool
-wordPlace w ends =
+abbrev pub word_place : String → Bool → Place Bool
+word_place w ends =
     record {
-      has = λ g. hasPattern g (bytes w);
+      has = λ g. has_pattern g (bytes w);
       cover = bytes w ∷ [];
       spoken = bytes w ∷ [];
       most = 1;
@@ -81,30 +81,30 @@ wordPlace w ends =
       put = λ x acc. x;
     }
 
-abbrev pub stationPlace : Place Station
-stationPlace =
+abbrev pub station_place : Place Station
+station_place =
     record {
-      has = λ g. hasPattern g stationShape;
-      cover = stationShape ∷ [];
-      spoken = stationShape ∷ [];
+      has = λ g. has_pattern g station_shape;
+      cover = station_shape ∷ [];
+      spoken = station_shape ∷ [];
       most = 1;
       must = true;
       ends = false;
-      read = λ k g s. Good (stationOf g);
+      read = λ k g s. Good (station_of g);
       show = λ s. s.letters ∷ [];
       put = λ s acc. s;
     }
 
-abbrev pub timePlace : Place Instant
-timePlace =
+abbrev pub time_place : Place Instant
+time_place =
     record {
-      has = λ g. hasPattern g timeShape;
-      cover = timeShape ∷ [];
-      spoken = timeShape ∷ [];
+      has = λ g. has_pattern g time_shape;
+      cover = time_shape ∷ [];
+      spoken = time_shape ∷ [];
       most = 1;
       must = true;
       ends = false;
-      read = λ k g t. readTime g;
-      show = λ t. showTime t ∷ [];
+      read = λ k g t. read_time g;
+      show = λ t. show_time t ∷ [];
       put = λ t acc. t;
     }

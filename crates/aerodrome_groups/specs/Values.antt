@@ -2,16 +2,16 @@
 -- Assumes nothing: these are definitions.
 use Rattle.figures.specs.declared.kinds.Field.TheVariants as field
 use Rattle.shapes.specs.declared.kinds.Value.{Value}
-use Rattle.scales.specs.Degrees.{degreesOf}
+use Rattle.scales.specs.Degrees.{degrees_of}
 use Rattle.record.specs.declared.values.Tenths.{Tenths}
 use Rattle.record.specs.declared.values.Tenths.TheVariants as tenths
 use Rattle.elements.specs.Wind.{chosen, numbered}
-use Rattle.aerodrome_groups.specs.Temperatures.{minusValue, wholeValue}
+use Rattle.aerodrome_groups.specs.Temperatures.{minus_value, whole_value}
 
-abbrev pub minusOf : Tenths → Value
-minusOf tenths.Missing = chosen 1
-minusOf (tenths.Is t) = minusValue (degreesOf t)
+abbrev pub minus_of : Tenths → Value
+minus_of tenths.Missing = chosen 1
+minus_of (tenths.Is t) = minus_value (degrees_of t)
 
 abbrev pub whole_of : Tenths → Value
 whole_of tenths.Missing = numbered 0 field.Missing
-whole_of (tenths.Is t) = wholeValue (degreesOf t)
+whole_of (tenths.Is t) = whole_value (degrees_of t)

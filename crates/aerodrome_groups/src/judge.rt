@@ -1,9 +1,9 @@
 // What the writer judges of each group before it writes anything: its ranges, refusal 11. None of them can disagree with itself.
 ghost use Rattle.std.specs.Prelude.{◌≡◌, false, ◌&&◌, ◌≤◌, take};
-ghost use Rattle.elements.specs.Judge.{metresFit};
-ghost use Rattle.aerodrome_groups.specs.Head.{judgeStation, instantFits, judgeTime};
-ghost use Rattle.aerodrome_groups.specs.Runway.{isRunway, judgeEachRunway, judgeRunways};
-ghost use Rattle.aerodrome_groups.specs.Temperatures.{tenthsFit, judgeTemperatures, judgeQnh};
+ghost use Rattle.elements.specs.Judge.{metres_fit};
+ghost use Rattle.aerodrome_groups.specs.Head.{judge_station, instant_fits, judge_time};
+ghost use Rattle.aerodrome_groups.specs.Runway.{is_runway, judge_each_runway, judge_runways};
+ghost use Rattle.aerodrome_groups.specs.Temperatures.{tenths_fit, judge_temperatures, judge_qnh};
 
 use elements::judge::metres_fit;
 use figures::is_letter;
@@ -13,7 +13,7 @@ use text::judge::{and_then, judge};
 use text::kinds::Judged;
 
 pub fn judge_station(s: Station) -> Judged
-    ensures { result ≡ judgeStation s }
+    ensures { result ≡ judge_station s }
 {
     let letters = s.letters;
     let first = is_letter(letters[0]) & is_letter(letters[1]);
@@ -23,7 +23,7 @@ pub fn judge_station(s: Station) -> Judged
 
 // A day, an hour and a minute are there, each in its range.
 pub fn instant_fits(t: Instant) -> bool
-    ensures { result ≡ instantFits t }
+    ensures { result ≡ instant_fits t }
 {
     let day = t.day;
     let hour = t.hour;
@@ -32,7 +32,7 @@ pub fn instant_fits(t: Instant) -> bool
 }
 
 pub fn judge_time(t: Instant) -> Judged
-    ensures { result ≡ judgeTime t }
+    ensures { result ≡ judge_time t }
 {
     judge(instant_fits(t), true)
 }
@@ -40,7 +40,7 @@ pub fn judge_time(t: Instant) -> Judged
 // ---- runway visual ranges
 
 fn runway_fits(w: Runway) -> bool
-    ensures { result ≡ (isRunway w.number && metresFit false w.range) }
+    ensures { result ≡ (is_runway w.number && metres_fit false w.range) }
 {
     let number = w.number;
     let range = w.range;
@@ -50,7 +50,7 @@ fn runway_fits(w: Runway) -> bool
 // The first `count` slots.
 fn judge_each(items: [Runway; 4], count: usize) -> Judged
     requires { count ≤ 4 }
-    ensures { result ≡ judgeEachRunway (take count items) }
+    ensures { result ≡ judge_each_runway (take count items) }
 {
     let mut i = 0;
     while i < count {
@@ -64,7 +64,7 @@ fn judge_each(items: [Runway; 4], count: usize) -> Judged
 }
 
 pub fn judge_runways(rs: Runways) -> Judged
-    ensures { result ≡ judgeRunways rs }
+    ensures { result ≡ judge_runways rs }
 {
     let items = rs.items;
     let count = rs.count;
@@ -79,7 +79,7 @@ pub fn judge_runways(rs: Runways) -> Judged
 // ---- temperatures and Q
 
 fn tenths_fit(t: Tenths) -> bool
-    ensures { result ≡ tenthsFit t }
+    ensures { result ≡ tenths_fit t }
 {
     match t {
         Tenths::Missing => true,
@@ -88,7 +88,7 @@ fn tenths_fit(t: Tenths) -> bool
 }
 
 pub fn judge_temperatures(t: Temperatures) -> Judged
-    ensures { result ≡ judgeTemperatures t }
+    ensures { result ≡ judge_temperatures t }
 {
     let air = t.air;
     let dew = t.dew;
@@ -96,7 +96,7 @@ pub fn judge_temperatures(t: Temperatures) -> Judged
 }
 
 pub fn judge_qnh(q: Qnh) -> Judged
-    ensures { result ≡ judgeQnh q }
+    ensures { result ≡ judge_qnh q }
 {
     let p = q.is;
     judge(p.is_missing_or_between(0, 99999), true)

@@ -1,12 +1,12 @@
 // What a group says: the station, the time, a runway range, the temperatures and Q. A caller holds the group to its shape first; what has another
 // shape is refused as a wrong figure.
 ghost use Rattle.std.specs.Prelude.{◌≡◌, ◌++◌, take, replicate};
-ghost use Rattle.shapes.specs.Shape.{hasShape, scanOf};
-ghost use Rattle.elements.specs.Answers.{asInstant, asRunway, asTemperatures, asQnh};
-ghost use Rattle.aerodrome_groups.specs.Answers.{asRange, asDegrees};
-ghost use Rattle.aerodrome_groups.specs.Head.{stationOf, readTime};
-ghost use Rattle.aerodrome_groups.specs.Runway.{runwayShape, side_of, courseOf, range_of, readRange, runwayBy, readRunway, withRunway};
-ghost use Rattle.aerodrome_groups.specs.Temperatures.{temperaturesShape, readDegrees, temperaturesBy, readTemperatures, readQnh};
+ghost use Rattle.shapes.specs.Shape.{has_shape, scan_of};
+ghost use Rattle.elements.specs.Answers.{as_instant, as_runway, as_temperatures, as_qnh};
+ghost use Rattle.aerodrome_groups.specs.Answers.{as_range, as_degrees};
+ghost use Rattle.aerodrome_groups.specs.Head.{station_of, read_time};
+ghost use Rattle.aerodrome_groups.specs.Runway.{runway_shape, side_of, course_of, range_of, read_range, runway_by, read_runway, with_runway};
+ghost use Rattle.aerodrome_groups.specs.Temperatures.{temperatures_shape, read_degrees, temperatures_by, read_temperatures, read_qnh};
 
 use elements::kinds::Said;
 use figures::kinds::Field;
@@ -23,7 +23,7 @@ use text::kinds::Refusal;
 
 // CCCC: four letters, 0 past the group's end.
 pub fn station_of(g: &[u8]) -> Station
-    ensures { result ≡ stationOf g.now }
+    ensures { result ≡ station_of g.now }
 {
     let letters = [byte_at(g, 0), byte_at(g, 1), byte_at(g, 2), byte_at(g, 3)];
     Station { letters }
@@ -31,7 +31,7 @@ pub fn station_of(g: &[u8]) -> Station
 
 // YYGGggZ
 pub fn read_time(g: &[u8]) -> Said
-    ensures { result ≡ asInstant (readTime g.now) }
+    ensures { result ≡ as_instant (read_time g.now) }
 {
     let Field::Number(day) = field(g, 0, 2) else {
         return Said::Refused(Refusal::Figure);
@@ -57,7 +57,7 @@ pub fn read_time(g: &[u8]) -> Said
 
 // "R## L|C|R| / M|P| #### U|D|N|" by code made for it.
 fn scan_runway(g: &[u8]) -> Scan
-    ensures { result ≡ scanOf runwayShape g.now }
+    ensures { result ≡ scan_of runway_shape g.now }
 {
     let none = absent(g);
     let number = figures_or(g, 0, 0, b"R##", 1, 2, none);
@@ -81,7 +81,7 @@ fn scan_runway(g: &[u8]) -> Scan
 }
 
 pub fn has_runway(g: &[u8]) -> bool
-    ensures { result ≡ hasShape runwayShape g.now }
+    ensures { result ≡ has_shape runway_shape g.now }
 {
     let s = scan_runway(g);
     s.fits
@@ -99,7 +99,7 @@ fn side_of(which: usize) -> Side
 }
 
 fn course_of(which: usize) -> Course
-    ensures { result ≡ courseOf which }
+    ensures { result ≡ course_of which }
 {
     match which {
         0 => Course::Up,
@@ -128,7 +128,7 @@ enum RangeRead {
 }
 
 fn read_range(mark: Value, f: Value) -> RangeRead
-    ensures { result ≡ asRange (readRange mark f) }
+    ensures { result ≡ as_range (read_range mark f) }
 {
     let which = mark.which;
     let told = f.field;
@@ -153,7 +153,7 @@ fn read_range(mark: Value, f: Value) -> RangeRead
 }
 
 fn runway_by(n: Value, s: Value, mark: Value, f: Value, c: Value) -> Said
-    ensures { result ≡ asRunway (runwayBy n s mark f c) }
+    ensures { result ≡ as_runway (runway_by n s mark f c) }
 {
     let told = n.field;
     let Field::Number(k) = told else {
@@ -180,7 +180,7 @@ fn runway_by(n: Value, s: Value, mark: Value, f: Value, c: Value) -> Said
 }
 
 pub fn read_runway(g: &[u8]) -> Said
-    ensures { result ≡ asRunway (readRunway g.now) }
+    ensures { result ≡ as_runway (read_runway g.now) }
 {
     let s = scan_runway(g);
     let values = s.values;
@@ -189,7 +189,7 @@ pub fn read_runway(g: &[u8]) -> Said
 
 // One more runway where k stand; past the fourth there is no room.
 pub fn add_runway(k: usize, rs: Runways, x: Runway) -> Runways
-    ensures { result ≡ withRunway k rs x }
+    ensures { result ≡ with_runway k rs x }
 {
     if k < 4 {
         let mut items = rs.items;
@@ -207,7 +207,7 @@ pub fn add_runway(k: usize, rs: Runways, x: Runway) -> Runways
 
 // "M| ## / M| ##" by code made for it.
 fn scan_temperatures(g: &[u8]) -> Scan
-    ensures { result ≡ scanOf temperaturesShape g.now }
+    ensures { result ≡ scan_of temperatures_shape g.now }
 {
     let none = absent(g);
     let plus = nothing(1, 0);
@@ -221,7 +221,7 @@ fn scan_temperatures(g: &[u8]) -> Scan
 }
 
 pub fn has_temperatures(g: &[u8]) -> bool
-    ensures { result ≡ hasShape temperaturesShape g.now }
+    ensures { result ≡ has_shape temperatures_shape g.now }
 {
     let s = scan_temperatures(g);
     s.fits
@@ -236,7 +236,7 @@ enum DegreesRead {
 
 // M is alternative 0.
 fn read_degrees(mark: Value, f: Value) -> DegreesRead
-    ensures { result ≡ asDegrees (readDegrees mark f) }
+    ensures { result ≡ as_degrees (read_degrees mark f) }
 {
     let minus = mark.which == 0;
     let told = f.field;
@@ -261,7 +261,7 @@ fn read_degrees(mark: Value, f: Value) -> DegreesRead
 }
 
 fn temperatures_by(m: Value, a: Value, n: Value, b: Value) -> Said
-    ensures { result ≡ asTemperatures (temperaturesBy m a n b) }
+    ensures { result ≡ as_temperatures (temperatures_by m a n b) }
 {
     let x = read_degrees(m, a);
     match x {
@@ -278,7 +278,7 @@ fn temperatures_by(m: Value, a: Value, n: Value, b: Value) -> Said
 
 // T/Td
 pub fn read_temperatures(g: &[u8]) -> Said
-    ensures { result ≡ asTemperatures (readTemperatures g.now) }
+    ensures { result ≡ as_temperatures (read_temperatures g.now) }
 {
     let s = scan_temperatures(g);
     let values = s.values;
@@ -287,7 +287,7 @@ pub fn read_temperatures(g: &[u8]) -> Said
 
 // Q
 pub fn read_qnh(g: &[u8]) -> Said
-    ensures { result ≡ asQnh (readQnh g.now) }
+    ensures { result ≡ as_qnh (read_qnh g.now) }
 {
     let f = field(g, 1, 4);
     match f {

@@ -1,16 +1,16 @@
 // How each group is written over a lent buffer, with what parts it from the group before it. Every function answers the position after its text.
 // What a buffer has no room for is not written, so that a caller may judge the room afterwards.
 ghost use Rattle.std.specs.Prelude.{◌≡◌, ◌∷◌, [], map, min, take};
-ghost use Rattle.figures.specs.Figures.{fieldText};
+ghost use Rattle.figures.specs.Figures.{field_text};
 ghost use Rattle.figures.specs.Put.{Put};
 ghost use Rattle.text.specs.Groups.{written};
-ghost use Rattle.scales.specs.Scale.{figureOf};
+ghost use Rattle.scales.specs.Scale.{figure_of};
 ghost use Rattle.scales.specs.Metres.{runway};
 ghost use Rattle.elements.specs.Wind.{chosen, numbered};
-ghost use Rattle.aerodrome_groups.specs.Head.{field_of, showTime};
-ghost use Rattle.aerodrome_groups.specs.Runway.{sideValue, courseValue, mark_of, figuresOf, markValue, rangeValue, showRunway, showRunways};
-ghost use Rattle.aerodrome_groups.specs.Temperatures.{pressureField, showTemperatures, showQnh};
-ghost use Rattle.aerodrome_groups.specs.Values.{minusOf, whole_of};
+ghost use Rattle.aerodrome_groups.specs.Head.{field_of, show_time};
+ghost use Rattle.aerodrome_groups.specs.Runway.{side_value, course_value, mark_of, figures_of, mark_value, range_value, show_runway, show_runways};
+ghost use Rattle.aerodrome_groups.specs.Temperatures.{pressure_field, show_temperatures, show_qnh};
+ghost use Rattle.aerodrome_groups.specs.Values.{minus_of, whole_of};
 
 use figures::kinds::Field;
 use figures::put::{put_byte, put_field, put_text};
@@ -43,14 +43,14 @@ pub fn field_of(n: Number) -> Field
 }
 
 pub fn put_two(out: &mut [u8], at: usize, n: Number) -> usize
-    ensures { Put out.old at (fieldText 2 (field_of n)) result out.new }
+    ensures { Put out.old at (field_text 2 (field_of n)) result out.new }
 {
     put_field(out, at, 2, field_of(n))
 }
 
 // YYGGggZ
 pub fn put_time(out: &mut [u8], at: usize, t: Instant) -> usize
-    ensures { Put out.old at (written at (showTime t ∷ [])) result out.new }
+    ensures { Put out.old at (written at (show_time t ∷ [])) result out.new }
 {
     let day = t.day;
     let hour = t.hour;
@@ -80,7 +80,7 @@ fn numbered(f: Field) -> Value
 // ---- runway visual ranges
 
 fn side_value(s: Side) -> Value
-    ensures { result ≡ sideValue s }
+    ensures { result ≡ side_value s }
 {
     match s {
         Side::None => chosen(3),
@@ -91,7 +91,7 @@ fn side_value(s: Side) -> Value
 }
 
 fn course_value(c: Course) -> Value
-    ensures { result ≡ courseValue c }
+    ensures { result ≡ course_value c }
 {
     match c {
         Course::None => chosen(3),
@@ -103,7 +103,7 @@ fn course_value(c: Course) -> Value
 
 // The range of so many metres as it is written; what is too far to be judged fine is over 2,000 m too.
 fn range_figure(metres: u32) -> Range
-    ensures { result ≡ figureOf runway metres }
+    ensures { result ≡ figure_of runway metres }
 {
     let f = runway_figure(metres);
     match f {
@@ -123,7 +123,7 @@ fn mark_of(r: Range) -> Value
 }
 
 fn figures_of(r: Range) -> Value
-    ensures { result ≡ figuresOf r }
+    ensures { result ≡ figures_of r }
 {
     match r {
         Range::Below(n) => numbered(Field::Number(n)),
@@ -133,7 +133,7 @@ fn figures_of(r: Range) -> Value
 }
 
 fn mark_value(range: Number) -> Value
-    ensures { result ≡ markValue range }
+    ensures { result ≡ mark_value range }
 {
     match range {
         Number::Missing => chosen(2),
@@ -142,7 +142,7 @@ fn mark_value(range: Number) -> Value
 }
 
 fn range_value(range: Number) -> Value
-    ensures { result ≡ rangeValue range }
+    ensures { result ≡ range_value range }
 {
     match range {
         Number::Missing => numbered(Field::Missing),
@@ -151,7 +151,7 @@ fn range_value(range: Number) -> Value
 }
 
 fn put_runway(out: &mut [u8], at: usize, w: Runway) -> usize
-    ensures { Put out.old at (written at (showRunway w ∷ [])) result out.new }
+    ensures { Put out.old at (written at (show_runway w ∷ [])) result out.new }
 {
     let number = w.number;
     let side = w.side;
@@ -180,7 +180,7 @@ fn at_most_four(count: usize) -> usize
 
 // The first `count` slots; all where the count is too large.
 fn put_each(out: &mut [u8], at: usize, items: [Runway; 4], count: usize) -> usize
-    ensures { Put out.old at (written at (map showRunway (take count items))) result out.new }
+    ensures { Put out.old at (written at (map show_runway (take count items))) result out.new }
 {
     let end = at_most_four(count);
     let mut next = at;
@@ -193,7 +193,7 @@ fn put_each(out: &mut [u8], at: usize, items: [Runway; 4], count: usize) -> usiz
 }
 
 pub fn put_runways(out: &mut [u8], at: usize, rs: Runways) -> usize
-    ensures { Put out.old at (written at (showRunways rs)) result out.new }
+    ensures { Put out.old at (written at (show_runways rs)) result out.new }
 {
     let items = rs.items;
     let count = rs.count;
@@ -204,7 +204,7 @@ pub fn put_runways(out: &mut [u8], at: usize, rs: Runways) -> usize
 
 // M, nothing, or no text where the temperature is out of range.
 fn minus_of(t: Tenths) -> Value
-    ensures { result ≡ minusOf t }
+    ensures { result ≡ minus_of t }
 {
     match t {
         Tenths::Missing => chosen(1),
@@ -235,7 +235,7 @@ fn whole_of(t: Tenths) -> Value
 
 // T/Td
 pub fn put_temperatures(out: &mut [u8], at: usize, t: Temperatures) -> usize
-    ensures { Put out.old at (written at (showTemperatures t ∷ [])) result out.new }
+    ensures { Put out.old at (written at (show_temperatures t ∷ [])) result out.new }
 {
     let air = t.air;
     let dew = t.dew;
@@ -255,7 +255,7 @@ pub fn put_temperatures(out: &mut [u8], at: usize, t: Temperatures) -> usize
 }
 
 fn pressure_field(n: Number) -> Field
-    ensures { result ≡ pressureField n }
+    ensures { result ≡ pressure_field n }
 {
     match n {
         Number::Missing => Field::Missing,
@@ -271,7 +271,7 @@ fn pressure_field(n: Number) -> Field
 
 // Q
 pub fn put_qnh(out: &mut [u8], at: usize, q: Qnh) -> usize
-    ensures { Put out.old at (written at (showQnh q ∷ [])) result out.new }
+    ensures { Put out.old at (written at (show_qnh q ∷ [])) result out.new }
 {
     let p = q.is;
     let opened = open_group(out, at);

@@ -7,10 +7,10 @@ use mathlib.Core.Bool.{Bool}
 use mathlib.Core.List.{List}
 use lib.ListN.{length}
 use Rattle.text.specs.declared.kinds.Refusal.{Refusal}
-use Rattle.text.specs.Groups.{groupsFrom, part_of}
-use Rattle.text.specs.Text.{tailOf}
+use Rattle.text.specs.Groups.{groups_from, part_of}
+use Rattle.text.specs.Text.{tail_of}
 use Rattle.places.specs.Engine.{Group, Place, onward, Fault}
-use Rattle.places.specs.Answer.{outcomeOf, endVerdict}
+use Rattle.places.specs.Answer.{outcome_of, end_verdict}
 use Rattle.places.specs.Parts.{Part, Parts, turned, unless, owes}
 use Rattle.places.proofs.Turns.{comes, within, within-over, within_on, within-fault, within-halt, ends_so}
 use Rattle.elements.specs.declared.kinds.Said.{Said}
@@ -38,11 +38,11 @@ module _ {T P W R X : Type 0} where
     met-as : {v : Met} → m ≡ v → Meets row halts put c k seen text at v
     met-as is = rw is at meets
 
-    pub reads_over : m ≡ met.Over → (x : X) → within parts text (part x) n 0 first r₀ start ≡ outcomeOf (endVerdict (tailOf text) (length text) (owes (part x) c k r)) ((part x).takes r)
+    pub reads_over : m ≡ met.Over → (x : X) → within parts text (part x) n 0 first r₀ start ≡ outcome_of (end_verdict (tail_of text) (length text) (owes (part x) c k r)) ((part x).takes r)
     reads_over is x =
         reached.same x
         ∙ within-over parts text (part x) n c k r at (met-as is)
-        ∙ ends_so (tailOf text) (length text) (owes (part x) c k r) ((part x).takes r)
+        ∙ ends_so (tail_of text) (length text) (owes (part x) c k r) ((part x).takes r)
 
     pub reads-fault : {f : Refusal} {from : ℕ} → m ≡ met.Refused f from → (x : X) → within parts text (part x) n 0 first r₀ start ≡ Fault f from
     reads-fault {f} {from} is x =
@@ -53,7 +53,7 @@ module _ {T P W R X : Type 0} where
     module _ {from to : ℕ} (is : m ≡ met.Halt from to) where
       pub reads_word : (x : X) → within parts text (part x) n 0 first r₀ start
           ≡ unless (owes (part x) c k r) from
-          (turned (comes parts text n) ((part x).takes r) (record { start = from; bytes = part_of text from to }) (groupsFrom text to) ((part x).word ((part x).takes r) (part_of text from to)))
+          (turned (comes parts text n) ((part x).takes r) (record { start = from; bytes = part_of text from to }) (groups_from text to) ((part x).word ((part x).takes r) (part_of text from to)))
       reads_word x =
           let (lies, halt) = met-as is in
           reached.same x ∙ within-halt parts text (part x) n c k r at from to _ lies.groups (rw ((reached.held x).0, (reached.held x).1) (halt r here))

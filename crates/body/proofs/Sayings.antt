@@ -12,18 +12,18 @@ use lib.Seq.{sets, sets-eq}
 use Rattle.figures.proofs.Impossible.{impossible}
 use Rattle.text.specs.declared.kinds.Tail.TheVariants.{Clear}
 use Rattle.text.specs.Groups.{Piece}
-use Rattle.shapes.specs.Pattern.{Pattern, hasAny}
+use Rattle.shapes.specs.Pattern.{Pattern, has_any}
 use Rattle.places.specs.Engine.{Group, Done, written, put_all}
-use Rattle.places.specs.Parts.{Word, Part, Parts, reportOf}
-use Rattle.places.proofs.ReadBack.{groups_of, sound, Covered, stopsAny, plain}
+use Rattle.places.specs.Parts.{Word, Part, Parts, report_of}
+use Rattle.places.proofs.ReadBack.{groups_of, sound, Covered, stops_any, plain}
 use Rattle.places.proofs.Kept.{KeptRow, kept-spoken}
-use Rattle.places.proofs.Parts.{Saying, KeptPart, unjoined, Opening, rowOf, taken, takenAll, said_all, KeptAll, Last, LastAll, report-back}
+use Rattle.places.proofs.Parts.{Saying, KeptPart, unjoined, Opening, row_of, taken, taken_all, said_all, KeptAll, Last, LastAll, report-back}
 use Rattle.record.specs.Arrays.{Each}
 use Rattle.record.proofs.Counted.{Listed}
 
 -- a part that halts at its words and whose row keeps what is written
 pub keep-part : {T P W R : Type 0} {part : Part T P W R} {r acc : R} {sizes : List ℕ} (words : List Pattern) → 0 < length part.row → sound words part.row ≡ true
-    → Covered part.row → KeptRow sizes part.row r acc → part.halts ≡ hasAny words → part.lacks (put_all part.row r acc) ≡ false → KeptPart part r acc
+    → Covered part.row → KeptRow sizes part.row r acc → part.halts ≡ has_any words → part.lacks (put_all part.row r acc) ≡ false → KeptPart part r acc
 keep-part {part = part} {r} {sizes = sizes} words some told covered kept halts whole =
     record {
       words = words;
@@ -38,7 +38,7 @@ keep-part {part = part} {r} {sizes = sizes} words some told covered kept halts w
 
 module _ {T P W : Type 0} (parts : Parts T P W) where
   -- a part after which the report may be over has none after it where it is
-  pub last-unless : {R : Type 0} (part : Part T P W R) (r : R) (xs : List (Saying P W)) (over : Bool) → (over ≡ true → xs ≡ []) → (over ≡ false → stopsAny part.row r ≡ false)
+  pub last-unless : {R : Type 0} (part : Part T P W R) (r : R) (xs : List (Saying P W)) (over : Bool) → (over ≡ true → xs ≡ []) → (over ≡ false → stops_any part.row r ≡ false)
       → Last parts part r xs
   last-unless part r [] over none on = tt
   last-unless part r (x ∷ xs) true none on = impossible (let e = none refl in cc)
@@ -53,11 +53,11 @@ module _ {T P W : Type 0} (parts : Parts T P W) where
     -- A part is said in the report t: its words open it, whatever comes after it; it is kept, and does not end the report; the words halt it as they halted
     -- the part before it; its groups are gs; and t with it is u.
     pub record SaidOne (t u : T) (gs : List Group) (x : Saying P W) : Type 0 where
-      pub opens : (rest : List Group) → Opening parts halts word t x.kind x.start (written (rowOf parts t x) x.said ++ rest) x.words
+      pub opens : (rest : List Group) → Opening parts halts word t x.kind x.start (written (row_of parts t x) x.said ++ rest) x.words
       pub kept : KeptPart (parts.part t x.kind) x.said x.start
-      pub on : stopsAny (rowOf parts t x) x.said ≡ false
+      pub on : stops_any (row_of parts t x) x.said ≡ false
       pub alike : ((parts.part t x.kind).halts ≡ halts) × ((parts.part t x.kind).word ≡ word)
-      pub groups : x.words ++ written (rowOf parts t x) x.said ≡ gs
+      pub groups : x.words ++ written (row_of parts t x) x.said ≡ gs
       pub back : taken parts t x ≡ u
 
     -- Several parts are said in it, one after the other.
@@ -65,7 +65,7 @@ module _ {T P W : Type 0} (parts : Parts T P W) where
       pub kept : KeptAll parts halts word t xs
       pub last : LastAll parts t xs
       pub groups : gs ≡ said_all parts t xs
-      pub back : takenAll parts t xs ≡ u
+      pub back : taken_all parts t xs ≡ u
 
     pub said-none : (t : T) → Said t t [] []
     said-none t = record { kept = tt; last = tt; groups = refl; back = refl }
@@ -76,7 +76,7 @@ module _ {T P W : Type 0} (parts : Parts T P W) where
         record {
           kept = (one.opens (said_all parts (taken parts t x) xs), one.kept, rw (one.alike.0, one.alike.1) rest.kept);
           last = (last-unless (parts.part t x.kind) x.said xs false (λ e. impossible (cc)) (λ e. one.on), rest.last);
-          groups = rw (← one.groups) (append_assoc x.words (written (rowOf parts t x) x.said) hs ∙ ap (λ (l : List Group). x.words ++ (written (rowOf parts t x) x.said ++ l)) rest.groups);
+          groups = rw (← one.groups) (append_assoc x.words (written (row_of parts t x) x.said) hs ∙ ap (λ (l : List Group). x.words ++ (written (row_of parts t x) x.said ++ l)) rest.groups);
           back = rest.back;
         }
 
@@ -95,7 +95,7 @@ module _ {T P W : Type 0} (parts : Parts T P W) where
           rw (more x xs, m, ← still) (said_more (saying x) (map saying xs) (said x a.0 items n (omega arith)) (said_each xs a.1 (set items n (class x)) (n + 1) (omega arith)))
 
       -- A COUNTED LIST OF CHANGES IS SAID, and read back as their classes.
-      pub list-said : {isBlank : A → Bool} {blank : A} {n : ℕ} {xs : List A} → Listed Q isBlank blank most n xs
+      pub list-said : {is_blank : A → Bool} {blank : A} {n : ℕ} {xs : List A} → Listed Q is_blank blank most n xs
           → Said (with (replicate most blank) 0) (with (map class (take n xs) ++ drop n xs) n) (each (take n xs)) (map saying (take n xs))
       list-said {blank = blank} {n} {xs} l =
           let cs = take n xs in
@@ -105,7 +105,7 @@ module _ {T P W : Type 0} (parts : Parts T P W) where
   -- THE REPORT IS READ BACK, from any pieces that hold its main part and what is said after it.
   pub report-said : {M : Type 0} {u : T} {hs : List Group} {xs : List (Saying P W)} (main : Part T P W M) (m acc : M) (end n : ℕ) (gs : List Piece)
       → KeptPart main m acc → Last parts main m xs → Said main.halts main.word (main.takes (put_all main.row m acc)) u hs xs → length xs ≤ n
-      → groups_of gs ≡ written main.row m ++ hs → reportOf Clear end parts n main acc gs ≡ Done end u
+      → groups_of gs ≡ written main.row m ++ hs → report_of Clear end parts n main acc gs ≡ Done end u
   report-said {xs = xs} main m acc end n gs kept last said few are =
       report-back parts xs end n main m acc gs kept last said.kept said.last few (are ∙ ap (λ (l : List Group). written main.row m ++ l) said.groups)
       ∙ ap (Done end) said.back

@@ -1,22 +1,22 @@
 -- The next group of a text, as the loop of a reader meets it: where it stands, where it goes in a row of places, and what it says there.
 -- Assumes nothing: these are definitions.
 use Rattle.std.specs.Prelude.{ℕ, ◌+◌, ◌≤◌, ◌<◌, ◌≡◌, Bool, List, [], ◌∷◌, length}
-use Rattle.text.specs.Groups.{part_of, groupsFrom}
+use Rattle.text.specs.Groups.{part_of, groups_from}
 use Rattle.places.specs.Engine.{Group, Read, Good, Bad, Place, onward, Step, On, Halt, Stop}
-use Rattle.places.specs.Parts.{stepBy}
+use Rattle.places.specs.Parts.{step_by}
 use Rattle.elements.specs.declared.kinds.Said.{Said}
 use Rattle.body.specs.declared.kinds.Saying.{Saying}
 use Rattle.body.specs.declared.kinds.Met.{Met}
 use Rattle.body.specs.declared.kinds.Met.TheVariants as met
 
 -- a group at its place, which is taken, or refused where it starts
-abbrev pub metAs : ℕ → Read Saying → Met
-metAs start (Good x) = met.Says x
-metAs start (Bad f) = met.Refused f start
+abbrev pub met_as : ℕ → Read Saying → Met
+met_as start (Good x) = met.Says x
+met_as start (Bad f) = met.Refused f start
 
 -- the next group at or after a position of the text stands from `start` up to `end`
 pub record Lies (text : List ℕ) (at start end : ℕ) : Type 0 where
-  pub groups : groupsFrom text at ≡ record { start = start; bytes = part_of text start end } ∷ groupsFrom text end
+  pub groups : groups_from text at ≡ record { start = start; bytes = part_of text start end } ∷ groups_from text end
   pub ahead : at < end
   pub within : end ≤ length text
 
@@ -25,11 +25,11 @@ pub record Lies (text : List ℕ) (at start end : ℕ) : Type 0 where
 module _ {R : Type 0} (row : List (Place R)) (halts : Group → Bool) (put : ℕ → Group → Said → R → R) (c k : ℕ) (seen : R → Type 0) where
   -- what a group is read as, in any such record
   abbrev pub Steps : Group → (R → Step R) → Type 0
-  Steps g to = (r : R) → seen r → stepBy row halts c k r g ≡ to r
+  Steps g to = (r : R) → seen r → step_by row halts c k r g ≡ to r
 
   -- THE NEXT GROUP of the text, at or after a position. No place has room for more than four groups.
   abbrev pub Meets : List ℕ → ℕ → Met → Type 0
-  Meets text at met.Over = groupsFrom text at ≡ []
+  Meets text at met.Over = groups_from text at ≡ []
   Meets text at (met.Halt s e) = Lies text at s e × Steps (part_of text s e) (λ r. Halt)
   Meets text at (met.Refused f s) = (e : ℕ) × Lies text at s e × Steps (part_of text s e) (λ r. Stop f)
   Meets text at (met.Says x) =

@@ -1,7 +1,7 @@
 // What the writer judges of a body, element by element: first the ranges (refusal 11), then the agreement (refusal 7).
 ghost use Rattle.std.specs.Prelude.{◌≡◌, Bool, cond, not, ◌&&◌};
 ghost use Rattle.text.specs.declared.kinds.Judged.TheVariants as judged;
-ghost use Rattle.elements.specs.Body.{windJudged, visibilityJudged, weatherJudged, skyJudged, judgeBody, hasElement};
+ghost use Rattle.elements.specs.Body.{wind_judged, visibility_judged, weather_judged, sky_judged, judge_body, has_element};
 
 use record::aerodrome::Body;
 use sky::judge::judge_sky;
@@ -19,14 +19,14 @@ fn unless_absent(required: bool, absent: bool, j: Judged) -> Judged
 }
 
 pub fn wind_judged(forecast: bool, required: bool, b: Body) -> Judged
-    ensures { (may automatic silent : Bool) → result ≡ windJudged (record { forecast = forecast; required = required; mayNsw = may; automatic = automatic; silent = silent }) b }
+    ensures { (may automatic silent : Bool) → result ≡ wind_judged (record { forecast = forecast; required = required; may_nsw = may; automatic = automatic; silent = silent }) b }
 {
     let wind = b.wind;
     unless_absent(required, wind.is_blank(), judge_wind(forecast, wind))
 }
 
 pub fn visibility_judged(forecast: bool, required: bool, b: Body) -> Judged
-    ensures { (may automatic silent : Bool) → result ≡ visibilityJudged (record { forecast = forecast; required = required; mayNsw = may; automatic = automatic; silent = silent }) b }
+    ensures { (may automatic silent : Bool) → result ≡ visibility_judged (record { forecast = forecast; required = required; may_nsw = may; automatic = automatic; silent = silent }) b }
 {
     let visibility = b.visibility;
     let view = visibility.is;
@@ -39,7 +39,7 @@ pub fn visibility_judged(forecast: bool, required: bool, b: Body) -> Judged
 
 // NSW where it may stand, and not beside CAVOK; then the weathers, beside neither.
 pub fn weather_judged(forecast: bool, may: bool, automatic: bool, b: Body) -> Judged
-    ensures { (required silent : Bool) → result ≡ weatherJudged (record { forecast = forecast; required = required; mayNsw = may; automatic = automatic; silent = silent }) b }
+    ensures { (required silent : Bool) → result ≡ weather_judged (record { forecast = forecast; required = required; may_nsw = may; automatic = automatic; silent = silent }) b }
 {
     let visibility = b.visibility;
     let weathers = b.weathers;
@@ -53,7 +53,7 @@ pub fn weather_judged(forecast: bool, may: bool, automatic: bool, b: Body) -> Ju
 }
 
 pub fn sky_judged(forecast: bool, b: Body) -> Judged
-    ensures { (required may automatic silent : Bool) → result ≡ skyJudged (record { forecast = forecast; required = required; mayNsw = may; automatic = automatic; silent = silent }) b }
+    ensures { (required may automatic silent : Bool) → result ≡ sky_judged (record { forecast = forecast; required = required; may_nsw = may; automatic = automatic; silent = silent }) b }
 {
     let visibility = b.visibility;
     let sky = b.sky;
@@ -62,7 +62,7 @@ pub fn sky_judged(forecast: bool, b: Body) -> Judged
 
 // The elements in written order.
 pub fn judge_body(forecast: bool, required: bool, may: bool, automatic: bool, b: Body) -> Judged
-    ensures { (silent : Bool) → result ≡ judgeBody (record { forecast = forecast; required = required; mayNsw = may; automatic = automatic; silent = silent }) b }
+    ensures { (silent : Bool) → result ≡ judge_body (record { forecast = forecast; required = required; may_nsw = may; automatic = automatic; silent = silent }) b }
 {
     let weather = weather_judged(forecast, may, automatic, b);
     let from_weather = and_then(weather, sky_judged(forecast, b));
@@ -72,7 +72,7 @@ pub fn judge_body(forecast: bool, required: bool, may: bool, automatic: bool, b:
 
 // Is there wind, visibility, weather, NSW or sky?
 pub fn has_element(b: Body) -> bool
-    ensures { result ≡ hasElement b }
+    ensures { result ≡ has_element b }
 {
     let wind = b.wind;
     let unit = wind.unit;

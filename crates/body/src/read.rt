@@ -1,13 +1,13 @@
 // What a group at one of the body's places says, and the body with it; what a group comes to by what it says.
 ghost use Rattle.std.specs.Prelude.{◌≡◌, cond, not, ◌&&◌, ◌||◌, eqb};
 ghost use Rattle.figures.specs.Quote.{bytes};
-ghost use Rattle.shapes.specs.Pattern.{hasPattern};
+ghost use Rattle.shapes.specs.Pattern.{has_pattern};
 ghost use Rattle.elements.specs.declared.kinds.Said.TheVariants as said;
-ghost use Rattle.elements.specs.Answers.{unlessWrong};
-ghost use Rattle.elements.specs.Body.{hasWeatherOrNsw};
-ghost use Rattle.elements.specs.Weather.{readWeather};
-ghost use Rattle.body.specs.Said.{unlessRefused, putSaid, Says, weatherSaid};
-ghost use Rattle.body.specs.Met.{metAs};
+ghost use Rattle.elements.specs.Answers.{unless_wrong};
+ghost use Rattle.elements.specs.Body.{has_weather_or_nsw};
+ghost use Rattle.elements.specs.Weather.{read_weather};
+ghost use Rattle.body.specs.Said.{unless_refused, put_said, Says, weather_said};
+ghost use Rattle.body.specs.Met.{met_as};
 
 use crate::kinds::{Met, Saying};
 use elements::kinds::{Said, WeatherRead};
@@ -20,7 +20,7 @@ use wind::read::{is_cavok, read_visibility, read_wind};
 
 // NSW, where it may stand: before any weather, and not beside CAVOK.
 fn say_nsw(may: bool, count: usize, cavok: bool) -> Said
-    ensures { result ≡ unlessWrong (may && eqb count 0 && not cavok) said.Nsw }
+    ensures { result ≡ unless_wrong (may && eqb count 0 && not cavok) said.Nsw }
 {
     if may & (count == 0) & !cavok {
         Said::Nsw
@@ -31,7 +31,7 @@ fn say_nsw(may: bool, count: usize, cavok: bool) -> Said
 
 // Weather, beside nothing that stands for it.
 fn say_weather(forecast: bool, automatic: bool, beside: bool, g: &[u8]) -> Said
-    ensures { result ≡ weatherSaid beside (readWeather forecast automatic g.now) }
+    ensures { result ≡ weather_said beside (read_weather forecast automatic g.now) }
 {
     let read = read_weather(forecast, automatic, g);
     match read {
@@ -48,7 +48,7 @@ fn say_weather(forecast: bool, automatic: bool, beside: bool, g: &[u8]) -> Said
 
 // Has the group the shape of weather, or is it NSW?
 pub fn has_weather_or_nsw(g: &[u8]) -> bool
-    ensures { result ≡ hasWeatherOrNsw g.now }
+    ensures { result ≡ has_weather_or_nsw g.now }
 {
     let nsw = has_pattern(g, b"NSW");
     let weather = has_weather(g);
@@ -115,7 +115,7 @@ fn alone(cover: Cover, s: Sky) -> Sky
 
 // The body with what a group says, where `count` groups stand at its place. What is no part of the body changes nothing of it, nor does a refusal.
 pub fn put(said: Said, count: usize, b: Body) -> Body
-    ensures { result ≡ putSaid count said b }
+    ensures { result ≡ put_said count said b }
 {
     let mut a = b;
     match said {
@@ -132,7 +132,7 @@ pub fn put(said: Said, count: usize, b: Body) -> Body
 
 // A group from `start` up to `end` that says this at its place, where `count` groups stand: it is refused, or taken.
 pub fn meet_said(said: Said, place: usize, count: usize, start: usize, end: usize) -> Met
-    ensures { result ≡ metAs start (unlessRefused said (record { said = said; place = place; count = count; start = start; end = end })) }
+    ensures { result ≡ met_as start (unless_refused said (record { said = said; place = place; count = count; start = start; end = end })) }
 {
     if let Said::Refused(refusal) = said {
         return Met::Refused { refusal, start };

@@ -2,10 +2,10 @@
 ghost use Rattle.std.specs.Prelude.{Bool, true, cond, ◌∷◌, []};
 ghost use Rattle.figures.specs.Put.{Put};
 ghost use Rattle.text.specs.Groups.{written};
-ghost use Rattle.places.specs.Engine.{written as groupsAt};
-ghost use Rattle.elements.specs.Wind.{showWind};
-ghost use Rattle.elements.specs.Visibility.{showVisibility};
-ghost use Rattle.elements.specs.Body.{showWeatherOrNsw, bodyRow};
+ghost use Rattle.places.specs.Engine.{written as groups_at};
+ghost use Rattle.elements.specs.Wind.{show_wind};
+ghost use Rattle.elements.specs.Visibility.{show_visibility};
+ghost use Rattle.elements.specs.Body.{show_weather_or_nsw, body_row};
 
 use record::aerodrome::{Body, Visibility, Wind};
 use sky::write::put_sky;
@@ -15,21 +15,21 @@ use wind::write::{put_visibility, put_wind};
 
 // A wind, unless it is left out.
 pub fn put_wind_unless(out: &mut [u8], at: usize, left: bool, w: Wind) -> usize
-    ensures { Put out.old at (written at (cond left [] (showWind w ∷ []))) result out.new }
+    ensures { Put out.old at (written at (cond left [] (show_wind w ∷ []))) result out.new }
 {
     if left { at } else { put_wind(out, at, w) }
 }
 
 // A visibility, unless it is left out.
 pub fn put_visibility_unless(out: &mut [u8], at: usize, left: bool, v: Visibility) -> usize
-    ensures { Put out.old at (written at (cond left [] (showVisibility v ∷ []))) result out.new }
+    ensures { Put out.old at (written at (cond left [] (show_visibility v ∷ []))) result out.new }
 {
     if left { at } else { put_visibility(out, at, v) }
 }
 
 // NSW, and the weathers.
 pub fn put_weather_or_nsw(out: &mut [u8], at: usize, b: Body) -> usize
-    ensures { Put out.old at (written at (showWeatherOrNsw b)) result out.new }
+    ensures { Put out.old at (written at (show_weather_or_nsw b)) result out.new }
 {
     let nsw = b.nsw;
     let weathers = b.weathers;
@@ -39,7 +39,7 @@ pub fn put_weather_or_nsw(out: &mut [u8], at: usize, b: Body) -> usize
 
 // The body of a forecast: what is blank of it is not written.
 pub fn put_body(out: &mut [u8], at: usize, b: Body) -> usize
-    ensures { (required may automatic silent : Bool) → Put out.old at (written at (groupsAt (bodyRow (record { forecast = true; required = required; mayNsw = may; automatic = automatic; silent = silent })) b)) result out.new }
+    ensures { (required may automatic silent : Bool) → Put out.old at (written at (groups_at (body_row (record { forecast = true; required = required; may_nsw = may; automatic = automatic; silent = silent })) b)) result out.new }
 {
     let wind = b.wind;
     let visibility = b.visibility;

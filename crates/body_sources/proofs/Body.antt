@@ -10,7 +10,7 @@ use lib.Seq.{get_or-set_same, get_or-set_other}
 use lib.Dec.{eqb, ltb}
 use borrow.Author.Tests.{eqb-true, eqb-false, lt-ltb}
 use Rattle.figures.proofs.Impossible.{impossible}
-use Rattle.shapes.specs.Shape.{hasShape}
+use Rattle.shapes.specs.Shape.{has_shape}
 use Rattle.places.specs.Engine.{Group, Read, Good, Bad, then}
 use Rattle.record.specs.declared.aerodrome.Wind.{Wind}
 use Rattle.record.specs.declared.aerodrome.Visibility.{Visibility}
@@ -20,16 +20,16 @@ use Rattle.record.specs.declared.aerodrome.Cover.TheVariants as cover
 use Rattle.record.specs.declared.aerodrome.Layer.{Layer}
 use Rattle.record.specs.declared.aerodrome.Sky.{Sky}
 use Rattle.record.specs.declared.aerodrome.Body.{Body}
-use Rattle.record.specs.Body.{blankWeather, blankLayer, setWind, setVisibility, setWeathers, setNsw, setSky}
-use Rattle.record.specs.SilentAerodrome.{isLayers}
+use Rattle.record.specs.Body.{blank_weather, blank_layer, set_wind, set_visibility, set_weathers, set_nsw, set_sky}
+use Rattle.record.specs.SilentAerodrome.{is_layers}
 use Rattle.elements.specs.Parts.{agreeing}
-use Rattle.elements.specs.Wind.{readWind}
-use Rattle.elements.specs.Visibility.{readVisibility, isCavok}
-use Rattle.elements.specs.Weather.{readWeather, withWeather}
-use Rattle.elements.specs.Sky.{layerShape, readLayer, readAlone, rises, addLayer, layerAgrees, withLayer, aloneAgrees, withAlone, readSky}
-use Rattle.elements.specs.Body.{Terms, isNsw, besideOthers, nswStands, readWeatherOrNsw, windPlace, visibilityPlace, weatherPlace, skyPlace}
+use Rattle.elements.specs.Wind.{read_wind}
+use Rattle.elements.specs.Visibility.{read_visibility, is_cavok}
+use Rattle.elements.specs.Weather.{read_weather, with_weather}
+use Rattle.elements.specs.Sky.{layer_shape, read_layer, read_alone, rises, add_layer, layer_agrees, with_layer, alone_agrees, with_alone, read_sky}
+use Rattle.elements.specs.Body.{Terms, is_nsw, beside_others, nsw_stands, read_weather_or_nsw, wind_place, visibility_place, weather_place, sky_place}
 use Rattle.sources.proofs.Fields.{then-good, then-bind}
-use Rattle.body_sources.specs.Items.{WeatherItem, weatherAt, WeatherSaid, no-weather, a-weather, SkyItem, skyAt, SkySaid, a-layer, a-cover}
+use Rattle.body_sources.specs.Items.{WeatherItem, weather_at, WeatherSaid, no-weather, a-weather, SkyItem, sky_at, SkySaid, a-layer, a-cover}
 
 pub agreed : {A : Type 0} (b : Bool) (x y : A) → agreeing b (Good x) ≡ Good y → (b ≡ true) × (y ≡ x)
 agreed true x y e = (refl, cc)
@@ -48,11 +48,11 @@ in_body within b x f r e =
 module _ (t : Terms) (k : ℕ) (g : Group) (b : Body) where
   -- NSW, or one more weather
   pub data WeatherDone : Body → Type 0 where
-    with-nsw : isNsw g ≡ true → k ≡ 0 → WeatherDone (setNsw true b)
-    with-weather : (w : Weather) → isNsw g ≡ false → readWeather t.forecast t.automatic g ≡ Good w → WeatherDone (setWeathers (withWeather k b.weathers w) b)
+    with-nsw : is_nsw g ≡ true → k ≡ 0 → WeatherDone (set_nsw true b)
+    with-weather : (w : Weather) → is_nsw g ≡ false → read_weather t.forecast t.automatic g ≡ Good w → WeatherDone (set_weathers (with_weather k b.weathers w) b)
 
-  beside-good : (x : Read Weather) (w : Weather) → besideOthers b x ≡ Good w → x ≡ Good w
-  beside-good (Good v) w e = ap Good (sym (agreed (not (isCavok b.visibility) && not b.nsw) v w e).1)
+  beside-good : (x : Read Weather) (w : Weather) → beside_others b x ≡ Good w → x ≡ Good w
+  beside-good (Good v) w e = ap Good (sym (agreed (not (is_cavok b.visibility) && not b.nsw) v w e).1)
   beside-good (Bad f) w e = impossible (cc)
 
   nsw-first : (m c : Bool) → (m && eqb k 0 && c) ≡ true → k ≡ 0
@@ -63,31 +63,31 @@ module _ (t : Terms) (k : ℕ) (g : Group) (b : Body) where
       go false is e = absurd (false≢true e)
   nsw-first false c e = absurd (false≢true e)
 
-  pub weather-done : (b' : Body) → (weatherPlace t).read k g b ≡ Good b' → WeatherDone b'
-  unfolding readWeatherOrNsw
-  weather-done b' e = go (isNsw g) refl e
+  pub weather-done : (b' : Body) → (weather_place t).read k g b ≡ Good b' → WeatherDone b'
+  unfolding read_weather_or_nsw
+  weather-done b' e = go (is_nsw g) refl e
     where
-      go : (n : Bool) → isNsw g ≡ n
-          → cond n (agreeing (nswStands t k b.visibility) (Good (setNsw true b)))
-          (then (besideOthers b (readWeather t.forecast t.automatic g)) (λ w. Good (setWeathers (withWeather k b.weathers w) b))) ≡ Good b' → WeatherDone b'
+      go : (n : Bool) → is_nsw g ≡ n
+          → cond n (agreeing (nsw_stands t k b.visibility) (Good (set_nsw true b)))
+          (then (beside_others b (read_weather t.forecast t.automatic g)) (λ w. Good (set_weathers (with_weather k b.weathers w) b))) ≡ Good b' → WeatherDone b'
       go true is e =
-          let (a, same) = agreed (nswStands t k b.visibility) (setNsw true b) b' e in
-          subst WeatherDone (sym same) (with-nsw is (nsw-first t.mayNsw (not (isCavok b.visibility)) a))
+          let (a, same) = agreed (nsw_stands t k b.visibility) (set_nsw true b) b' e in
+          subst WeatherDone (sym same) (with-nsw is (nsw-first t.may_nsw (not (is_cavok b.visibility)) a))
       go false is e =
-          let (w, good, same) = then-good (besideOthers b (readWeather t.forecast t.automatic g)) (λ w. setWeathers (withWeather k b.weathers w) b) b' e in
-          subst WeatherDone (sym same) (with-weather w is (beside-good (readWeather t.forecast t.automatic g) w good))
+          let (w, good, same) = then-good (beside_others b (read_weather t.forecast t.automatic g)) (λ w. set_weathers (with_weather k b.weathers w) b) b' e in
+          subst WeatherDone (sym same) (with-weather w is (beside-good (read_weather t.forecast t.automatic g) w good))
 
 module _ (t : Terms) (g : Group) (b : Body) where
   -- the k-th weather group says the k-th item
-  pub weather-tells : {b' : Body} (k : ℕ) → k < 3 → length b.weathers.items ≡ 3 → WeatherDone t k g b b' → WeatherSaid t.forecast g (weatherAt k b')
+  pub weather-tells : {b' : Body} (k : ℕ) → k < 3 → length b.weathers.items ≡ 3 → WeatherDone t k g b b' → WeatherSaid t.forecast g (weather_at k b')
   weather-tells k few fair (with-nsw is first) = rw first (no-weather is)
   weather-tells k few fair (with-weather w is reads) =
-      rw (lt-ltb k 3 few, get_or-set_same b.weathers.items k w blankWeather (rw fair few)) (a-weather t.automatic is reads)
+      rw (lt-ltb k 3 few, get_or-set_same b.weathers.items k w blank_weather (rw fair few)) (a-weather t.automatic is reads)
 
   -- and another group leaves it as it was
-  pub weather-others : {b' : Body} (k n : ℕ) → n < 3 → eqb k n ≡ false → WeatherDone t n g b b' → weatherAt k b' ≡ weatherAt k b
+  pub weather-others : {b' : Body} (k n : ℕ) → n < 3 → eqb k n ≡ false → WeatherDone t n g b b' → weather_at k b' ≡ weather_at k b
   weather-others k n few o (with-nsw is first) = rw (rw first at o)
-  weather-others k n few o (with-weather w is reads) = rw (lt-ltb n 3 few, get_or-set_other b.weathers.items n k w blankWeather (eqb-false k n o))
+  weather-others k n few o (with-weather w is reads) = rw (lt-ltb n 3 few, get_or-set_other b.weathers.items n k w blank_weather (eqb-false k n o))
 
   pub weather-stays : {b' : Body} (n : ℕ) → length b.weathers.items ≡ 3 → WeatherDone t n g b b' → length b'.weathers.items ≡ 3
   weather-stays n fair (with-nsw is first) = fair
@@ -101,8 +101,8 @@ module _ (t : Terms) (g : Group) (b : Body) where
 
 module _ (forecast cavok : Bool) (k : ℕ) (g : Group) (s : Sky) where
   pub data SkyDone : Sky → Type 0 where
-    with-layer : (l : Layer) → hasShape layerShape g ≡ true → readLayer forecast g ≡ Good l → isLayers s.cover ≡ true → SkyDone (addLayer k s l)
-    with-cover : (c : Cover) → hasShape layerShape g ≡ false → readAlone forecast g ≡ Good c → k ≡ 0 → SkyDone (record { cover = c; layers = s.layers; count = 0 })
+    with-layer : (l : Layer) → has_shape layer_shape g ≡ true → read_layer forecast g ≡ Good l → is_layers s.cover ≡ true → SkyDone (add_layer k s l)
+    with-cover : (c : Cover) → has_shape layer_shape g ≡ false → read_alone forecast g ≡ Good c → k ≡ 0 → SkyDone (record { cover = c; layers = s.layers; count = 0 })
 
   and-three : (x y z : Bool) → (x && y && z) ≡ true → y ≡ true
   and-three true true z e = refl
@@ -113,22 +113,22 @@ module _ (forecast cavok : Bool) (k : ℕ) (g : Group) (s : Sky) where
   first_alone true e = eqb-true k 0 e
   first_alone false e = absurd (false≢true e)
 
-  pub sky-done : (s' : Sky) → readSky forecast cavok k g s ≡ Good s' → SkyDone s'
-  unfolding readSky
-  sky-done s' e = go (hasShape layerShape g) refl e
+  pub sky-done : (s' : Sky) → read_sky forecast cavok k g s ≡ Good s' → SkyDone s'
+  unfolding read_sky
+  sky-done s' e = go (has_shape layer_shape g) refl e
     where
-      go : (h : Bool) → hasShape layerShape g ≡ h
-          → cond h (then (readLayer forecast g) (withLayer cavok k s)) (then (readAlone forecast g) (withAlone cavok k s)) ≡ Good s' → SkyDone s'
+      go : (h : Bool) → has_shape layer_shape g ≡ h
+          → cond h (then (read_layer forecast g) (with_layer cavok k s)) (then (read_alone forecast g) (with_alone cavok k s)) ≡ Good s' → SkyDone s'
       go true is e =
-          let (l, reads, put) = then-bind (readLayer forecast g) (withLayer cavok k s) s' e in
-          let (a, same) = agreed (layerAgrees cavok k s l) (addLayer k s l) s' put in
-          subst SkyDone (sym same) (with-layer l is reads (and-three (not cavok) (isLayers s.cover) (rises (take k s.layers) l.height) a))
+          let (l, reads, put) = then-bind (read_layer forecast g) (with_layer cavok k s) s' e in
+          let (a, same) = agreed (layer_agrees cavok k s l) (add_layer k s l) s' put in
+          subst SkyDone (sym same) (with-layer l is reads (and-three (not cavok) (is_layers s.cover) (rises (take k s.layers) l.height) a))
       go false is e =
-          let (c, reads, put) = then-bind (readAlone forecast g) (withAlone cavok k s) s' e in
-          let (a, same) = agreed (aloneAgrees cavok k) (record { cover = c; layers = s.layers; count = 0 }) s' put in
+          let (c, reads, put) = then-bind (read_alone forecast g) (with_alone cavok k s) s' e in
+          let (a, same) = agreed (alone_agrees cavok k) (record { cover = c; layers = s.layers; count = 0 }) s' put in
           subst SkyDone (sym same) (with-cover c is reads (first_alone (not cavok) a))
 
-layers-only : (c : Cover) → isLayers c ≡ true → cover.Layers ≡ c
+layers-only : (c : Cover) → is_layers c ≡ true → cover.Layers ≡ c
 layers-only cover.Layers e = refl
 layers-only cover.Clear e = absurd (false≢true e)
 layers-only cover.NoneSignificant e = absurd (false≢true e)
@@ -140,14 +140,14 @@ module _ (forecast cavok : Bool) (g : Group) (b : Body) where
   either true = refl
   either false = refl
 
-  pub sky-tells : {s' : Sky} (k : ℕ) → k < 4 → length b.sky.layers ≡ 4 → SkyDone forecast cavok k g b.sky s' → SkySaid forecast g (skyAt k (setSky s' b))
+  pub sky-tells : {s' : Sky} (k : ℕ) → k < 4 → length b.sky.layers ≡ 4 → SkyDone forecast cavok k g b.sky s' → SkySaid forecast g (sky_at k (set_sky s' b))
   sky-tells k few fair (with-layer l is reads agrees) =
-      rw (lt-ltb k 4 few, get_or-set_same b.sky.layers k l blankLayer (rw fair few), either (eqb k 0)) (a-layer is reads)
+      rw (lt-ltb k 4 few, get_or-set_same b.sky.layers k l blank_layer (rw fair few), either (eqb k 0)) (a-layer is reads)
   sky-tells k few fair (with-cover c is reads first) = rw first (a-cover is reads)
 
-  pub sky-others : {s' : Sky} (k n : ℕ) → n < 4 → eqb k n ≡ false → SkyDone forecast cavok n g b.sky s' → skyAt k (setSky s' b) ≡ skyAt k b
+  pub sky-others : {s' : Sky} (k n : ℕ) → n < 4 → eqb k n ≡ false → SkyDone forecast cavok n g b.sky s' → sky_at k (set_sky s' b) ≡ sky_at k b
   sky-others k n few o (with-layer l is reads agrees) =
-      rw (lt-ltb n 4 few, get_or-set_other b.sky.layers n k l blankLayer (eqb-false k n o), layers-only b.sky.cover agrees)
+      rw (lt-ltb n 4 few, get_or-set_other b.sky.layers n k l blank_layer (eqb-false k n o), layers-only b.sky.cover agrees)
   sky-others k n few o (with-cover c is reads first) = rw (rw first at o)
 
   pub sky-stays : {s' : Sky} (n : ℕ) → length b.sky.layers ≡ 4 → SkyDone forecast cavok n g b.sky s' → length s'.layers ≡ 4

@@ -16,7 +16,7 @@ use Rattle.elements.specs.declared.kinds.Said.TheVariants as said
 use Rattle.elements.specs.declared.kinds.WeatherRead.{WeatherRead}
 use Rattle.elements.specs.declared.kinds.WeatherRead.TheVariants as weather
 use Rattle.elements.specs.Parts.{wrong, figured, then}
-use Rattle.elements.specs.Answers.{asSaid, asWeather}
+use Rattle.elements.specs.Answers.{as_said, as_weather}
 
 -- a field that is no number, where one has to be
 pub no-figure : {A : Type 0} (f : Field) → OneOf (1 ∷ 2 ∷ 3 ∷ []) (tag_of the_type f) → (k : ℕ → Read A) → figured f k ≡ wrong
@@ -25,16 +25,16 @@ no-figure field.Missing h k = refl
 no-figure field.Mixed h k = refl
 no-figure field.Other h k = refl
 
-abbrev pub fromWeather : WeatherRead → Read Weather
-fromWeather (weather.Good x) = Good x
-fromWeather (weather.Bad f) = Bad f
+abbrev pub from_weather : WeatherRead → Read Weather
+from_weather (weather.Good x) = Good x
+from_weather (weather.Bad f) = Bad f
 
-pub weather-is : {e : WeatherRead} (x : Read Weather) → e ≡ asWeather x → x ≡ fromWeather e
+pub weather-is : {e : WeatherRead} (x : Read Weather) → e ≡ as_weather x → x ≡ from_weather e
 weather-is (Good y) p = rw p
 weather-is (Bad f) p = rw p
 
 -- WHAT A GROUP SAYS, PUT INTO A RECORD, IS WHAT ITS READING PUTS THERE: one law for every value and every record.
 pub said_put : {A R : Type 0} (says : A → Said) (with : Said → Read R) (put : A → R) → ((x : A) → with (says x) ≡ Good (put x)) → ((f : Refusal) → with (said.Refused f) ≡ Bad f)
-    → (x : Read A) → with (asSaid says x) ≡ then x (λ a. Good (put a))
+    → (x : Read A) → with (as_said says x) ≡ then x (λ a. Good (put a))
 said_put says with put good bad (Good x) = good x
 said_put says with put good bad (Bad f) = bad f

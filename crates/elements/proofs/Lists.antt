@@ -18,7 +18,7 @@ use Rattle.text.specs.declared.kinds.Judged.TheVariants as judged
 use Rattle.text.specs.declared.kinds.Refusal.{Refusal}
 use Rattle.text.specs.Judge.{judge, and_then}
 use Rattle.text.proofs.Judging.{fine, and-then}
-use Rattle.shapes.specs.Pattern.{Pattern, hasPattern}
+use Rattle.shapes.specs.Pattern.{Pattern, has_pattern}
 use Rattle.shapes.proofs.Patterns.{both}
 use Rattle.places.specs.Engine.{Group, Good, Place}
 use Rattle.places.proofs.ReadBack.{one-pattern, fill}
@@ -66,31 +66,31 @@ module _ {A : Type 0} (one : A → Judged) (each : List A → Judged) (none : ea
 
   -- ---- a counted list that is judged, its count and the slots past it first
 
-  module _ (isBlank : A → Bool) (most n : ℕ) (xs : List A) where
+  module _ (is_blank : A → Bool) (most n : ℕ) (xs : List A) where
     abbrev within : List A → Bool
-    within ys = leb n most && every isBlank (drop n ys)
+    within ys = leb n most && every is_blank (drop n ys)
 
-    abbrev pub judgeListed : List A → Judged
-    judgeListed ys = and_then (judge (within ys) true) (each (take n ys))
+    abbrev pub judge_listed : List A → Judged
+    judge_listed ys = and_then (judge (within ys) true) (each (take n ys))
 
     -- WHAT A LIST HOLDS THAT IS JUDGED FINE: few enough, each judged fine, and blank past them.
-    pub list-fair : {P F : A → Type 0} {blank : A} → ((x : A) → one x ≡ judged.Fine → F x) → ((x : A) → P x → isBlank x ≡ true → x ≡ blank) → length xs ≡ most → Each P xs
-        → judgeListed xs ≡ judged.Fine → Listed (λ x. P x × F x) isBlank blank most n xs
+    pub list-fair : {P F : A → Type 0} {blank : A} → ((x : A) → one x ≡ judged.Fine → F x) → ((x : A) → P x → is_blank x ≡ true → x ≡ blank) → length xs ≡ most → Each P xs
+        → judge_listed xs ≡ judged.Fine → Listed (λ x. P x × F x) is_blank blank most n xs
     list-fair {P} fair is all arrays e =
         let j = and-then (judge (within xs) true) (each (take n xs)) e in
-        let s = both (leb n most) (every isBlank (drop n xs)) (fine (within xs) true j.0).0 in
+        let s = both (leb n most) (every is_blank (drop n xs)) (fine (within xs) true j.0).0 in
         listed_of is all arrays (leb-true n most s.0) (each-fair P fair (take n xs) (each_take P n xs arrays) j.1) s.1
 
     -- THE LIST THAT IS READ BACK IS JUDGED FINE.
-    pub list-judged : {P : A → Type 0} {blank : A} (f : A → A) → ((x : A) → P x → one (f x) ≡ judged.Fine) → Listed P isBlank blank most n xs
-        → judgeListed (map f (take n xs) ++ drop n xs) ≡ judged.Fine
+    pub list-judged : {P : A → Type 0} {blank : A} (f : A → A) → ((x : A) → P x → one (f x) ≡ judged.Fine) → Listed P is_blank blank most n xs
+        → judge_listed (map f (take n xs) ++ drop n xs) ≡ judged.Fine
     list-judged f again l =
         rw (taken f n xs l.many, dropped f n xs l.many, le-leb n most l.few, l.past) (each-judged f again (take n xs) l.each)
 
 -- ---- written one after the other
 
 -- a word that opens a change, of a pattern
-pub one-sizes : (n : ℕ) (p : Pattern) (g : Group) → measured n (p ∷ []) ≡ true → hasPattern g p ≡ true → Sizes (n + 1) (g ∷ [])
+pub one-sizes : (n : ℕ) (p : Pattern) (g : Group) → measured n (p ∷ []) ≡ true → has_pattern g p ≡ true → Sizes (n + 1) (g ∷ [])
 one-sizes n p g m h = sizes-more (omega arith) (sizes-cons (sized-any n (p ∷ []) g m (one-pattern p g h)) sizes-none)
 
 -- the groups of one, and of each of a list
@@ -106,7 +106,7 @@ module _ {A : Type 0} (one : A → List Group) (each : List A → List Group) (n
       (sizes-more (omega (arith, mul-suc size (length xs))) (sizes-append (one x) (each xs) (sized x a.0) (each-sizes size sized xs a.1)))
 
   -- THE ROOM THAT WHAT COUNTS TAKES, AND THAT THOSE READ BACK ARE WRITTEN AS THEY WERE.
-  module _ {P : A → Type 0} {isBlank : A → Bool} {blank : A} {most n : ℕ} {xs : List A} (l : Listed P isBlank blank most n xs) where
+  module _ {P : A → Type 0} {is_blank : A → Bool} {blank : A} {most n : ℕ} {xs : List A} (l : Listed P is_blank blank most n xs) where
     pub list-sizes : (size : ℕ) → ((x : A) → P x → Sizes size (one x)) → Sizes (size * most) (each (take n xs))
     list-sizes size sized =
         let few : length (take n xs) ≤ most = omega (arith, l.many, l.few) in
@@ -138,7 +138,7 @@ module _ {R A : Type 0} (p : Place R) (holding : List A → ℕ → R) (show : A
       (rw count at (simp append_assoc at (fill-each ws (done ++ (x ∷ [])) (n + 1) rest f.1 next (omega arith))))
 
   -- WHAT IS SHOWN OF A LIST IS READ BACK, into blank slots: each that counts as its class, and blank past them.
-  pub fill-listed : {isBlank : A → Bool} {n : ℕ} {xs : List A} → Listed P isBlank blank most n xs
+  pub fill-listed : {is_blank : A → Bool} {n : ℕ} {xs : List A} → Listed P is_blank blank most n xs
       → fill p 0 (map show (take n xs)) (holding (replicate most blank) 0) ≡ Good (holding (map class (take n xs) ++ drop n xs) n)
   fill-listed {n = n} {xs} l =
       let past : replicate (most - n) blank ≡ drop n xs = sym (drop-blanks blank n most) ∙ l.rest in

@@ -2,7 +2,7 @@
 -- Assumes nothing: these are definitions.
 use Rattle.std.specs.Prelude.{ℕ, Bool, cond}
 use Rattle.text.specs.declared.kinds.Refusal.TheVariants as refusal
-use Rattle.shapes.specs.Shape.{hasShape}
+use Rattle.shapes.specs.Shape.{has_shape}
 use Rattle.places.specs.Engine.{Group, Read, Good, Bad}
 use Rattle.record.specs.declared.aerodrome.Wind.{Wind}
 use Rattle.record.specs.declared.aerodrome.Variation.{Variation}
@@ -26,67 +26,67 @@ use Rattle.elements.specs.declared.kinds.LayerRead.{LayerRead}
 use Rattle.elements.specs.declared.kinds.LayerRead.TheVariants as layer
 use Rattle.elements.specs.declared.kinds.CoverRead.{CoverRead}
 use Rattle.elements.specs.declared.kinds.CoverRead.TheVariants as cover
-use Rattle.elements.specs.Sky.{layerShape, readLayer, readAlone, layerAgrees, aloneAgrees}
+use Rattle.elements.specs.Sky.{layer_shape, read_layer, read_alone, layer_agrees, alone_agrees}
 
 -- a value as what its group says, or the group's refusal
-abbrev pub asSaid : {A : Type 0} → (A → Said) → Read A → Said
-asSaid says (Good x) = says x
-asSaid says (Bad f) = said.Refused f
+abbrev pub as_said : {A : Type 0} → (A → Said) → Read A → Said
+as_said says (Good x) = says x
+as_said says (Bad f) = said.Refused f
 
-abbrev pub asWind : Read Wind → Said
-asWind = asSaid said.Wind
+abbrev pub as_wind : Read Wind → Said
+as_wind = as_said said.Wind
 
-abbrev pub asVariation : Read Variation → Said
-asVariation = asSaid said.Variation
+abbrev pub as_variation : Read Variation → Said
+as_variation = as_said said.Variation
 
-abbrev pub asVisibility : Read Visibility → Said
-asVisibility = asSaid said.Visibility
+abbrev pub as_visibility : Read Visibility → Said
+as_visibility = as_said said.Visibility
 
-abbrev pub asInstant : Read Instant → Said
-asInstant = asSaid said.Time
+abbrev pub as_instant : Read Instant → Said
+as_instant = as_said said.Time
 
-abbrev pub asPeriod : Read Period → Said
-asPeriod = asSaid said.Period
+abbrev pub as_period : Read Period → Said
+as_period = as_said said.Period
 
-abbrev pub asRunway : Read Runway → Said
-asRunway = asSaid said.Runway
+abbrev pub as_runway : Read Runway → Said
+as_runway = as_said said.Runway
 
-abbrev pub asTemperatures : Read Temperatures → Said
-asTemperatures = asSaid said.Temperatures
+abbrev pub as_temperatures : Read Temperatures → Said
+as_temperatures = as_said said.Temperatures
 
-abbrev pub asQnh : Read Qnh → Said
-asQnh = asSaid said.Qnh
+abbrev pub as_qnh : Read Qnh → Said
+as_qnh = as_said said.Qnh
 
-abbrev pub asTimes : Read Times → Said
-asTimes = asSaid said.Times
+abbrev pub as_times : Read Times → Said
+as_times = as_said said.Times
 
-abbrev pub asState : Read RunwayState → Said
-asState = asSaid said.State
+abbrev pub as_state : Read RunwayState → Said
+as_state = as_said said.State
 
-abbrev pub asWeather : Read Weather → WeatherRead
-asWeather (Good x) = weather.Good x
-asWeather (Bad f) = weather.Bad f
+abbrev pub as_weather : Read Weather → WeatherRead
+as_weather (Good x) = weather.Good x
+as_weather (Bad f) = weather.Bad f
 
-abbrev pub asLayer : Read Layer → LayerRead
-asLayer (Good x) = layer.Good x
-asLayer (Bad f) = layer.Bad f
+abbrev pub as_layer : Read Layer → LayerRead
+as_layer (Good x) = layer.Good x
+as_layer (Bad f) = layer.Bad f
 
-abbrev pub asCover : Read Cover → CoverRead
-asCover (Good x) = cover.Good x
-asCover (Bad f) = cover.Bad f
+abbrev pub as_cover : Read Cover → CoverRead
+as_cover (Good x) = cover.Good x
+as_cover (Bad f) = cover.Bad f
 
 -- ---- clouds: a layer, or what stands alone, where it agrees with what stands already
 
-abbrev pub unlessWrong : Bool → Said → Said
-unlessWrong agrees x = cond agrees x (said.Refused refusal.Disagreement)
+abbrev pub unless_wrong : Bool → Said → Said
+unless_wrong agrees x = cond agrees x (said.Refused refusal.Disagreement)
 
-abbrev pub layerSaid : Bool → ℕ → Sky → Read Layer → Said
-layerSaid cavok k s (Good l) = unlessWrong (layerAgrees cavok k s l) (said.Layer l)
-layerSaid cavok k s (Bad f) = said.Refused f
+abbrev pub layer_said : Bool → ℕ → Sky → Read Layer → Said
+layer_said cavok k s (Good l) = unless_wrong (layer_agrees cavok k s l) (said.Layer l)
+layer_said cavok k s (Bad f) = said.Refused f
 
-abbrev pub aloneSaid : Bool → ℕ → Read Cover → Said
-aloneSaid cavok k (Good c) = unlessWrong (aloneAgrees cavok k) (said.Cover c)
-aloneSaid cavok k (Bad f) = said.Refused f
+abbrev pub alone_said : Bool → ℕ → Read Cover → Said
+alone_said cavok k (Good c) = unless_wrong (alone_agrees cavok k) (said.Cover c)
+alone_said cavok k (Bad f) = said.Refused f
 
-unfoldable pub skySaid : Bool → Bool → ℕ → Group → Sky → Said
-skySaid forecast cavok k g s = cond (hasShape layerShape g) (layerSaid cavok k s (readLayer forecast g)) (aloneSaid cavok k (readAlone forecast g))
+unfoldable pub sky_said : Bool → Bool → ℕ → Group → Sky → Said
+sky_said forecast cavok k g s = cond (has_shape layer_shape g) (layer_said cavok k s (read_layer forecast g)) (alone_said cavok k (read_alone forecast g))

@@ -6,19 +6,19 @@ use Rattle.figures.specs.Quote.{bytes}
 use Rattle.text.specs.declared.kinds.Judged.{Judged}
 use Rattle.text.specs.declared.kinds.Judged.TheVariants as judged
 use Rattle.text.specs.Judge.{judge, and_then}
-use Rattle.shapes.specs.Pattern.{Pattern, hasPattern, hasAny}
-use Rattle.shapes.specs.Shape.{hasShape, parts_of, spellings}
+use Rattle.shapes.specs.Pattern.{Pattern, has_pattern, has_any}
+use Rattle.shapes.specs.Shape.{has_shape, parts_of, spellings}
 use Rattle.places.specs.Engine.{Group, Read, Good, Bad, Place}
 use Rattle.record.specs.declared.aerodrome.Visibility.{Visibility}
 use Rattle.record.specs.declared.aerodrome.Weather.{Weather}
 use Rattle.record.specs.declared.aerodrome.Body.{Body}
-use Rattle.record.specs.Body.{setWind, setVisibility, setWeathers, setNsw, setSky}
-use Rattle.record.specs.SilentAerodrome.{isBlankWind, no_view, isLayers}
+use Rattle.record.specs.Body.{set_wind, set_visibility, set_weathers, set_nsw, set_sky}
+use Rattle.record.specs.SilentAerodrome.{is_blank_wind, no_view, is_layers}
 use Rattle.elements.specs.Parts.{agreeing, then}
-use Rattle.elements.specs.Wind.{windShape, readWind, showWind, hasUnit, judgeWind, classWind}
-use Rattle.elements.specs.Visibility.{visibilityShapes, readVisibility, isCavok, showVisibility, judgeVisibility, classVisibility}
-use Rattle.elements.specs.Weather.{weatherCover, weatherSpoken, hasWeather, readWeather, withWeather, showWeathers, judgeWeather, threeFit, judgeWeathers}
-use Rattle.elements.specs.Sky.{layerShape, aloneShapes, hasSky, readSky, showSky, judgeSky, classSky}
+use Rattle.elements.specs.Wind.{wind_shape, read_wind, show_wind, has_unit, judge_wind, class_wind}
+use Rattle.elements.specs.Visibility.{visibility_shapes, read_visibility, is_cavok, show_visibility, judge_visibility, class_visibility}
+use Rattle.elements.specs.Weather.{weather_cover, weather_spoken, has_weather, read_weather, with_weather, show_weathers, judge_weather, three_fit, judge_weathers}
+use Rattle.elements.specs.Sky.{layer_shape, alone_shapes, has_sky, read_sky, show_sky, judge_sky, class_sky}
 
 -- What differs where a body stands.
 pub record Terms : Type 0 where
@@ -27,7 +27,7 @@ pub record Terms : Type 0 where
   -- wind and visibility must stand
   pub required : Bool
   -- NSW may stand, "only in change bodies (else 7)"
-  pub mayNsw : Bool
+  pub may_nsw : Bool
   -- UP may stand: "UP without AUTO is 7."
   pub automatic : Bool
   -- nothing is written, in a NIL report
@@ -35,141 +35,141 @@ pub record Terms : Type 0 where
 
 -- the body of a change, in a trend as under BECMG and TEMPO in a TAF: "They obey the TAF's TEMPO body's rules, UP being 7 under AUTO too"
 abbrev pub changing : Terms
-changing = record { forecast = true; required = false; mayNsw = true; automatic = false; silent = false }
+changing = record { forecast = true; required = false; may_nsw = true; automatic = false; silent = false }
 
 -- a wind or visibility that is not written: in a forecast one that is blank
-abbrev pub leftOut : Terms → Bool → Bool
-leftOut t blank = cond t.forecast blank t.silent
+abbrev pub left_out_lem : Terms → Bool → Bool
+left_out_lem t blank = cond t.forecast blank t.silent
 
 -- ---- wind and visibility
 
-abbrev pub windPlace : Terms → Place Body
-windPlace t =
+abbrev pub wind_place : Terms → Place Body
+wind_place t =
     record {
-      has = hasShape windShape;
-      cover = spellings (parts_of windShape);
-      spoken = spellings (parts_of windShape);
+      has = has_shape wind_shape;
+      cover = spellings (parts_of wind_shape);
+      spoken = spellings (parts_of wind_shape);
       most = 1;
       must = t.required;
       ends = false;
-      read = λ k g b. then (readWind t.forecast g) (λ x. Good (setWind x b));
-      show = λ b. cond (leftOut t (isBlankWind b.wind)) [] (showWind b.wind ∷ []);
-      put = λ b acc. setWind (classWind b.wind) acc;
+      read = λ k g b. then (read_wind t.forecast g) (λ x. Good (set_wind x b));
+      show = λ b. cond (left_out_lem t (is_blank_wind b.wind)) [] (show_wind b.wind ∷ []);
+      put = λ b acc. set_wind (class_wind b.wind) acc;
     }
 
-abbrev pub visibilityPlace : Terms → Place Body
-visibilityPlace t =
+abbrev pub visibility_place : Terms → Place Body
+visibility_place t =
     record {
-      has = hasAny visibilityShapes;
-      cover = visibilityShapes;
-      spoken = visibilityShapes;
+      has = has_any visibility_shapes;
+      cover = visibility_shapes;
+      spoken = visibility_shapes;
       most = 1;
       must = t.required;
       ends = false;
-      read = λ k g b. then (readVisibility t.forecast g) (λ x. Good (setVisibility x b));
-      show = λ b. cond (leftOut t (no_view b.visibility.is)) [] (showVisibility b.visibility ∷ []);
-      put = λ b acc. setVisibility (classVisibility b.visibility) acc;
+      read = λ k g b. then (read_visibility t.forecast g) (λ x. Good (set_visibility x b));
+      show = λ b. cond (left_out_lem t (no_view b.visibility.is)) [] (show_visibility b.visibility ∷ []);
+      put = λ b acc. set_visibility (class_visibility b.visibility) acc;
     }
 
 -- ---- weather, or "NSW, the sole weather"
 
-abbrev pub isNsw : Group → Bool
-isNsw g = hasPattern g (bytes "NSW")
+abbrev pub is_nsw : Group → Bool
+is_nsw g = has_pattern g (bytes "NSW")
 
-abbrev pub hasWeatherOrNsw : Group → Bool
-hasWeatherOrNsw g = isNsw g || hasWeather g
+abbrev pub has_weather_or_nsw : Group → Bool
+has_weather_or_nsw g = is_nsw g || has_weather g
 
 -- NSW before the patterns of weather
-abbrev pub withNsw : List Pattern → List Pattern
-withNsw ps = bytes "NSW" ∷ ps
+abbrev pub with_nsw : List Pattern → List Pattern
+with_nsw ps = bytes "NSW" ∷ ps
 
 -- "CAVOK stands for visibility, weather and clouds; weather or clouds beside it are 7."
-abbrev pub besideOthers : Body → Read Weather → Read Weather
-besideOthers b (Good w) = agreeing (not (isCavok b.visibility) && not b.nsw) (Good w)
-besideOthers b (Bad f) = Bad f
+abbrev pub beside_others : Body → Read Weather → Read Weather
+beside_others b (Good w) = agreeing (not (is_cavok b.visibility) && not b.nsw) (Good w)
+beside_others b (Bad f) = Bad f
 
 -- where it is allowed, before any weather, not beside CAVOK
-abbrev pub nswStands : Terms → ℕ → Visibility → Bool
-nswStands t k v = t.mayNsw && eqb k 0 && not (isCavok v)
+abbrev pub nsw_stands : Terms → ℕ → Visibility → Bool
+nsw_stands t k v = t.may_nsw && eqb k 0 && not (is_cavok v)
 
-unfoldable pub readWeatherOrNsw : Terms → ℕ → Group → Body → Read Body
-readWeatherOrNsw t k g b =
-    cond (isNsw g) (agreeing (nswStands t k b.visibility) (Good (setNsw true b)))
-    (then (besideOthers b (readWeather t.forecast t.automatic g)) (λ w. Good (setWeathers (withWeather k b.weathers w) b)))
+unfoldable pub read_weather_or_nsw : Terms → ℕ → Group → Body → Read Body
+read_weather_or_nsw t k g b =
+    cond (is_nsw g) (agreeing (nsw_stands t k b.visibility) (Good (set_nsw true b)))
+    (then (beside_others b (read_weather t.forecast t.automatic g)) (λ w. Good (set_weathers (with_weather k b.weathers w) b)))
 
-abbrev pub showWeatherOrNsw : Body → List Group
-showWeatherOrNsw b = cond b.nsw (bytes "NSW" ∷ []) [] ++ showWeathers b.weathers
+abbrev pub show_weather_or_nsw : Body → List Group
+show_weather_or_nsw b = cond b.nsw (bytes "NSW" ∷ []) [] ++ show_weathers b.weathers
 
-abbrev pub weatherPlace : Terms → Place Body
-weatherPlace t =
+abbrev pub weather_place : Terms → Place Body
+weather_place t =
     record {
-      has = hasWeatherOrNsw;
-      cover = withNsw weatherCover;
-      spoken = withNsw weatherSpoken;
+      has = has_weather_or_nsw;
+      cover = with_nsw weather_cover;
+      spoken = with_nsw weather_spoken;
       most = 3;
       must = false;
       ends = false;
-      read = λ k g b. readWeatherOrNsw t k g b;
-      show = showWeatherOrNsw;
-      put = λ b acc. setNsw b.nsw (setWeathers b.weathers acc);
+      read = λ k g b. read_weather_or_nsw t k g b;
+      show = show_weather_or_nsw;
+      put = λ b acc. set_nsw b.nsw (set_weathers b.weathers acc);
     }
 
 -- ---- clouds
 
-abbrev pub skyPlace : Terms → Place Body
-skyPlace t =
+abbrev pub sky_place : Terms → Place Body
+sky_place t =
     record {
-      has = hasSky;
-      cover = spellings (parts_of layerShape) ++ aloneShapes;
-      spoken = spellings (parts_of layerShape) ++ aloneShapes;
+      has = has_sky;
+      cover = spellings (parts_of layer_shape) ++ alone_shapes;
+      spoken = spellings (parts_of layer_shape) ++ alone_shapes;
       most = 4;
       must = false;
       ends = false;
-      read = λ k g b. then (readSky t.forecast (isCavok b.visibility) k g b.sky) (λ x. Good (setSky x b));
-      show = λ b. showSky b.sky;
-      put = λ b acc. setSky (classSky b.sky) acc;
+      read = λ k g b. then (read_sky t.forecast (is_cavok b.visibility) k g b.sky) (λ x. Good (set_sky x b));
+      show = λ b. show_sky b.sky;
+      put = λ b acc. set_sky (class_sky b.sky) acc;
     }
 
 -- THE BODY'S PLACES, in their order.
-abbrev pub bodyRow : Terms → List (Place Body)
-bodyRow t = windPlace t ∷ visibilityPlace t ∷ weatherPlace t ∷ skyPlace t ∷ []
+abbrev pub body_row : Terms → List (Place Body)
+body_row t = wind_place t ∷ visibility_place t ∷ weather_place t ∷ sky_place t ∷ []
 
 -- ---- judging, element by element
 
 -- a wind or visibility that need not stand
-abbrev pub unlessAbsent : Terms → Bool → Judged → Judged
-unlessAbsent t absent j = cond (not t.required && absent) judged.Fine j
+abbrev pub unless_absent : Terms → Bool → Judged → Judged
+unless_absent t absent j = cond (not t.required && absent) judged.Fine j
 
-abbrev pub windJudged : Terms → Body → Judged
-windJudged t b = unlessAbsent t (isBlankWind b.wind) (judgeWind t.forecast b.wind)
+abbrev pub wind_judged : Terms → Body → Judged
+wind_judged t b = unless_absent t (is_blank_wind b.wind) (judge_wind t.forecast b.wind)
 
-abbrev pub visibilityJudged : Terms → Body → Judged
-visibilityJudged t b = unlessAbsent t (no_view b.visibility.is) (judgeVisibility t.forecast b.visibility)
+abbrev pub visibility_judged : Terms → Body → Judged
+visibility_judged t b = unless_absent t (no_view b.visibility.is) (judge_visibility t.forecast b.visibility)
 
 -- NSW where it may stand, and not beside CAVOK
-abbrev pub nswAgrees : Terms → Body → Bool
-nswAgrees t b = not b.nsw || (t.mayNsw && not (isCavok b.visibility))
+abbrev pub nsw_agrees : Terms → Body → Bool
+nsw_agrees t b = not b.nsw || (t.may_nsw && not (is_cavok b.visibility))
 
 -- the count, NSW, then each weather group
-abbrev pub weatherJudged : Terms → Body → Judged
-weatherJudged t b =
-    cond (nswAgrees t b) (judgeWeathers (judgeWeather t.forecast t.automatic (isCavok b.visibility || b.nsw)) b.weathers)
-    (judge (threeFit b.weathers) false)
+abbrev pub weather_judged : Terms → Body → Judged
+weather_judged t b =
+    cond (nsw_agrees t b) (judge_weathers (judge_weather t.forecast t.automatic (is_cavok b.visibility || b.nsw)) b.weathers)
+    (judge (three_fit b.weathers) false)
 
-abbrev pub skyJudged : Terms → Body → Judged
-skyJudged t b = judgeSky t.forecast (isCavok b.visibility) b.sky
+abbrev pub sky_judged : Terms → Body → Judged
+sky_judged t b = judge_sky t.forecast (is_cavok b.visibility) b.sky
 
 -- in written order
-unfoldable pub judgeBody : Terms → Body → Judged
-judgeBody t b = and_then (windJudged t b) (and_then (visibilityJudged t b) (and_then (weatherJudged t b) (skyJudged t b)))
+unfoldable pub judge_body : Terms → Body → Judged
+judge_body t b = and_then (wind_judged t b) (and_then (visibility_judged t b) (and_then (weather_judged t b) (sky_judged t b)))
 
 -- "A change body needs one element"
-abbrev pub hasElement : Body → Bool
-hasElement b =
-    hasUnit b.wind.unit || not (no_view b.visibility.is) || ltb 0 b.weathers.count || b.nsw || not (isLayers b.sky.cover) || ltb 0 b.sky.count
+abbrev pub has_element : Body → Bool
+has_element b =
+    has_unit b.wind.unit || not (no_view b.visibility.is) || ltb 0 b.weathers.count || b.nsw || not (is_layers b.sky.cover) || ltb 0 b.sky.count
 
 -- ---- what is read back: each rounded number the reading of its class, all else as it is
 
-abbrev pub classBody : Body → Body
-classBody b =
-    record { wind = classWind b.wind; visibility = classVisibility b.visibility; weathers = b.weathers; nsw = b.nsw; sky = classSky b.sky }
+abbrev pub class_body : Body → Body
+class_body b =
+    record { wind = class_wind b.wind; visibility = class_visibility b.visibility; weathers = b.weathers; nsw = b.nsw; sky = class_sky b.sky }

@@ -4,6 +4,6 @@ use Rattle.std.specs.Prelude.{Bool, not, leb}
 use Rattle.record.specs.declared.values.Number.{Number}
 use Rattle.record.specs.declared.values.Number.TheVariants as number
 
-abbrev pub metresFit : Bool → Number → Bool
-metresFit forecast number.Missing = not forecast
-metresFit forecast (number.Is m) = leb m 99999
+abbrev pub metres_fit : Bool → Number → Bool
+metres_fit forecast number.Missing = not forecast
+metres_fit forecast (number.Is m) = leb m 99999

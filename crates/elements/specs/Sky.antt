@@ -4,14 +4,14 @@
 use Rattle.std.specs.Prelude.{ℕ, ◌+◌, Bool, true, false, cond, not, ◌&&◌, ◌||◌, List, [], ◌∷◌, ◌++◌, map, take, drop, set, leb, ltb, eqb}
 use Rattle.figures.specs.Quote.{bytes}
 use Rattle.figures.specs.declared.kinds.Field.{Field}
-use Rattle.figures.specs.Figures.{field_at, fieldText, every}
+use Rattle.figures.specs.Figures.{field_at, field_text, every}
 use Rattle.figures.specs.declared.kinds.Field.TheVariants as field
 use Rattle.shapes.specs.declared.kinds.Value.{Value}
-use Rattle.shapes.specs.Pattern.{Pattern, hasPattern, hasAny}
-use Rattle.shapes.specs.Shape.{hasShape, printOf}
+use Rattle.shapes.specs.Pattern.{Pattern, has_pattern, has_any}
+use Rattle.shapes.specs.Shape.{has_shape, print_of}
 use Rattle.places.specs.Engine.{Group, Read, Good}
-use Rattle.scales.specs.Scale.{figureOf}
-use Rattle.scales.specs.Metres.{cloud, metresReading}
+use Rattle.scales.specs.Scale.{figure_of}
+use Rattle.scales.specs.Metres.{cloud, metres_reading}
 use Rattle.record.specs.declared.values.Number.{Number}
 use Rattle.record.specs.declared.values.Number.TheVariants as number
 use Rattle.record.specs.declared.aerodrome.Amount.{Amount}
@@ -22,160 +22,160 @@ use Rattle.record.specs.declared.aerodrome.Layer.{Layer}
 use Rattle.record.specs.declared.aerodrome.Cover.{Cover}
 use Rattle.record.specs.declared.aerodrome.Cover.TheVariants as cover
 use Rattle.record.specs.declared.aerodrome.Sky.{Sky}
-use Rattle.record.specs.SilentAerodrome.{noAmount, isBlankLayer, isLayers}
-use Rattle.record.specs.Classes.{classOn}
+use Rattle.record.specs.SilentAerodrome.{no_amount, is_blank_layer, is_layers}
+use Rattle.record.specs.Classes.{class_on}
 use Rattle.text.specs.declared.kinds.Judged.{Judged}
 use Rattle.text.specs.declared.kinds.Judged.TheVariants as judged
 use Rattle.text.specs.Judge.{judge, and_then}
-use Rattle.elements.specs.Judge.{metresFit}
+use Rattle.elements.specs.Judge.{metres_fit}
 use Rattle.elements.specs.Wind.{chosen, numbered}
-use Rattle.elements.specs.Parts.{mayMiss, used, provided, agreeing, then, value_at}
+use Rattle.elements.specs.Parts.{may_miss, used, provided, agreeing, then, value_at}
 
 -- ---- shapes
 
-abbrev pub layerShape : List ℕ
-layerShape = bytes "FEW|SCT|BKN|OVC ### CB|TCU|"
+abbrev pub layer_shape : List ℕ
+layer_shape = bytes "FEW|SCT|BKN|OVC ### CB|TCU|"
 
-abbrev pub aloneShapes : List Pattern
-aloneShapes = bytes "SKC" ∷ bytes "NSC" ∷ bytes "NCD" ∷ bytes "VV###" ∷ []
+abbrev pub alone_shapes : List Pattern
+alone_shapes = bytes "SKC" ∷ bytes "NSC" ∷ bytes "NCD" ∷ bytes "VV###" ∷ []
 
-abbrev pub hasSky : Group → Bool
-hasSky g = hasShape layerShape g || hasAny aloneShapes g
+abbrev pub has_sky : Group → Bool
+has_sky g = has_shape layer_shape g || has_any alone_shapes g
 
 -- ---- a height, FEW/// and VV/// being missing, in a TAF 5
 
-abbrev pub heightOf : Bool → Field → Read Number
-heightOf forecast f =
-    mayMiss f (provided (not forecast) (Good number.Missing)) (λ n. used (metresReading cloud n) (λ m. Good (number.Is m)))
+abbrev pub height_of : Bool → Field → Read Number
+height_of forecast f =
+    may_miss f (provided (not forecast) (Good number.Missing)) (λ n. used (metres_reading cloud n) (λ m. Good (number.Is m)))
 
-abbrev pub amountOf : ℕ → Amount
-amountOf k = cond (eqb k 0) amount.Few (cond (eqb k 1) amount.Scattered (cond (eqb k 2) amount.Broken amount.Overcast))
+abbrev pub amount_of : ℕ → Amount
+amount_of k = cond (eqb k 0) amount.Few (cond (eqb k 1) amount.Scattered (cond (eqb k 2) amount.Broken amount.Overcast))
 
-abbrev pub convectiveOf : ℕ → Convective
-convectiveOf k = cond (eqb k 0) convective.Cumulonimbus (cond (eqb k 1) convective.ToweringCumulus convective.None)
+abbrev pub convective_of : ℕ → Convective
+convective_of k = cond (eqb k 0) convective.Cumulonimbus (cond (eqb k 1) convective.ToweringCumulus convective.None)
 
-abbrev pub layerBy : Bool → Value → Value → Value → Read Layer
-layerBy forecast a h c =
-    then (heightOf forecast h.field) (λ x. Good (record { amount = amountOf a.which; height = x; convective = convectiveOf c.which }))
+abbrev pub layer_by : Bool → Value → Value → Value → Read Layer
+layer_by forecast a h c =
+    then (height_of forecast h.field) (λ x. Good (record { amount = amount_of a.which; height = x; convective = convective_of c.which }))
 
-unfoldable pub readLayer : Bool → Group → Read Layer
-readLayer forecast g = layerBy forecast (value_at layerShape g 0) (value_at layerShape g 1) (value_at layerShape g 2)
+unfoldable pub read_layer : Bool → Group → Read Layer
+read_layer forecast g = layer_by forecast (value_at layer_shape g 0) (value_at layer_shape g 1) (value_at layer_shape g 2)
 
 -- what stands alone
-unfoldable pub readAlone : Bool → Group → Read Cover
-readAlone forecast g =
-    cond (hasPattern g (bytes "SKC")) (Good cover.Clear)
-    (cond (hasPattern g (bytes "NSC")) (Good cover.NoneSignificant)
-    (cond (hasPattern g (bytes "NCD")) (Good cover.NoneDetected) (then (heightOf forecast (field_at g 2 3)) (λ h. Good (cover.Vertical h)))))
+unfoldable pub read_alone : Bool → Group → Read Cover
+read_alone forecast g =
+    cond (has_pattern g (bytes "SKC")) (Good cover.Clear)
+    (cond (has_pattern g (bytes "NSC")) (Good cover.NoneSignificant)
+    (cond (has_pattern g (bytes "NCD")) (Good cover.NoneDetected) (then (height_of forecast (field_at g 2 3)) (λ h. Good (cover.Vertical h)))))
 
 -- ---- how it agrees with what stands already
 
 -- no layer's height is above the next one's: the greatest height so far, missing ones passed over
-abbrev pub notAbove : Number → Number → Bool
-notAbove number.Missing h = true
-notAbove (number.Is a) number.Missing = true
-notAbove (number.Is a) (number.Is b) = leb a b
+abbrev pub not_above : Number → Number → Bool
+not_above number.Missing h = true
+not_above (number.Is a) number.Missing = true
+not_above (number.Is a) (number.Is b) = leb a b
 
 abbrev pub rises : List Layer → Number → Bool
 rises [] h = true
-rises (l ∷ ls) h = notAbove l.height h && rises ls h
+rises (l ∷ ls) h = not_above l.height h && rises ls h
 
 -- one more layer where k stand; past the fourth there is no room
-abbrev pub addLayer : ℕ → Sky → Layer → Sky
-addLayer k s l = cond (ltb k 4) (record { cover = cover.Layers; layers = set s.layers k l; count = k + 1 }) s
+abbrev pub add_layer : ℕ → Sky → Layer → Sky
+add_layer k s l = cond (ltb k 4) (record { cover = cover.Layers; layers = set s.layers k l; count = k + 1 }) s
 
 -- `cavok` stands for the clouds: beside it no layer, none beside what stands alone, and none below one before it
-abbrev pub layerAgrees : Bool → ℕ → Sky → Layer → Bool
-layerAgrees cavok k s l = not cavok && isLayers s.cover && rises (take k s.layers) l.height
+abbrev pub layer_agrees : Bool → ℕ → Sky → Layer → Bool
+layer_agrees cavok k s l = not cavok && is_layers s.cover && rises (take k s.layers) l.height
 
-abbrev pub withLayer : Bool → ℕ → Sky → Layer → Read Sky
-withLayer cavok k s l = agreeing (layerAgrees cavok k s l) (Good (addLayer k s l))
+abbrev pub with_layer : Bool → ℕ → Sky → Layer → Read Sky
+with_layer cavok k s l = agreeing (layer_agrees cavok k s l) (Good (add_layer k s l))
 
 -- "SKC, NSC, NCD or VVhhh stands alone"
-abbrev pub aloneAgrees : Bool → ℕ → Bool
-aloneAgrees cavok k = not cavok && eqb k 0
+abbrev pub alone_agrees : Bool → ℕ → Bool
+alone_agrees cavok k = not cavok && eqb k 0
 
-abbrev pub withAlone : Bool → ℕ → Sky → Cover → Read Sky
-withAlone cavok k s c = agreeing (aloneAgrees cavok k) (Good (record { cover = c; layers = s.layers; count = 0 }))
+abbrev pub with_alone : Bool → ℕ → Sky → Cover → Read Sky
+with_alone cavok k s c = agreeing (alone_agrees cavok k) (Good (record { cover = c; layers = s.layers; count = 0 }))
 
-unfoldable pub readSky : Bool → Bool → ℕ → Group → Sky → Read Sky
-readSky forecast cavok k g s =
-    cond (hasShape layerShape g) (then (readLayer forecast g) (withLayer cavok k s)) (then (readAlone forecast g) (withAlone cavok k s))
+unfoldable pub read_sky : Bool → Bool → ℕ → Group → Sky → Read Sky
+read_sky forecast cavok k g s =
+    cond (has_shape layer_shape g) (then (read_layer forecast g) (with_layer cavok k s)) (then (read_alone forecast g) (with_alone cavok k s))
 
 -- ---- writing
 
-abbrev pub heightField : Number → Field
-heightField number.Missing = field.Missing
-heightField (number.Is m) = field.Number (figureOf cloud m)
+abbrev pub height_field : Number → Field
+height_field number.Missing = field.Missing
+height_field (number.Is m) = field.Number (figure_of cloud m)
 
-abbrev pub amountValue : Amount → Value
-amountValue amount.None = chosen 4
-amountValue amount.Few = chosen 0
-amountValue amount.Scattered = chosen 1
-amountValue amount.Broken = chosen 2
-amountValue amount.Overcast = chosen 3
+abbrev pub amount_value : Amount → Value
+amount_value amount.None = chosen 4
+amount_value amount.Few = chosen 0
+amount_value amount.Scattered = chosen 1
+amount_value amount.Broken = chosen 2
+amount_value amount.Overcast = chosen 3
 
-abbrev pub convectiveValue : Convective → Value
-convectiveValue convective.None = chosen 2
-convectiveValue convective.Cumulonimbus = chosen 0
-convectiveValue convective.ToweringCumulus = chosen 1
+abbrev pub convective_value : Convective → Value
+convective_value convective.None = chosen 2
+convective_value convective.Cumulonimbus = chosen 0
+convective_value convective.ToweringCumulus = chosen 1
 
-unfoldable pub showLayer : Layer → Group
-showLayer l = printOf layerShape (amountValue l.amount ∷ numbered 0 (heightField l.height) ∷ convectiveValue l.convective ∷ [])
+unfoldable pub show_layer : Layer → Group
+show_layer l = print_of layer_shape (amount_value l.amount ∷ numbered 0 (height_field l.height) ∷ convective_value l.convective ∷ [])
 
-abbrev pub coverGroups : Cover → List Group
-coverGroups cover.Layers = []
-coverGroups cover.Clear = bytes "SKC" ∷ []
-coverGroups cover.NoneSignificant = bytes "NSC" ∷ []
-coverGroups cover.NoneDetected = bytes "NCD" ∷ []
-coverGroups (cover.Vertical h) = (bytes "VV" ++ fieldText 3 (heightField h)) ∷ []
+abbrev pub cover_groups : Cover → List Group
+cover_groups cover.Layers = []
+cover_groups cover.Clear = bytes "SKC" ∷ []
+cover_groups cover.NoneSignificant = bytes "NSC" ∷ []
+cover_groups cover.NoneDetected = bytes "NCD" ∷ []
+cover_groups (cover.Vertical h) = (bytes "VV" ++ field_text 3 (height_field h)) ∷ []
 
-unfoldable pub showSky : Sky → List Group
-showSky s = coverGroups s.cover ++ map showLayer (take s.count s.layers)
+unfoldable pub show_sky : Sky → List Group
+show_sky s = cover_groups s.cover ++ map show_layer (take s.count s.layers)
 
 -- ---- judging, in the order count and slots past it, cover, layers: each one's 11, then 7 for standing beside one before it
 
-abbrev pub coverFits : Bool → Cover → Bool
-coverFits forecast cover.Layers = true
-coverFits forecast cover.Clear = true
-coverFits forecast cover.NoneSignificant = true
-coverFits forecast cover.NoneDetected = true
-coverFits forecast (cover.Vertical h) = metresFit forecast h
+abbrev pub cover_fits : Bool → Cover → Bool
+cover_fits forecast cover.Layers = true
+cover_fits forecast cover.Clear = true
+cover_fits forecast cover.NoneSignificant = true
+cover_fits forecast cover.NoneDetected = true
+cover_fits forecast (cover.Vertical h) = metres_fit forecast h
 
-abbrev pub judgeCover : Bool → Bool → Cover → Judged
-judgeCover forecast cavok c = judge (coverFits forecast c) (not cavok || isLayers c)
+abbrev pub judge_cover : Bool → Bool → Cover → Judged
+judge_cover forecast cavok c = judge (cover_fits forecast c) (not cavok || is_layers c)
 
-abbrev pub hasAmount : Amount → Bool
-hasAmount a = not (noAmount a)
+abbrev pub has_amount : Amount → Bool
+has_amount a = not (no_amount a)
 
 -- heights as they would be written
-abbrev pub writtenHeight : Number → Number
-writtenHeight = classOn cloud
+abbrev pub written_height : Number → Number
+written_height = class_on cloud
 
-abbrev pub classLayer : Layer → Layer
-classLayer l = record { amount = l.amount; height = writtenHeight l.height; convective = l.convective }
+abbrev pub class_layer : Layer → Layer
+class_layer l = record { amount = l.amount; height = written_height l.height; convective = l.convective }
 
 -- the layers after those that were judged, `before`, as they would be written
-abbrev pub judgeLayers : Bool → Bool → List Layer → List Layer → Judged
-judgeLayers forecast beside before [] = judged.Fine
-judgeLayers forecast beside before (l ∷ ls) =
-    and_then (judge (hasAmount l.amount && metresFit forecast l.height) (not beside && rises before (writtenHeight l.height)))
-    (judgeLayers forecast beside (before ++ (classLayer l ∷ [])) ls)
+abbrev pub judge_layers : Bool → Bool → List Layer → List Layer → Judged
+judge_layers forecast beside before [] = judged.Fine
+judge_layers forecast beside before (l ∷ ls) =
+    and_then (judge (has_amount l.amount && metres_fit forecast l.height) (not beside && rises before (written_height l.height)))
+    (judge_layers forecast beside (before ++ (class_layer l ∷ [])) ls)
 
-unfoldable pub judgeSky : Bool → Bool → Sky → Judged
-judgeSky forecast cavok s =
-    and_then (judge (leb s.count 4 && every isBlankLayer (drop s.count s.layers)) true)
-    (and_then (judgeCover forecast cavok s.cover)
-    (judgeLayers forecast (cavok || not (isLayers s.cover)) [] (take s.count s.layers)))
+unfoldable pub judge_sky : Bool → Bool → Sky → Judged
+judge_sky forecast cavok s =
+    and_then (judge (leb s.count 4 && every is_blank_layer (drop s.count s.layers)) true)
+    (and_then (judge_cover forecast cavok s.cover)
+    (judge_layers forecast (cavok || not (is_layers s.cover)) [] (take s.count s.layers)))
 
 -- ---- what is read back
 
-abbrev pub classCover : Cover → Cover
-classCover cover.Layers = cover.Layers
-classCover cover.Clear = cover.Clear
-classCover cover.NoneSignificant = cover.NoneSignificant
-classCover cover.NoneDetected = cover.NoneDetected
-classCover (cover.Vertical h) = cover.Vertical (writtenHeight h)
+abbrev pub class_cover : Cover → Cover
+class_cover cover.Layers = cover.Layers
+class_cover cover.Clear = cover.Clear
+class_cover cover.NoneSignificant = cover.NoneSignificant
+class_cover cover.NoneDetected = cover.NoneDetected
+class_cover (cover.Vertical h) = cover.Vertical (written_height h)
 
-abbrev pub classSky : Sky → Sky
-classSky s = record { cover = classCover s.cover; layers = map classLayer s.layers; count = s.count }
+abbrev pub class_sky : Sky → Sky
+class_sky s = record { cover = class_cover s.cover; layers = map class_layer s.layers; count = s.count }

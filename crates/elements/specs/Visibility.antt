@@ -3,51 +3,51 @@
 use Rattle.std.specs.Prelude.{ℕ, Bool, true, false, cond, not, List, [], ◌∷◌, leb}
 use Rattle.figures.specs.Quote.{bytes}
 use Rattle.figures.specs.Figures.{field_at, figures}
-use Rattle.shapes.specs.Pattern.{Pattern, hasPattern}
+use Rattle.shapes.specs.Pattern.{Pattern, has_pattern}
 use Rattle.places.specs.Engine.{Group, Read, Good, Bad}
-use Rattle.scales.specs.Scale.{figureOf, footOf}
-use Rattle.scales.specs.Metres.{visibility, metresReading}
+use Rattle.scales.specs.Scale.{figure_of, foot_of}
+use Rattle.scales.specs.Metres.{visibility, metres_reading}
 use Rattle.record.specs.declared.aerodrome.View.{View}
 use Rattle.record.specs.declared.aerodrome.View.TheVariants as view
 use Rattle.record.specs.declared.aerodrome.Visibility.{Visibility}
 use Rattle.text.specs.declared.kinds.Judged.{Judged}
 use Rattle.text.specs.Judge.{judge}
-use Rattle.elements.specs.Parts.{mayMiss, used, provided}
+use Rattle.elements.specs.Parts.{may_miss, used, provided}
 
-abbrev pub visibilityShapes : List Pattern
-visibilityShapes = bytes "####" ∷ bytes "CAVOK" ∷ []
+abbrev pub visibility_shapes : List Pattern
+visibility_shapes = bytes "####" ∷ bytes "CAVOK" ∷ []
 
-unfoldable pub readVisibility : Bool → Group → Read Visibility
-readVisibility forecast g =
-    cond (hasPattern g (bytes "CAVOK")) (Good (record { is = view.Cavok }))
-    (mayMiss (field_at g 0 4) (provided (not forecast) (Good (record { is = view.Missing })))
-    (λ n. used (metresReading visibility n) (λ m. Good (record { is = view.Metres m }))))
+unfoldable pub read_visibility : Bool → Group → Read Visibility
+read_visibility forecast g =
+    cond (has_pattern g (bytes "CAVOK")) (Good (record { is = view.Cavok }))
+    (may_miss (field_at g 0 4) (provided (not forecast) (Good (record { is = view.Missing })))
+    (λ n. used (metres_reading visibility n) (λ m. Good (record { is = view.Metres m }))))
 
-abbrev pub isCavok : Visibility → Bool
-isCavok v = elim v.is [ view.Missing ↦ false | view.Cavok ↦ true | view.Metres m ↦ false ]
+abbrev pub is_cavok : Visibility → Bool
+is_cavok v = elim v.is [ view.Missing ↦ false | view.Cavok ↦ true | view.Metres m ↦ false ]
 
 -- ---- writing, judging, and what is read back
 
-abbrev pub viewGroup : View → Group
-viewGroup view.Missing = bytes "////"
-viewGroup view.Cavok = bytes "CAVOK"
-viewGroup (view.Metres m) = figures 4 (figureOf visibility m)
+abbrev pub view_group : View → Group
+view_group view.Missing = bytes "////"
+view_group view.Cavok = bytes "CAVOK"
+view_group (view.Metres m) = figures 4 (figure_of visibility m)
 
-unfoldable pub showVisibility : Visibility → Group
-showVisibility v = viewGroup v.is
+unfoldable pub show_visibility : Visibility → Group
+show_visibility v = view_group v.is
 
-abbrev pub viewFits : Bool → View → Bool
-viewFits forecast view.Missing = not forecast
-viewFits forecast view.Cavok = true
-viewFits forecast (view.Metres m) = leb m 99999
+abbrev pub view_fits : Bool → View → Bool
+view_fits forecast view.Missing = not forecast
+view_fits forecast view.Cavok = true
+view_fits forecast (view.Metres m) = leb m 99999
 
-unfoldable pub judgeVisibility : Bool → Visibility → Judged
-judgeVisibility forecast v = judge (viewFits forecast v.is) true
+unfoldable pub judge_visibility : Bool → Visibility → Judged
+judge_visibility forecast v = judge (view_fits forecast v.is) true
 
-abbrev pub classView : View → View
-classView view.Missing = view.Missing
-classView view.Cavok = view.Cavok
-classView (view.Metres m) = view.Metres (footOf visibility m)
+abbrev pub class_view : View → View
+class_view view.Missing = view.Missing
+class_view view.Cavok = view.Cavok
+class_view (view.Metres m) = view.Metres (foot_of visibility m)
 
-abbrev pub classVisibility : Visibility → Visibility
-classVisibility v = record { is = classView v.is }
+abbrev pub class_visibility : Visibility → Visibility
+class_visibility v = record { is = class_view v.is }

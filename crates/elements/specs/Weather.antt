@@ -4,7 +4,7 @@ use Rattle.std.specs.Prelude.{ℕ, ◌+◌, Bool, true, false, cond, not, ◌&&�
 use Prim.Native.String.{String}
 use Rattle.figures.specs.Quote.{bytes}
 use Rattle.figures.specs.Figures.{every}
-use Rattle.shapes.specs.Pattern.{Pattern, hasPattern}
+use Rattle.shapes.specs.Pattern.{Pattern, has_pattern}
 use Rattle.places.specs.Engine.{Group, Read, Good, Bad}
 use Rattle.record.specs.declared.aerodrome.Intensity.{Intensity}
 use Rattle.record.specs.declared.aerodrome.Intensity.TheVariants as intensity
@@ -14,7 +14,7 @@ use Rattle.record.specs.declared.aerodrome.Phenomena.{Phenomena}
 use Rattle.record.specs.declared.aerodrome.Phenomena.TheVariants as phenomena
 use Rattle.record.specs.declared.aerodrome.Weather.{Weather}
 use Rattle.record.specs.declared.aerodrome.Weathers.{Weathers}
-use Rattle.record.specs.SilentAerodrome.{isBlankWeather}
+use Rattle.record.specs.SilentAerodrome.{is_blank_weather}
 use Rattle.text.specs.declared.kinds.Judged.{Judged}
 use Rattle.text.specs.declared.kinds.Judged.TheVariants as judged
 use Rattle.text.specs.Judge.{judge, and_then}
@@ -41,76 +41,76 @@ among c (d ∷ ds) = same c d || among c ds
 abbrev pub one : String → List ℕ → Bool
 one codes c = among c (codes_of (bytes codes))
 
-abbrev pub isDescriptor : List ℕ → Bool
-isDescriptor c = one "MIBCPRDRBLSHTSFZ" c
+abbrev pub is_descriptor : List ℕ → Bool
+is_descriptor c = one "MIBCPRDRBLSHTSFZ" c
 
-abbrev pub isPrecipitation : List ℕ → Bool
-isPrecipitation c = one "DZRASNSGICPLGRGSUP" c
+abbrev pub is_precipitation : List ℕ → Bool
+is_precipitation c = one "DZRASNSGICPLGRGSUP" c
 
 -- obscurations and others
-abbrev pub isPhenomenon : List ℕ → Bool
-isPhenomenon c = one "BRFGFUVADUSAHZPOSQFCSSDS" c
+abbrev pub is_phenomenon : List ℕ → Bool
+is_phenomenon c = one "BRFGFUVADUSAHZPOSQFCSSDS" c
 
 abbrev pub is_code : List ℕ → Bool
-is_code c = isDescriptor c || isPrecipitation c || isPhenomenon c || one "VC" c
+is_code c = is_descriptor c || is_precipitation c || is_phenomenon c || one "VC" c
 
 -- ---- the shape: a sign or none, and one or more codes, VC being one of them; or //
 
-abbrev pub isSign : ℕ → Bool
-isSign b = eqb b 43 || eqb b 45
+abbrev pub is_sign : ℕ → Bool
+is_sign b = eqb b 43 || eqb b 45
 
-unfoldable pub areCodes : List ℕ → Bool
-areCodes [] = true
-areCodes (a ∷ []) = false
-areCodes (a ∷ b ∷ rest) = is_code (a ∷ b ∷ []) && areCodes rest
+unfoldable pub are_codes : List ℕ → Bool
+are_codes [] = true
+are_codes (a ∷ []) = false
+are_codes (a ∷ b ∷ rest) = is_code (a ∷ b ∷ []) && are_codes rest
 
-abbrev pub someCodes : List ℕ → Bool
-someCodes g = ltb 0 (length g) && areCodes g
+abbrev pub some_codes : List ℕ → Bool
+some_codes g = ltb 0 (length g) && are_codes g
 
-unfoldable pub signedCodes : Group → Bool
-signedCodes [] = false
-signedCodes (b ∷ g) = cond (isSign b) (someCodes g) (someCodes (b ∷ g))
+unfoldable pub signed_codes : Group → Bool
+signed_codes [] = false
+signed_codes (b ∷ g) = cond (is_sign b) (some_codes g) (some_codes (b ∷ g))
 
-unfoldable pub hasWeather : Group → Bool
-hasWeather g = hasPattern g (bytes "//") || signedCodes g
+unfoldable pub has_weather : Group → Bool
+has_weather g = has_pattern g (bytes "//") || signed_codes g
 
 -- weather's cover: //, or a sign or none and a code of the table, and anything more
 abbrev pub covering : List ℕ → List (List ℕ) → List Pattern
 covering before [] = []
 covering before (c ∷ cs) = (before ++ c ++ bytes "*") ∷ covering before cs
 
-abbrev pub allCodes : List (List ℕ)
-allCodes = codes_of (bytes "MIBCPRDRBLSHTSFZDZRASNSGICPLGRGSUPBRFGFUVADUSAHZPOSQFCSSDSVC")
+abbrev pub all_codes : List (List ℕ)
+all_codes = codes_of (bytes "MIBCPRDRBLSHTSFZDZRASNSGICPLGRGSUPBRFGFUVADUSAHZPOSQFCSSDSVC")
 
 -- without a sign SN stands alone or before another code, so that SNOCLO is no weather
-abbrev pub codesButSnow : List (List ℕ)
-codesButSnow = codes_of (bytes "MIBCPRDRBLSHTSFZDZRASGICPLGRGSUPBRFGFUVADUSAHZPOSQFCSSDSVC")
+abbrev pub codes_but_snow : List (List ℕ)
+codes_but_snow = codes_of (bytes "MIBCPRDRBLSHTSFZDZRASGICPLGRGSUPBRFGFUVADUSAHZPOSQFCSSDSVC")
 
-abbrev pub unsignedCover : List Pattern
-unsignedCover = bytes "SN" ∷ (covering (bytes "SN") allCodes ++ covering [] codesButSnow)
+abbrev pub unsigned_cover : List Pattern
+unsigned_cover = bytes "SN" ∷ (covering (bytes "SN") all_codes ++ covering [] codes_but_snow)
 
-abbrev pub weatherCover : List Pattern
-weatherCover = bytes "//" ∷ (unsignedCover ++ (covering (bytes "+") allCodes ++ covering (bytes "-") allCodes))
+abbrev pub weather_cover : List Pattern
+weather_cover = bytes "//" ∷ (unsigned_cover ++ (covering (bytes "+") all_codes ++ covering (bytes "-") all_codes))
 
 -- what is written of weather fits one of these: PR stands before FG alone, so that PROB30 is no weather
-abbrev pub spokenCodes : List (List ℕ)
-spokenCodes = codes_of (bytes "MIBCDRBLSHTSFZDZRASNSGICPLGRGSUPBRFGFUVADUSAHZPOSQFCSSDSVC")
+abbrev pub spoken_codes : List (List ℕ)
+spoken_codes = codes_of (bytes "MIBCDRBLSHTSFZDZRASNSGICPLGRGSUPBRFGFUVADUSAHZPOSQFCSSDSVC")
 
-abbrev pub weatherSpoken : List Pattern
-weatherSpoken =
-    bytes "//" ∷ bytes "PRFG" ∷ (covering [] spokenCodes ++ (covering (bytes "+") spokenCodes ++ covering (bytes "-") spokenCodes))
+abbrev pub weather_spoken : List Pattern
+weather_spoken =
+    bytes "//" ∷ bytes "PRFG" ∷ (covering [] spoken_codes ++ (covering (bytes "+") spoken_codes ++ covering (bytes "-") spoken_codes))
 
 -- "RE groups carry no sign and no VC (5)"
-unfoldable pub hasRecent : Group → Bool
-hasRecent [] = false
-hasRecent (r ∷ []) = false
-hasRecent (r ∷ e ∷ g) = eqb r 82 && eqb e 69 && signedCodes g
+unfoldable pub has_recent : Group → Bool
+has_recent [] = false
+has_recent (r ∷ []) = false
+has_recent (r ∷ e ∷ g) = eqb r 82 && eqb e 69 && signed_codes g
 
 -- ---- how codes are joined
 
-abbrev pub allAmong : (List ℕ → Bool) → List (List ℕ) → Bool
-allAmong test [] = true
-allAmong test (c ∷ cs) = test c && allAmong test cs
+abbrev pub all_among : (List ℕ → Bool) → List (List ℕ) → Bool
+all_among test [] = true
+all_among test (c ∷ cs) = test c && all_among test cs
 
 abbrev pub differ : List (List ℕ) → Bool
 differ [] = true
@@ -118,10 +118,10 @@ differ (c ∷ cs) = not (among c cs) && differ cs
 
 -- "one to three different precipitations"
 abbrev pub precipitations : List (List ℕ) → Bool
-precipitations cs = leb 1 (length cs) && leb (length cs) 3 && allAmong isPrecipitation cs && differ cs
+precipitations cs = leb 1 (length cs) && leb (length cs) 3 && all_among is_precipitation cs && differ cs
 
 abbrev pub single : (List ℕ → Bool) → List (List ℕ) → Bool
-single test cs = eqb (length cs) 1 && allAmong test cs
+single test cs = eqb (length cs) 1 && all_among test cs
 
 -- "Every precipitation in a group must suit its descriptor."
 abbrev pub suits : List ℕ → List (List ℕ) → Bool
@@ -129,11 +129,11 @@ suits d cs =
     -- "MI BC PR only with FG; DR BL with one of DU SA SN; SH with RA SN PL GS GR; TS likewise; FZ with FG, or with DZ, RA or both."
     cond (one "MIBCPR" d) (single (one "FG") cs)
     (cond (one "DRBL" d) (single (one "DUSASN") cs)
-    (cond (one "SHTS" d) (precipitations cs && allAmong (one "RASNPLGSGR") cs) (single (one "FG") cs || (precipitations cs && allAmong (one "DZRA") cs))))
+    (cond (one "SHTS" d) (precipitations cs && all_among (one "RASNPLGSGR") cs) (single (one "FG") cs || (precipitations cs && all_among (one "DZRA") cs))))
 
 -- with no descriptor: "one phenomenon or one to three different precipitations"
 abbrev pub bare : List (List ℕ) → Bool
-bare cs = single isPhenomenon cs || precipitations cs
+bare cs = single is_phenomenon cs || precipitations cs
 
 -- A group's codes after its sign or VC, by whether the first is a descriptor.
 pub data Joined : Type 0 where
@@ -142,7 +142,7 @@ pub data Joined : Type 0 where
 
 abbrev pub joined : List (List ℕ) → Joined
 joined [] = Bare []
-joined (c ∷ cs) = cond (isDescriptor c) (Under c cs) (Bare (c ∷ cs))
+joined (c ∷ cs) = cond (is_descriptor c) (Under c cs) (Bare (c ∷ cs))
 
 abbrev pub right : Joined → Bool
 right (Bare cs) = bare cs
@@ -150,9 +150,9 @@ right (Bare cs) = bare cs
 right (Under d cs) = (one "TS" d && eqb (length cs) 0) || suits d cs
 
 -- "VC stands before only DS SS FG FC SH TS PO BLDU BLSA BLSN VA."
-abbrev pub inVicinity : Joined → Bool
-inVicinity (Bare cs) = single (one "DSSSFGFCPOVA") cs
-inVicinity (Under d cs) = (one "SHTS" d && eqb (length cs) 0) || (one "BL" d && single (one "DUSASN") cs)
+abbrev pub in_vicinity : Joined → Bool
+in_vicinity (Bare cs) = single (one "DSSSFGFCPOVA") cs
+in_vicinity (Under d cs) = (one "SHTS" d && eqb (length cs) 0) || (one "BL" d && single (one "DUSASN") cs)
 
 -- "A sign only with precipitation not under DR or BL, with DS or SS, and + also with FC and PO."
 abbrev pub signed : Bool → Joined → Bool
@@ -167,45 +167,45 @@ letters c = code.Letters (get_or c 0 0) (get_or c 1 0)
 abbrev pub code_at : List (List ℕ) → ℕ → Code
 code_at cs i = cond (ltb i (length cs)) (letters (get_or cs i [])) code.None
 
-abbrev pub weatherOf : Intensity → Joined → Weather
-weatherOf i (Bare cs) = record { is = phenomena.Is i code.None (code_at cs 0) (code_at cs 1) (code_at cs 2) }
-weatherOf i (Under d cs) = record { is = phenomena.Is i (letters d) (code_at cs 0) (code_at cs 1) (code_at cs 2) }
+abbrev pub weather_of : Intensity → Joined → Weather
+weather_of i (Bare cs) = record { is = phenomena.Is i code.None (code_at cs 0) (code_at cs 1) (code_at cs 2) }
+weather_of i (Under d cs) = record { is = phenomena.Is i (letters d) (code_at cs 0) (code_at cs 1) (code_at cs 2) }
 
 -- the sign or VC, and what it stands before
 abbrev pub unsigned : List (List ℕ) → Read Weather
 unsigned [] = wrong
 unsigned (c ∷ cs) =
-    cond (one "VC" c) (provided (inVicinity (joined cs)) (Good (weatherOf intensity.Vicinity (joined cs))))
-    (provided (right (joined (c ∷ cs))) (Good (weatherOf intensity.None (joined (c ∷ cs)))))
+    cond (one "VC" c) (provided (in_vicinity (joined cs)) (Good (weather_of intensity.Vicinity (joined cs))))
+    (provided (right (joined (c ∷ cs))) (Good (weather_of intensity.None (joined (c ∷ cs)))))
 
 abbrev pub with_sign : Bool → List (List ℕ) → Read Weather
 with_sign heavy cs =
-    provided (right (joined cs) && signed heavy (joined cs)) (Good (weatherOf (cond heavy intensity.Heavy intensity.Light) (joined cs)))
+    provided (right (joined cs) && signed heavy (joined cs)) (Good (weather_of (cond heavy intensity.Heavy intensity.Light) (joined cs)))
 
-unfoldable pub saidWeather : Group → Read Weather
-saidWeather [] = wrong
-saidWeather (b ∷ g) = cond (eqb b 43) (with_sign true (codes_of g)) (cond (eqb b 45) (with_sign false (codes_of g)) (unsigned (codes_of (b ∷ g))))
+unfoldable pub said_weather : Group → Read Weather
+said_weather [] = wrong
+said_weather (b ∷ g) = cond (eqb b 43) (with_sign true (codes_of g)) (cond (eqb b 45) (with_sign false (codes_of g)) (unsigned (codes_of (b ∷ g))))
 
-abbrev pub missingWeather : Weather
-missingWeather = record { is = phenomena.Missing }
+abbrev pub missing_weather : Weather
+missing_weather = record { is = phenomena.Missing }
 
 -- "UP without AUTO is 7."
-abbrev pub isUnknown : Code → Bool
-isUnknown code.None = false
-isUnknown (code.Letters a b) = eqb a 85 && eqb b 80
+abbrev pub is_unknown : Code → Bool
+is_unknown code.None = false
+is_unknown (code.Letters a b) = eqb a 85 && eqb b 80
 
-abbrev pub hasUnknown : Phenomena → Bool
-hasUnknown phenomena.Missing = false
-hasUnknown (phenomena.Is i d a b c) = isUnknown a || isUnknown b || isUnknown c
+abbrev pub has_unknown : Phenomena → Bool
+has_unknown phenomena.Missing = false
+has_unknown (phenomena.Is i d a b c) = is_unknown a || is_unknown b || is_unknown c
 
-abbrev pub unlessUnknown : Bool → Read Weather → Read Weather
-unlessUnknown automatic (Good w) = agreeing (automatic || not (hasUnknown w.is)) (Good w)
-unlessUnknown automatic (Bad f) = Bad f
+abbrev pub unless_unknown : Bool → Read Weather → Read Weather
+unless_unknown automatic (Good w) = agreeing (automatic || not (has_unknown w.is)) (Good w)
+unless_unknown automatic (Bad f) = Bad f
 
 -- present or forecast weather; // is missing, in a TAF 5
-unfoldable pub readWeather : Bool → Bool → Group → Read Weather
-readWeather forecast automatic g =
-    cond (hasPattern g (bytes "//")) (provided (not forecast) (Good missingWeather)) (unlessUnknown automatic (saidWeather g))
+unfoldable pub read_weather : Bool → Bool → Group → Read Weather
+read_weather forecast automatic g =
+    cond (has_pattern g (bytes "//")) (provided (not forecast) (Good missing_weather)) (unless_unknown automatic (said_weather g))
 
 -- recent weather: "RE groups carry no sign and no VC (5)."
 abbrev pub plain : Intensity → Bool
@@ -218,46 +218,46 @@ abbrev pub is_plain : Phenomena → Bool
 is_plain phenomena.Missing = false
 is_plain (phenomena.Is i d a b c) = plain i
 
-abbrev pub onlyPlain : Read Weather → Read Weather
-onlyPlain (Good w) = provided (is_plain w.is) (Good w)
-onlyPlain (Bad f) = Bad f
+abbrev pub only_plain : Read Weather → Read Weather
+only_plain (Good w) = provided (is_plain w.is) (Good w)
+only_plain (Bad f) = Bad f
 
-unfoldable pub readRecent : Bool → Group → Read Weather
-readRecent automatic [] = wrong
-readRecent automatic (r ∷ []) = wrong
-readRecent automatic (r ∷ e ∷ g) = unlessUnknown automatic (onlyPlain (saidWeather g))
+unfoldable pub read_recent : Bool → Group → Read Weather
+read_recent automatic [] = wrong
+read_recent automatic (r ∷ []) = wrong
+read_recent automatic (r ∷ e ∷ g) = unless_unknown automatic (only_plain (said_weather g))
 
 -- one more where k stand; past the third there is no room
-abbrev pub withWeather : ℕ → Weathers → Weather → Weathers
-withWeather k ws x = cond (ltb k 3) (record { items = set ws.items k x; count = k + 1 }) ws
+abbrev pub with_weather : ℕ → Weathers → Weather → Weathers
+with_weather k ws x = cond (ltb k 3) (record { items = set ws.items k x; count = k + 1 }) ws
 
 -- ---- writing
 
-abbrev pub codeText : Code → List ℕ
-codeText code.None = []
-codeText (code.Letters a b) = a ∷ b ∷ []
+abbrev pub code_text : Code → List ℕ
+code_text code.None = []
+code_text (code.Letters a b) = a ∷ b ∷ []
 
-abbrev pub signText : Intensity → List ℕ
-signText intensity.None = []
-signText intensity.Light = bytes "-"
-signText intensity.Heavy = bytes "+"
-signText intensity.Vicinity = bytes "VC"
+abbrev pub sign_text_lem : Intensity → List ℕ
+sign_text_lem intensity.None = []
+sign_text_lem intensity.Light = bytes "-"
+sign_text_lem intensity.Heavy = bytes "+"
+sign_text_lem intensity.Vicinity = bytes "VC"
 
-abbrev pub phenomenaText : Phenomena → Group
-phenomenaText phenomena.Missing = bytes "//"
-phenomenaText (phenomena.Is i d a b c) = signText i ++ codeText d ++ codeText a ++ codeText b ++ codeText c
+abbrev pub phenomena_text : Phenomena → Group
+phenomena_text phenomena.Missing = bytes "//"
+phenomena_text (phenomena.Is i d a b c) = sign_text_lem i ++ code_text d ++ code_text a ++ code_text b ++ code_text c
 
-unfoldable pub showWeather : Weather → Group
-showWeather w = phenomenaText w.is
+unfoldable pub show_weather : Weather → Group
+show_weather w = phenomena_text w.is
 
-unfoldable pub showRecent : Weather → Group
-showRecent w = bytes "RE" ++ phenomenaText w.is
+unfoldable pub show_recent : Weather → Group
+show_recent w = bytes "RE" ++ phenomena_text w.is
 
-unfoldable pub showWeathers : Weathers → List Group
-showWeathers ws = map showWeather (take ws.count ws.items)
+unfoldable pub show_weathers : Weathers → List Group
+show_weathers ws = map show_weather (take ws.count ws.items)
 
-unfoldable pub showRecents : Weathers → List Group
-showRecents ws = map showRecent (take ws.count ws.items)
+unfoldable pub show_recents : Weathers → List Group
+show_recents ws = map show_recent (take ws.count ws.items)
 
 -- ---- judging: "A sign and table codes wrongly joined are 5", in a record a value outside its range. The codes stand one after the other, the first
 -- a descriptor or none, and what they are joined to is read back as they are.
@@ -279,36 +279,36 @@ under code.None cs = Bare cs
 under (code.Letters a b) cs = Under (a ∷ b ∷ []) cs
 
 -- a descriptor is one of the table's
-abbrev pub isDescribed : Code → Bool
-isDescribed code.None = true
-isDescribed (code.Letters a b) = isDescriptor (a ∷ b ∷ [])
+abbrev pub is_described : Code → Bool
+is_described code.None = true
+is_described (code.Letters a b) = is_descriptor (a ∷ b ∷ [])
 
-abbrev pub intensityFits : Intensity → Joined → Bool
-intensityFits intensity.None j = right j
-intensityFits intensity.Light j = right j && signed false j
-intensityFits intensity.Heavy j = right j && signed true j
-intensityFits intensity.Vicinity j = inVicinity j
+abbrev pub intensity_fits : Intensity → Joined → Bool
+intensity_fits intensity.None j = right j
+intensity_fits intensity.Light j = right j && signed false j
+intensity_fits intensity.Heavy j = right j && signed true j
+intensity_fits intensity.Vicinity j = in_vicinity j
 
-abbrev pub phenomenaFit : Phenomena → Bool
-phenomenaFit phenomena.Missing = false
-phenomenaFit (phenomena.Is i d a b c) = isDescribed d && gapless a b c && intensityFits i (under d (listed a (listed b (listed c []))))
+abbrev pub phenomena_fit : Phenomena → Bool
+phenomena_fit phenomena.Missing = false
+phenomena_fit (phenomena.Is i d a b c) = is_described d && gapless a b c && intensity_fits i (under d (listed a (listed b (listed c []))))
 
 -- beside: CAVOK or NSW stands for the weather
-unfoldable pub judgeWeather : Bool → Bool → Bool → Weather → Judged
-judgeWeather forecast automatic beside w =
-    judge (phenomenaFit w.is || (not forecast && isBlankWeather w)) (not beside && (automatic || not (hasUnknown w.is)))
+unfoldable pub judge_weather : Bool → Bool → Bool → Weather → Judged
+judge_weather forecast automatic beside w =
+    judge (phenomena_fit w.is || (not forecast && is_blank_weather w)) (not beside && (automatic || not (has_unknown w.is)))
 
-unfoldable pub judgeRecent : Bool → Weather → Judged
-judgeRecent automatic w = judge (phenomenaFit w.is && is_plain w.is) (automatic || not (hasUnknown w.is))
+unfoldable pub judge_recent : Bool → Weather → Judged
+judge_recent automatic w = judge (phenomena_fit w.is && is_plain w.is) (automatic || not (has_unknown w.is))
 
 -- ---- up to three: "a count over its limit, a slot past its count .. that is not blank", then each in turn
 
-abbrev pub judgeEach : (Weather → Judged) → List Weather → Judged
-judgeEach test [] = judged.Fine
-judgeEach test (w ∷ ws) = and_then (test w) (judgeEach test ws)
+abbrev pub judge_each : (Weather → Judged) → List Weather → Judged
+judge_each test [] = judged.Fine
+judge_each test (w ∷ ws) = and_then (test w) (judge_each test ws)
 
-abbrev pub threeFit : Weathers → Bool
-threeFit ws = leb ws.count 3 && every isBlankWeather (drop ws.count ws.items)
+abbrev pub three_fit : Weathers → Bool
+three_fit ws = leb ws.count 3 && every is_blank_weather (drop ws.count ws.items)
 
-unfoldable pub judgeWeathers : (Weather → Judged) → Weathers → Judged
-judgeWeathers test ws = and_then (judge (threeFit ws) true) (judgeEach test (take ws.count ws.items))
+unfoldable pub judge_weathers : (Weather → Judged) → Weathers → Judged
+judge_weathers test ws = and_then (judge (three_fit ws) true) (judge_each test (take ws.count ws.items))

@@ -12,7 +12,7 @@ use borrow.Author.Tests.{le-leb}
 use Rattle.figures.proofs.Impossible.{impossible}
 use Rattle.figures.specs.declared.kinds.Field.{Field}
 use Rattle.figures.specs.declared.kinds.Field.TheVariants.{Number, Missing, Mixed, Other}
-use Rattle.figures.specs.Figures.{isFigure, isSlash, figures, scan, field_at, numberText, slashes, fieldText, Fits, every}
+use Rattle.figures.specs.Figures.{is_figure, is_slash, figures, scan, field_at, number_text, slashes, field_text, Fits, every}
 use Rattle.figures.proofs.Fields.{on-figure, field_in, figure, line, neither, byte, had, field-there}
 
 -- ---- the texts
@@ -23,16 +23,16 @@ length-figures zero n = refl
 length-figures (suc w) n = rw (length-append, length-figures w (n / 10)) (omega arith)
 
 -- a field's text at the widths that there are
-pub number-text : (w n : ℕ) → w ≤ 5 → numberText w n ≡ figures w n
-unfolding numberText
+pub number-text : (w n : ℕ) → w ≤ 5 → number_text w n ≡ figures w n
+unfolding number_text
 number-text w n h = rw (le-leb w 5 h)
 
 pub slashes-text : (w : ℕ) → w ≤ 5 → slashes w ≡ replicate w 47
 unfolding slashes
 slashes-text w h = rw (le-leb w 5 h)
 
-pub length-field : (w : ℕ) (f : Field) → w ≤ 5 → Fits w f → length (fieldText w f) ≡ w
-unfolding fieldText
+pub length-field : (w : ℕ) (f : Field) → w ≤ 5 → Fits w f → length (field_text w f) ≡ w
+unfolding field_text
 length-field w (Number n) h f = rw (number-text w n h) (length-figures w n)
 length-field w Missing h f = rw (slashes-text w h) (length-replicate w 47)
 length-field w Mixed h f = absurd f
@@ -44,17 +44,17 @@ pub every_append : (f : ℕ → Bool) (x y : List ℕ) → every f (x ++ y) ≡ 
 every_append f [] y = refl
 every_append f (b ∷ x) y = rw (every_append f x y) (sym (and_assoc (f b) (every f x) (every f y)))
 
-pub all-figures : (w n : ℕ) → every isFigure (figures w n) ≡ true
+pub all-figures : (w n : ℕ) → every is_figure (figures w n) ≡ true
 unfolding figures
 all-figures zero n = refl
 all-figures (suc w) n =
-    rw (every_append isFigure (figures w (n / 10)), all-figures w (n / 10), le-leb 48 (48 + n % 10) (omega arith), le-leb (48 + n % 10) 57 (omega arith))
+    rw (every_append is_figure (figures w (n / 10)), all-figures w (n / 10), le-leb 48 (48 + n % 10) (omega arith), le-leb (48 + n % 10) 57 (omega arith))
 
-every-slash : (w : ℕ) → every isSlash (replicate w 47) ≡ true
+every-slash : (w : ℕ) → every is_slash (replicate w 47) ≡ true
 every-slash zero = refl
 every-slash (suc w) = every-slash w
 
-pub all-slashes : (w : ℕ) → w ≤ 5 → every isSlash (slashes w) ≡ true
+pub all-slashes : (w : ℕ) → w ≤ 5 → every is_slash (slashes w) ≡ true
 all-slashes w h = rw (slashes-text w h) (every-slash w)
 
 -- ---- a part of a text, and what it holds as a field
@@ -113,8 +113,8 @@ field-slashes pre post (suc w) one five =
     (field-part pre (replicate (suc w) 47) post (suc w) one five (length-replicate (suc w) 47) ∙ scan-slashes w 0 false false)
 
 pub field_back : (pre post : List ℕ) (w : ℕ) (f : Field) → 1 ≤ w → w ≤ 5 → Fits w f
-    → field_at (pre ++ fieldText w f ++ post) (length pre) w ≡ f
-unfolding fieldText
+    → field_at (pre ++ field_text w f ++ post) (length pre) w ≡ f
+unfolding field_text
 field_back pre post w (Number n) one five h = rw (number-text w n five) (field-figures pre post w n one five h)
 field_back pre post w Missing one five h = field-slashes pre post w one five
 field_back pre post w Mixed one five h = absurd h

@@ -5,24 +5,24 @@ pub mod put;
 pub mod signed;
 
 ghost use Rattle.std.specs.Prelude.{◌≡◌, ◌≤◌, length, get_or, false};
-ghost use Rattle.figures.specs.Figures.{isFigure, isSlash, isLetter, scan, field_at};
+ghost use Rattle.figures.specs.Figures.{is_figure, is_slash, is_letter, scan, field_at};
 
 use kinds::Field;
 
 pub fn is_figure(b: u8) -> bool
-    ensures { result ≡ isFigure b }
+    ensures { result ≡ is_figure b }
 {
     (b'0' <= b) & (b <= b'9')
 }
 
 pub fn is_slash(b: u8) -> bool
-    ensures { result ≡ isSlash b }
+    ensures { result ≡ is_slash b }
 {
     b == b'/'
 }
 
 pub fn is_letter(b: u8) -> bool
-    ensures { result ≡ isLetter b }
+    ensures { result ≡ is_letter b }
 {
     (b'A' <= b) & (b <= b'Z')
 }

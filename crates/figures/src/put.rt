@@ -1,7 +1,7 @@
 // Text put over a lent buffer from a position on. Every function answers the position after its text. Bytes that the buffer has no room for
 // are not written, and a position that has reached the buffer's end stays: `Put` says so, and one law (`then`) puts two texts one after the other.
 ghost use Rattle.std.specs.Prelude.{◌∷◌, []};
-ghost use Rattle.figures.specs.Figures.{figures, numberText, slashes, fieldText};
+ghost use Rattle.figures.specs.Figures.{figures, number_text, slashes, field_text};
 ghost use Rattle.figures.specs.Put.{Put};
 
 use crate::kinds::Field;
@@ -30,7 +30,7 @@ fn put_figures(out: &mut [u8], at: usize, width: usize, n: u32) -> usize
 
 // A number field of 1 to 5 figures, leading zeros written; for another width nothing.
 pub fn put_number(out: &mut [u8], at: usize, width: usize, n: u32) -> usize
-    ensures { Put out.old at (numberText width n) result out.new }
+    ensures { Put out.old at (number_text width n) result out.new }
 {
     if width <= 5 {
         put_figures(out, at, width, n)
@@ -66,7 +66,7 @@ fn put_slashes(out: &mut [u8], at: usize, width: usize) -> usize
 
 // A number field that may be missing: as many slashes as figures.
 pub fn put_field(out: &mut [u8], at: usize, width: usize, f: Field) -> usize
-    ensures { Put out.old at (fieldText width f) result out.new }
+    ensures { Put out.old at (field_text width f) result out.new }
 {
     match f {
         Field::Number(n) => put_number(out, at, width, n),

@@ -5,39 +5,39 @@ use Rattle.text.specs.declared.kinds.Tail.{Tail}
 use Rattle.text.specs.declared.kinds.Verdict.{Verdict}
 use Rattle.text.specs.declared.kinds.Verdict.TheVariants as verdict
 use Rattle.text.specs.Groups.{Piece}
-use Rattle.shapes.specs.Pattern.{hasAny}
+use Rattle.shapes.specs.Pattern.{has_any}
 use Rattle.places.specs.Engine.{Outcome}
-use Rattle.places.specs.Parts.{Part, partFrom, further, reportOf}
+use Rattle.places.specs.Parts.{Part, part_from, further, report_of}
 use Rattle.places.specs.Answer.{answer_of}
 use Rattle.record.specs.declared.aerodrome.Observation.{Observation}
 use Rattle.record.specs.declared.aerodrome.TrendChange.{TrendChange}
 use Rattle.record.specs.declared.aerodrome.Metar.{Metar}
-use Rattle.record.specs.Observation.{blankObservation, setSpecial}
-use Rattle.record.specs.Trend.{blankTrend, blankMetar}
+use Rattle.record.specs.Observation.{blank_observation, set_special}
+use Rattle.record.specs.Trend.{blank_trend, blank_metar}
 use Rattle.metar.specs.declared.kinds.Reading.{Reading}
 use Rattle.metar_row.specs.Row.{row, words}
 use Rattle.trend_row.specs.declared.kinds.Word.{Word}
-use Rattle.trend.specs.Read.{comesTo, parts}
+use Rattle.trend.specs.Read.{comes_to, parts}
 
 -- the observation: a trend may follow it
-abbrev pub mainPart : Part Metar TrendChange Word Observation
-mainPart =
+abbrev pub main_part : Part Metar TrendChange Word Observation
+main_part =
     record {
       row = row;
-      halts = hasAny words;
+      halts = has_any words;
       lacks = λ o. false;
-      takes = λ o. record { observation = o; trend = blankTrend };
-      word = λ r g. comesTo r.trend g;
+      takes = λ o. record { observation = o; trend = blank_trend };
+      word = λ r g. comes_to r.trend g;
     }
 
 -- WHAT THE GROUPS OF A METAR OR SPECI COME TO, its name first, which stands at the first place of the row: "up to three of BECMG and TEMPO". What follows
 -- the "=", and the text's length.
-unfoldable pub groupsRead : Tail → ℕ → List Piece → Outcome Metar
-groupsRead tail end gs = reportOf tail end parts 3 mainPart blankObservation gs
+unfoldable pub groups_read : Tail → ℕ → List Piece → Outcome Metar
+groups_read tail end gs = report_of tail end parts 3 main_part blank_observation gs
 
 -- the groups behind the name, where that has stood
-unfoldable pub behindName : Bool → Tail → ℕ → List Piece → Outcome Metar
-behindName special tail end gs = partFrom tail end mainPart (further tail end parts 3) 0 1 (setSpecial special blankObservation) gs
+unfoldable pub behind_name : Bool → Tail → ℕ → List Piece → Outcome Metar
+behind_name special tail end gs = part_from tail end main_part (further tail end parts 3) 0 1 (set_special special blank_observation) gs
 
 -- a reading with its verdict; the record is blank where the text is refused
 abbrev pub reading : Verdict → Metar → Reading
@@ -48,4 +48,4 @@ is_refused (verdict.Accepted rest) = false
 is_refused (verdict.Refused f at) = true
 
 abbrev pub answer : Outcome Metar → Reading
-answer o = answer_of reading blankMetar o
+answer o = answer_of reading blank_metar o

@@ -5,71 +5,71 @@ use Rattle.text.specs.declared.kinds.Judged.{Judged}
 use Rattle.text.specs.declared.kinds.Judged.TheVariants as judged
 use Rattle.text.specs.declared.kinds.Written.{Written}
 use Rattle.text.specs.Judge.{judge, and_then}
-use Rattle.text.specs.Write.{answerBy, bufferBy}
+use Rattle.text.specs.Write.{answer_by, buffer_by}
 use Rattle.text.specs.Groups.{join}
 use Rattle.places.specs.Engine.{Group, written, put_all}
 use Rattle.record.specs.declared.aerodrome.Observation.{Observation}
 use Rattle.record.specs.declared.aerodrome.Metar.{Metar}
-use Rattle.record.specs.Observation.{blankObservation}
-use Rattle.record.specs.SilentAerodrome.{noObservation, noTrend}
-use Rattle.elements.specs.Wind.{judgeVariation}
-use Rattle.elements.specs.Weather.{judgeRecent, judgeWeathers}
-use Rattle.elements.specs.Body.{windJudged, visibilityJudged, weatherJudged, skyJudged}
-use Rattle.aerodrome_groups.specs.Head.{judgeStation, judgeTime}
-use Rattle.aerodrome_groups.specs.Runway.{judgeRunways}
-use Rattle.aerodrome_groups.specs.Temperatures.{judgeTemperatures, judgeQnh}
-use Rattle.runway_states.specs.State.{judgeStates}
+use Rattle.record.specs.Observation.{blank_observation}
+use Rattle.record.specs.SilentAerodrome.{no_observation, no_trend}
+use Rattle.elements.specs.Wind.{judge_variation}
+use Rattle.elements.specs.Weather.{judge_recent, judge_weathers}
+use Rattle.elements.specs.Body.{wind_judged, visibility_judged, weather_judged, sky_judged}
+use Rattle.aerodrome_groups.specs.Head.{judge_station, judge_time}
+use Rattle.aerodrome_groups.specs.Runway.{judge_runways}
+use Rattle.aerodrome_groups.specs.Temperatures.{judge_temperatures, judge_qnh}
+use Rattle.runway_states.specs.State.{judge_states}
 use Rattle.metar_row.specs.Row.{observed, row}
-use Rattle.trend.specs.Write.{judgeTrend, showTrend, classTrend}
+use Rattle.trend.specs.Write.{judge_trend, show_trend, class_trend}
 
 -- ---- foreign fields: in a NIL report what stands after its time
 
-abbrev pub foreignBlank : Metar → Bool
-foreignBlank r = not r.observation.nil || (noObservation r.observation && noTrend r.trend)
+abbrev pub foreign_blank : Metar → Bool
+foreign_blank r = not r.observation.nil || (no_observation r.observation && no_trend r.trend)
 
 -- ---- "The writer judges foreign fields first, then the others in written order, 11 before 7 at each"
 
-unfoldable pub judgeHead : Observation → Judged
-judgeHead r = and_then (judgeStation r.station) (judgeTime r.time)
+unfoldable pub judge_head : Observation → Judged
+judge_head r = and_then (judge_station r.station) (judge_time r.time)
 
-unfoldable pub judgeObservation : Observation → Judged
-judgeObservation r =
-    and_then (windJudged (observed r) r.body)
-    (and_then (judgeVariation r.variation)
-    (and_then (visibilityJudged (observed r) r.body)
-    (and_then (judgeRunways r.runways)
-    (and_then (weatherJudged (observed r) r.body)
-    (and_then (skyJudged (observed r) r.body)
-    (and_then (judgeTemperatures r.temperatures)
-    (and_then (judgeQnh r.qnh)
-    (and_then (judgeWeathers (judgeRecent r.automatic) r.recents) (judgeStates r.states)))))))))
+unfoldable pub judge_observation : Observation → Judged
+judge_observation r =
+    and_then (wind_judged (observed r) r.body)
+    (and_then (judge_variation r.variation)
+    (and_then (visibility_judged (observed r) r.body)
+    (and_then (judge_runways r.runways)
+    (and_then (weather_judged (observed r) r.body)
+    (and_then (sky_judged (observed r) r.body)
+    (and_then (judge_temperatures r.temperatures)
+    (and_then (judge_qnh r.qnh)
+    (and_then (judge_weathers (judge_recent r.automatic) r.recents) (judge_states r.states)))))))))
 
-unfoldable pub judgeOf : Metar → Judged
-judgeOf r =
-    and_then (judge (foreignBlank r) true)
-    (and_then (judgeHead r.observation)
-    (cond r.observation.nil judged.Fine (and_then (judgeObservation r.observation) (judgeTrend r.trend))))
+unfoldable pub judge_of : Metar → Judged
+judge_of r =
+    and_then (judge (foreign_blank r) true)
+    (and_then (judge_head r.observation)
+    (cond r.observation.nil judged.Fine (and_then (judge_observation r.observation) (judge_trend r.trend))))
 
 -- ---- the canonical text
 
 unfoldable pub groups_of : Metar → List Group
-groups_of r = written row r.observation ++ showTrend r.trend
+groups_of r = written row r.observation ++ show_trend r.trend
 
-unfoldable pub canonicalOf : Metar → List ℕ
-canonicalOf r = join (groups_of r)
+unfoldable pub canonical_of : Metar → List ℕ
+canonical_of r = join (groups_of r)
 
 -- ---- the record that it is read back as: each rounded number the reading of its class, all else as it is
 
-unfoldable pub classObservation : Observation → Observation
-classObservation o = put_all row o blankObservation
+unfoldable pub class_observation : Observation → Observation
+class_observation o = put_all row o blank_observation
 
-unfoldable pub classedOf : Metar → Metar
-classedOf r = record { observation = classObservation r.observation; trend = classTrend r.trend }
+unfoldable pub classed_of : Metar → Metar
+classed_of r = record { observation = class_observation r.observation; trend = class_trend r.trend }
 
 -- ---- what the writer answers, and the lent buffer afterwards
 
 unfoldable pub written_of : Metar → ℕ → Written
-written_of r room = answerBy (judgeOf r) (canonicalOf r) room
+written_of r room = answer_by (judge_of r) (canonical_of r) room
 
-unfoldable pub bufferOf : Metar → List ℕ → List ℕ
-bufferOf r b = bufferBy (judgeOf r) (canonicalOf r) b
+unfoldable pub buffer_of : Metar → List ℕ → List ℕ
+buffer_of r b = buffer_by (judge_of r) (canonical_of r) b

@@ -1,19 +1,19 @@
 // Reading a METAR or SPECI: one group after the other, from behind its name on.
 ghost use Rattle.std.specs.Prelude.{◌≡◌, length};
-ghost use Rattle.text.specs.Text.{tailOf};
-ghost use Rattle.text.specs.Groups.{groupsFrom};
-ghost use Rattle.shapes.specs.Pattern.{hasAny};
+ghost use Rattle.text.specs.Text.{tail_of};
+ghost use Rattle.text.specs.Groups.{groups_from};
+ghost use Rattle.shapes.specs.Pattern.{has_any};
 ghost use Rattle.places.specs.Parts.{owes};
 ghost use Rattle.record.specs.declared.aerodrome.Observation.{Observation};
-ghost use Rattle.record.specs.Observation.{blankObservation, setSpecial};
+ghost use Rattle.record.specs.Observation.{blank_observation, set_special};
 ghost use Rattle.body.specs.Met.{Meets};
 ghost use Rattle.metar_row.specs.Row.{row, words};
-ghost use Rattle.places.specs.Answer.{endVerdict};
-ghost use Rattle.metar.specs.Said.{DependsOn, reportSaid};
-ghost use Rattle.trend.specs.Step.{afterPart};
+ghost use Rattle.places.specs.Answer.{end_verdict};
+ghost use Rattle.metar.specs.Said.{DependsOn, report_said};
+ghost use Rattle.trend.specs.Step.{after_part};
 ghost use Rattle.trend.specs.declared.kinds.Next.TheVariants as next;
 ghost use Rattle.metar.specs.Step.{alone, word_at, left_at, Unrefused, ReadOn};
-ghost use Rattle.metar.specs.Read.{mainPart, behindName, answer};
+ghost use Rattle.metar.specs.Read.{main_part, behind_name, answer};
 
 use crate::answer::{is_refused, is_refused_ahead, reading_of, reading_with};
 use crate::kinds::{Reading, Standing};
@@ -37,7 +37,7 @@ use weather::read::add_weather;
 
 // A required group is absent from the observation.
 fn owes(here: Standing) -> bool
-    ensures { (o : Observation) → result ≡ owes mainPart here.place here.count o }
+    ensures { (o : Observation) → result ≡ owes main_part here.place here.count o }
 {
     let must = musts();
     places::is_owed(&must, here.place, here.count)
@@ -45,7 +45,7 @@ fn owes(here: Standing) -> bool
 
 // What follows the observation where the groups are over.
 fn after_groups(text: &[u8], here: Standing) -> Next
-    ensures { (o : Observation) → result ≡ next.End (endVerdict (tailOf text.now) (length text.now) (owes mainPart here.place here.count o)) }
+    ensures { (o : Observation) → result ≡ next.End (end_verdict (tail_of text.now) (length text.now) (owes main_part here.place here.count o)) }
 {
     let verdict = end_verdict(text, owes(here));
     Next::End(verdict)
@@ -53,7 +53,7 @@ fn after_groups(text: &[u8], here: Standing) -> Next
 
 // What follows it at a word from start up to end.
 fn after_word(text: &[u8], start: usize, end: usize, here: Standing) -> Next
-    ensures { (o : Observation) → word_at text.now start end here.place here.count o ≡ afterPart text.now 0 (alone o) result }
+    ensures { (o : Observation) → word_at text.now start end here.place here.count o ≡ after_part text.now 0 (alone o) result }
 {
     let g = part(text, start, end);
     meet_word(g, start, end, 0, false, owes(here))
@@ -61,7 +61,7 @@ fn after_word(text: &[u8], start: usize, end: usize, here: Standing) -> Next
 
 // What follows it where the next group is not taken.
 fn follow(text: &[u8], met: Met, here: Standing) -> Next
-    ensures { (o : Observation) → left_at text.now met here.place here.count o ≡ afterPart text.now 0 (alone o) result }
+    ensures { (o : Observation) → left_at text.now met here.place here.count o ≡ after_part text.now 0 (alone o) result }
 {
     match met {
         Met::Over => after_groups(text, here),
@@ -104,7 +104,7 @@ fn read_on(text: &[u8], next: Next) -> Ahead
 
 // The next group of the text: where it goes in the row, and what it says there. Of the observation so far it sees what a reading depends on.
 fn meet(text: &[u8], here: Standing, so_far: Observation) -> Met
-    ensures { Meets row (hasAny words) reportSaid here.place here.count (DependsOn so_far.automatic so_far.body so_far.states.count) text.now here.from result }
+    ensures { Meets row (has_any words) report_said here.place here.count (DependsOn so_far.automatic so_far.body so_far.states.count) text.now here.from result }
 {
     let Cut::Group { start, end } = text::next_group(text, here.from) else {
         return Met::Over;
@@ -130,7 +130,7 @@ fn stand_at(place: usize, count: usize, from: usize) -> Standing
 
 // An observation of which only the name has been read.
 fn begin(special: bool) -> Observation
-    ensures { result ≡ setSpecial special blankObservation }
+    ensures { result ≡ set_special special blank_observation }
 {
     let mut report = blank_observation();
     report.special = special;
@@ -141,7 +141,7 @@ fn begin(special: bool) -> Observation
 // each group says is stored in it, and nothing of it is asked to find the group's place. A refused text's observation is made blank where it stands, and
 // where no trend follows none is handed over: blank parts that are made elsewhere have the compiler copy the whole report field by field.
 pub fn read_from(text: &[u8], at: usize, special: bool) -> Reading
-    ensures { result ≡ answer (behindName special (tailOf text.now) (length text.now) (groupsFrom text.now at)) }
+    ensures { result ≡ answer (behind_name special (tail_of text.now) (length text.now) (groups_from text.now at)) }
 {
     let mut report = begin(special);
     let mut here = stand_at(0, 1, at);

@@ -1,10 +1,10 @@
 // One group: where it goes in the row of places, which the record has no part in, what it says there, and the record with it.
 ghost use Rattle.std.specs.Prelude.{◌≡◌};
-ghost use Rattle.shapes.specs.Pattern.{hasAny};
-ghost use Rattle.places.specs.Turn.{turnAt};
+ghost use Rattle.shapes.specs.Pattern.{has_any};
+ghost use Rattle.places.specs.Turn.{turn_at};
 ghost use Rattle.elements.specs.declared.kinds.Said.TheVariants as said;
-ghost use Rattle.elements.specs.Weather.{readRecent};
-ghost use Rattle.elements.specs.Answers.{asSaid};
+ghost use Rattle.elements.specs.Weather.{read_recent};
+ghost use Rattle.elements.specs.Answers.{as_said};
 ghost use Rattle.metar_row.specs.Row.{row, words};
 ghost use Rattle.metar.specs.Said.{Says};
 
@@ -23,7 +23,7 @@ use wind::read::read_variation;
 
 // The group's turn, where `count` groups stand at `place`. No word has the shape of a place, so it is asked for only where no place has the group's shape.
 pub fn decide(place: usize, count: usize, g: &[u8]) -> Turn
-    ensures { result ≡ turnAt row (hasAny words) place count g.now }
+    ensures { result ≡ turn_at row (has_any words) place count g.now }
 {
     if 19 <= place {
         return Turn::Refused(Refusal::Shape);
@@ -37,7 +37,7 @@ pub fn decide(place: usize, count: usize, g: &[u8]) -> Turn
 
 // Recent weather.
 fn say_recent(automatic: bool, g: &[u8]) -> Said
-    ensures { result ≡ asSaid said.Recent (readRecent automatic g.now) }
+    ensures { result ≡ as_said said.Recent (read_recent automatic g.now) }
 {
     let read = read_recent(automatic, g);
     match read {

@@ -6,27 +6,27 @@ use mathlib.Core.Bool.{Bool, true, false}
 use mathlib.Core.List.{map}
 use lib.ListN.{length, take, drop}
 use Rattle.text.specs.declared.kinds.Judged.TheVariants as judged
-use Rattle.text.specs.Groups.{groupsFrom}
-use Rattle.text.specs.Text.{tailOf}
+use Rattle.text.specs.Groups.{groups_from}
+use Rattle.text.specs.Text.{tail_of}
 use Rattle.places.specs.Engine.{Done}
 use Rattle.record.specs.declared.aerodrome.Observation.{Observation}
 use Rattle.record.specs.declared.aerodrome.TrendChange.{TrendChange}
 use Rattle.record.specs.declared.aerodrome.Metar.{Metar}
-use Rattle.record.specs.Observation.{blankState}
-use Rattle.record.specs.Trend.{blankTrendChange}
+use Rattle.record.specs.Observation.{blank_state}
+use Rattle.record.specs.Trend.{blank_trend_change}
 use Rattle.wind.proofs.Promises.{ExtremesNear, no-extremes, variation-near}
 use Rattle.body.proofs.Promises.{BodyRead, body-read, blank-read}
 use Rattle.aerodrome_groups.proofs.Promises.{RunwaysKept, runways-kept, TemperaturesKept, temperatures-kept, QnhKept, qnh-kept}
-use Rattle.runway_states.specs.State.{classState}
+use Rattle.runway_states.specs.State.{class_state}
 use Rattle.runway_states.proofs.StatesBack.{Counted}
 use Rattle.runway_states.proofs.Promises.{StatesKept, states-kept}
 use Rattle.metar_row.specs.Row.{observed, row}
-use Rattle.metar.specs.Read.{groupsRead}
+use Rattle.metar.specs.Read.{groups_read}
 use Rattle.elements.specs.Body.{changing}
 use Rattle.trend_row.specs.Row as trend-row
 use Rattle.trend_row.proofs.Changes.{live as trend-live}
-use Rattle.trend.specs.Write.{classChange, classTrend}
-use Rattle.metar.specs.Write.{judgeOf, canonicalOf, classObservation, classedOf}
+use Rattle.trend.specs.Write.{class_change, class_trend}
+use Rattle.metar.specs.Write.{judge_of, canonical_of, class_observation, classed_of}
 use Rattle.record.specs.Arrays.{MetarArrays}
 use Rattle.record.proofs.Counted.{map-counted, taken, dropped, EachRead, each_read}
 use Rattle.metar_laws.proofs.Places.{live}
@@ -72,19 +72,19 @@ record Near (r q : Observation) : Type 0 where
   body : BodyRead r.body q.body
   variation : ExtremesNear r.variation.is q.variation.is
 
-near : (r : Metar) → MetarArrays r → judgeOf r ≡ judged.Fine → Near r.observation (classObservation r.observation)
-unfolding row classObservation
+near : (r : Metar) → MetarArrays r → judge_of r ≡ judged.Fine → Near r.observation (class_observation r.observation)
+unfolding row class_observation
 near r arrays e = go r.observation.nil refl
   where
-    go : (b : Bool) → r.observation.nil ≡ b → Near r.observation (classObservation r.observation)
+    go : (b : Bool) → r.observation.nil ≡ b → Near r.observation (class_observation r.observation)
     go true n = let b = fair-bare r arrays e n in record { body = blank-read r.observation.body b.body; variation = rw b.variation no-extremes }
     go false n =
         let o = r.observation in
         let f = fair-observation r e n in
         record { body = body-read (observed o) (live o n) o.body f.body; variation = variation-near o.variation f.variation }
 
-observation-read : (r : Observation) → Near r (classObservation r) → Counted r.states → ObservationRead r (classObservation r)
-unfolding row classObservation
+observation-read : (r : Observation) → Near r (class_observation r) → Counted r.states → ObservationRead r (class_observation r)
+unfolding row class_observation
 observation-read r n l =
     record {
       special = refl;
@@ -104,11 +104,11 @@ observation-read r n l =
 
 -- ---- the trend
 
-change-read : (nosig : Bool) (c : TrendChange) → Sound nosig c → ChangeRead c (classChange c)
+change-read : (nosig : Bool) (c : TrendChange) → Sound nosig c → ChangeRead c (class_change c)
 change-read nosig c s = rw (change-is c) (record { tendency = refl; times = refl; body = body-read changing trend-live c.body s.1.body })
 
-record-read : (r : Metar) → MetarArrays r → judgeOf r ≡ judged.Fine → RecordRead r (classedOf r)
-unfolding classedOf classTrend
+record-read : (r : Metar) → MetarArrays r → judge_of r ≡ judged.Fine → RecordRead r (classed_of r)
+unfolding classed_of class_trend
 record-read r arrays e =
     let t = r.trend in
     let l = trend-listed r arrays e in
@@ -116,28 +116,28 @@ record-read r arrays e =
       observation = observation-read r.observation (near r arrays e) (states-counted r arrays e);
       nosig = refl;
       count = refl;
-      changes = rw (taken classChange t.count t.items l.many) (each_read ChangeRead classChange (change-read t.nosig) (take t.count t.items) l.each);
-      past = dropped classChange t.count t.items l.many;
+      changes = rw (taken class_change t.count t.items l.many) (each_read ChangeRead class_change (change-read t.nosig) (take t.count t.items) l.each);
+      past = dropped class_change t.count t.items l.many;
     }
 
 -- WHAT IS WRITTEN OF A RECORD THAT THE WRITER ACCEPTS IS READ, to the text's end, as a record that says the same.
-pub promise : (r : Metar) → MetarArrays r → judgeOf r ≡ judged.Fine
-    → (groupsRead (tailOf (canonicalOf r)) (length (canonicalOf r)) (groupsFrom (canonicalOf r) 0) ≡ Done (length (canonicalOf r)) (classedOf r)) × RecordRead r (classedOf r)
+pub promise : (r : Metar) → MetarArrays r → judge_of r ≡ judged.Fine
+    → (groups_read (tail_of (canonical_of r)) (length (canonical_of r)) (groups_from (canonical_of r) 0) ≡ Done (length (canonical_of r)) (classed_of r)) × RecordRead r (classed_of r)
 promise r arrays e = (read-canonical r arrays e, record-read r arrays e)
 
 -- ---- each change and each runway state is read back as its class, and those past the count too
 
-pub states-items : (r : Metar) → MetarArrays r → judgeOf r ≡ judged.Fine → (classedOf r).observation.states.items ≡ map classState r.observation.states.items
-unfolding classedOf row classObservation
+pub states-items : (r : Metar) → MetarArrays r → judge_of r ≡ judged.Fine → (classed_of r).observation.states.items ≡ map class_state r.observation.states.items
+unfolding classed_of row class_observation
 states-items r arrays e =
     let ss = r.observation.states in
-    map-counted classState blankState refl ss.count 4 ss.items (states-counted r arrays e).rest
+    map-counted class_state blank_state refl ss.count 4 ss.items (states-counted r arrays e).rest
 
-blank-classed : classChange blankTrendChange ≡ blankTrendChange
-unfolding classChange trend-row.row
+blank-classed : class_change blank_trend_change ≡ blank_trend_change
+unfolding class_change trend-row.row
 blank-classed = refl
 
-pub items-classed : (r : Metar) → MetarArrays r → judgeOf r ≡ judged.Fine → (classedOf r).trend.items ≡ map classChange r.trend.items
-unfolding classedOf classTrend
+pub items-classed : (r : Metar) → MetarArrays r → judge_of r ≡ judged.Fine → (classed_of r).trend.items ≡ map class_change r.trend.items
+unfolding classed_of class_trend
 items-classed r arrays e =
-    map-counted classChange blankTrendChange blank-classed r.trend.count 3 r.trend.items (trend-listed r arrays e).rest
+    map-counted class_change blank_trend_change blank-classed r.trend.count 3 r.trend.items (trend-listed r arrays e).rest

@@ -5,12 +5,12 @@ use mathlib.Core.Path.{◌≡◌, refl, sym, ap, ◌∙◌}
 use mathlib.Core.Bool.{Bool, true, false, cond, ◌||◌, or-false}
 use lib.Dec.{eqb, ltb}
 use Rattle.figures.specs.Quote.{bytes}
-use Rattle.shapes.specs.Pattern.{hasPattern, hasAny}
-use Rattle.places.specs.Seek.{fitFrom}
-use Rattle.places.specs.Engine.{Group, standsOf, onward}
+use Rattle.shapes.specs.Pattern.{has_pattern, has_any}
+use Rattle.places.specs.Seek.{fit_from}
+use Rattle.places.specs.Engine.{Group, stands_of, onward}
 use Rattle.places.proofs.Fits.{anywhere-fit}
 use Rattle.places.proofs.Rows.{ends_at}
-use Rattle.metar_row.specs.Row.{fromShape, untilShape, atShape, timeShapes, row, isKnown, words}
+use Rattle.metar_row.specs.Row.{from_shape, until_shape, at_shape, time_shapes, row, is_known, words}
 
 any_of : (a b c d e : Bool) → ((((a || b) || c) || d) || e) ≡ (a || (b || (c || (d || (e || false)))))
 any_of true b c d e = refl
@@ -20,9 +20,9 @@ any_of false false false true e = refl
 any_of false false false false e = sym (or-false e)
 
 pub word-is : (g : Group) {a b c d e : Bool}
-    → a ≡ hasPattern g (bytes "NOSIG") → b ≡ hasPattern g (bytes "BECMG") → c ≡ hasPattern g (bytes "TEMPO") → d ≡ hasPattern g (bytes "WS") → e ≡ hasPattern g (bytes "RMK")
-    → ((((a || b) || c) || d) || e) ≡ hasAny words g
-unfolding words hasAny
+    → a ≡ has_pattern g (bytes "NOSIG") → b ≡ has_pattern g (bytes "BECMG") → c ≡ has_pattern g (bytes "TEMPO") → d ≡ has_pattern g (bytes "WS") → e ≡ has_pattern g (bytes "RMK")
+    → ((((a || b) || c) || d) || e) ≡ has_any words g
+unfolding words has_any
 word-is g {a} {b} {c} {d} {e} p q r s t = rw (← p, ← q, ← r, ← s, ← t) (any_of a b c d e)
 
 any-time : (a b c : Bool) → ((a || b) || c) ≡ (a || (b || (c || false)))
@@ -30,14 +30,14 @@ any-time true b c = refl
 any-time false true c = refl
 any-time false false c = sym (or-false c)
 
-pub time-is : (g : Group) {a b c : Bool} → a ≡ hasPattern g fromShape → b ≡ hasPattern g untilShape → c ≡ hasPattern g atShape → ((a || b) || c) ≡ hasAny timeShapes g
-unfolding hasAny
+pub time-is : (g : Group) {a b c : Bool} → a ≡ has_pattern g from_shape → b ≡ has_pattern g until_shape → c ≡ has_pattern g at_shape → ((a || b) || c) ≡ has_any time_shapes g
+unfolding has_any
 time-is g {a} {b} {c} p q r = rw (← p, ← q, ← r) (any-time a b c)
 
 -- some place has the shape, by the first that has it
-pub known_is : (g : Group) {f : ℕ} → f ≡ fitFrom true 0 0 (standsOf row g) → ltb f 19 ≡ isKnown g
-unfolding row isKnown
-known_is g e = rw e (sym (anywhere-fit (standsOf row g) 0 0))
+pub known_is : (g : Group) {f : ℕ} → f ≡ fit_from true 0 0 (stands_of row g) → ltb f 19 ≡ is_known g
+unfolding row is_known
+known_is g e = rw e (sym (anywhere-fit (stands_of row g) 0 0))
 
 -- NIL ends the report
 pub past-nil : (i : ℕ) (b : Bool) → eqb i 4 ≡ b → cond b 19 i ≡ onward row i

@@ -4,26 +4,26 @@
 -- Assumes nothing: these are definitions.
 use Rattle.std.specs.Prelude.{ℕ, Bool, true, false, ◌||◌, cond, List, [], ◌∷◌, ◌++◌}
 use Rattle.figures.specs.Quote.{bytes}
-use Rattle.shapes.specs.Pattern.{Pattern, hasPattern, hasAny}
-use Rattle.shapes.specs.Shape.{hasShape, parts_of, spellings}
+use Rattle.shapes.specs.Pattern.{Pattern, has_pattern, has_any}
+use Rattle.shapes.specs.Shape.{has_shape, parts_of, spellings}
 use Rattle.places.specs.Seek.{anywhere}
-use Rattle.places.specs.Engine.{Group, Read, Good, Place, standsOf}
-use Rattle.places.specs.Lift.{lift, liftIn, shut}
+use Rattle.places.specs.Engine.{Group, Read, Good, Place, stands_of}
+use Rattle.places.specs.Lift.{lift, lift_in, shut}
 use Rattle.record.specs.declared.aerodrome.Body.{Body}
 use Rattle.record.specs.declared.aerodrome.Observation.{Observation}
-use Rattle.record.specs.Observation.{setSpecial, setCorrected, setStation, setTime, setNil, setAutomatic, setBody, setVariation, setRunways, setTemperatures, setQnh, setRecents, setStates, blankObservation}
+use Rattle.record.specs.Observation.{set_special, set_corrected, set_station, set_time, set_nil, set_automatic, set_body, set_variation, set_runways, set_temperatures, set_qnh, set_recents, set_states, blank_observation}
 use Rattle.elements.specs.Parts.{then}
-use Rattle.elements.specs.Wind.{variationShape, readVariation, showVariation, classVariation}
-use Rattle.elements.specs.Weather.{hasRecent, readRecent, withWeather, showRecents}
-use Rattle.elements.specs.Body.{Terms, windPlace, visibilityPlace, weatherPlace, skyPlace}
-use Rattle.aerodrome_groups.specs.Head.{wordPlace, stationPlace, timePlace}
-use Rattle.aerodrome_groups.specs.Runway.{runwayShape, readRunway, withRunway, showRunways, classRunways}
-use Rattle.runway_states.specs.State.{statesPlace, snocloPlace, besidePlace}
-use Rattle.aerodrome_groups.specs.Temperatures.{temperaturesShape, qnhShape, readTemperatures, readQnh, showTemperatures, showQnh, classTemperatures, classQnh}
+use Rattle.elements.specs.Wind.{variation_shape, read_variation, show_variation, class_variation}
+use Rattle.elements.specs.Weather.{has_recent, read_recent, with_weather, show_recents}
+use Rattle.elements.specs.Body.{Terms, wind_place, visibility_place, weather_place, sky_place}
+use Rattle.aerodrome_groups.specs.Head.{word_place, station_place, time_place}
+use Rattle.aerodrome_groups.specs.Runway.{runway_shape, read_runway, with_runway, show_runways, class_runways}
+use Rattle.runway_states.specs.State.{states_place, snoclo_place, beside_place}
+use Rattle.aerodrome_groups.specs.Temperatures.{temperatures_shape, qnh_shape, read_temperatures, read_qnh, show_temperatures, show_qnh, class_temperatures, class_qnh}
 
 -- a place: its shape and the patterns that cover it, how many may or must stand there; how a group is read, how it is written and what it is read back as
-abbrev pub placeFor : (Group → Bool) → List Pattern → ℕ → Bool → (ℕ → Group → Observation → Read Observation) → (Observation → List Group) → (Observation → Observation → Observation) → Place Observation
-placeFor has cover most must read show put =
+abbrev pub place_for : (Group → Bool) → List Pattern → ℕ → Bool → (ℕ → Group → Observation → Read Observation) → (Observation → List Group) → (Observation → Observation → Observation) → Place Observation
+place_for has cover most must read show put =
     record { has = has; cover = cover; spoken = cover; most = most; must = must; ends = false; read = read; show = show; put = put }
 
 abbrev pub onto : {A : Type 0} → Read A → (A → Observation → Observation) → Observation → Read Observation
@@ -31,77 +31,77 @@ onto x f r = then x (λ a. Good (f a r))
 
 -- ---- the head
 
-abbrev pub isName : Group → Bool
-isName g = hasPattern g (bytes "METAR") || hasPattern g (bytes "SPECI")
+abbrev pub is_name : Group → Bool
+is_name g = has_pattern g (bytes "METAR") || has_pattern g (bytes "SPECI")
 
 -- ---- the body of an observation: wind and visibility are required, missing forms stand, NSW is 7, UP stands under AUTO, and wind and visibility are
 -- written unless the report is NIL
 
 abbrev pub observed : Observation → Terms
-observed r = record { forecast = false; required = true; mayNsw = false; automatic = r.automatic; silent = r.nil }
+observed r = record { forecast = false; required = true; may_nsw = false; automatic = r.automatic; silent = r.nil }
 
-abbrev pub ofBody : (Terms → Place Body) → Place Observation
-ofBody p = liftIn (λ (r : Observation). r.body) setBody observed (observed blankObservation) p
+abbrev pub of_body : (Terms → Place Body) → Place Observation
+of_body p = lift_in (λ (r : Observation). r.body) set_body observed (observed blank_observation) p
 
 -- ---- the times of a trend, FM, TL and AT with GGgg: "in METAR or SPECI outside a trend" they are 6
 
-abbrev pub fromShape : Pattern
-fromShape = bytes "FM####"
+abbrev pub from_shape : Pattern
+from_shape = bytes "FM####"
 
-abbrev pub untilShape : Pattern
-untilShape = bytes "TL####"
+abbrev pub until_shape : Pattern
+until_shape = bytes "TL####"
 
-abbrev pub atShape : Pattern
-atShape = bytes "AT####"
+abbrev pub at_shape : Pattern
+at_shape = bytes "AT####"
 
-abbrev pub timeShapes : List Pattern
-timeShapes = fromShape ∷ untilShape ∷ atShape ∷ []
+abbrev pub time_shapes : List Pattern
+time_shapes = from_shape ∷ until_shape ∷ at_shape ∷ []
 
 -- ---- writing
 
 -- what stands after NIL is not written
-abbrev pub unlessNil : Observation → List Group → List Group
-unlessNil r gs = cond r.nil [] gs
+abbrev pub unless_nil : Observation → List Group → List Group
+unless_nil r gs = cond r.nil [] gs
 
 -- ---- the row
 
 unfoldable pub row : List (Place Observation)
 row =
-    placeFor isName (bytes "METAR" ∷ bytes "SPECI" ∷ []) 1 true (λ k g r. Good (setSpecial (hasPattern g (bytes "SPECI")) r))
-    (λ r. cond r.special (bytes "SPECI") (bytes "METAR") ∷ []) (λ r acc. setSpecial r.special acc)
-    ∷ lift (λ (r : Observation). r.corrected) setCorrected (wordPlace "COR" false)
-    ∷ lift (λ (r : Observation). r.station) setStation stationPlace
-    ∷ lift (λ (r : Observation). r.time) setTime timePlace
-    ∷ lift (λ (r : Observation). r.nil) setNil (wordPlace "NIL" true)
-    ∷ lift (λ (r : Observation). r.automatic) setAutomatic (wordPlace "AUTO" false)
-    ∷ ofBody windPlace
-    ∷ placeFor (λ g. hasPattern g variationShape) (variationShape ∷ []) 1 false (λ k g r. onto (readVariation g) setVariation r)
-    (λ r. showVariation r.variation) (λ r acc. setVariation (classVariation r.variation) acc)
-    ∷ ofBody visibilityPlace
-    ∷ placeFor (hasShape runwayShape) (spellings (parts_of runwayShape)) 4 false (λ k g r. onto (readRunway g) (λ x r. setRunways (withRunway k r.runways x) r) r)
-    (λ r. showRunways r.runways) (λ r acc. setRunways (classRunways r.runways) acc)
-    ∷ ofBody weatherPlace
-    ∷ ofBody skyPlace
-    ∷ placeFor (hasShape temperaturesShape) (spellings (parts_of temperaturesShape)) 1 true (λ k g r. onto (readTemperatures g) setTemperatures r)
-    (λ r. unlessNil r (showTemperatures r.temperatures ∷ [])) (λ r acc. setTemperatures (classTemperatures r.temperatures) acc)
-    ∷ placeFor (λ g. hasPattern g qnhShape) (qnhShape ∷ []) 1 true (λ k g r. onto (readQnh g) setQnh r)
-    (λ r. unlessNil r (showQnh r.qnh ∷ [])) (λ r acc. setQnh (classQnh r.qnh) acc)
-    ∷ placeFor hasRecent (bytes "RE*" ∷ []) 3 false
-    (λ k g r. onto (readRecent r.automatic g) (λ w r. setRecents (withWeather k r.recents w) r) r)
-    (λ r. showRecents r.recents) (λ r acc. setRecents r.recents acc)
-    ∷ lift (λ (r : Observation). r.states) setStates statesPlace
-    ∷ lift (λ (r : Observation). r.states) setStates snocloPlace
-    ∷ lift (λ (r : Observation). r.states) setStates besidePlace
-    ∷ shut (hasAny timeShapes) timeShapes
+    place_for is_name (bytes "METAR" ∷ bytes "SPECI" ∷ []) 1 true (λ k g r. Good (set_special (has_pattern g (bytes "SPECI")) r))
+    (λ r. cond r.special (bytes "SPECI") (bytes "METAR") ∷ []) (λ r acc. set_special r.special acc)
+    ∷ lift (λ (r : Observation). r.corrected) set_corrected (word_place "COR" false)
+    ∷ lift (λ (r : Observation). r.station) set_station station_place
+    ∷ lift (λ (r : Observation). r.time) set_time time_place
+    ∷ lift (λ (r : Observation). r.nil) set_nil (word_place "NIL" true)
+    ∷ lift (λ (r : Observation). r.automatic) set_automatic (word_place "AUTO" false)
+    ∷ of_body wind_place
+    ∷ place_for (λ g. has_pattern g variation_shape) (variation_shape ∷ []) 1 false (λ k g r. onto (read_variation g) set_variation r)
+    (λ r. show_variation r.variation) (λ r acc. set_variation (class_variation r.variation) acc)
+    ∷ of_body visibility_place
+    ∷ place_for (has_shape runway_shape) (spellings (parts_of runway_shape)) 4 false (λ k g r. onto (read_runway g) (λ x r. set_runways (with_runway k r.runways x) r) r)
+    (λ r. show_runways r.runways) (λ r acc. set_runways (class_runways r.runways) acc)
+    ∷ of_body weather_place
+    ∷ of_body sky_place
+    ∷ place_for (has_shape temperatures_shape) (spellings (parts_of temperatures_shape)) 1 true (λ k g r. onto (read_temperatures g) set_temperatures r)
+    (λ r. unless_nil r (show_temperatures r.temperatures ∷ [])) (λ r acc. set_temperatures (class_temperatures r.temperatures) acc)
+    ∷ place_for (λ g. has_pattern g qnh_shape) (qnh_shape ∷ []) 1 true (λ k g r. onto (read_qnh g) set_qnh r)
+    (λ r. unless_nil r (show_qnh r.qnh ∷ [])) (λ r acc. set_qnh (class_qnh r.qnh) acc)
+    ∷ place_for has_recent (bytes "RE*" ∷ []) 3 false
+    (λ k g r. onto (read_recent r.automatic g) (λ w r. set_recents (with_weather k r.recents w) r) r)
+    (λ r. show_recents r.recents) (λ r acc. set_recents r.recents acc)
+    ∷ lift (λ (r : Observation). r.states) set_states states_place
+    ∷ lift (λ (r : Observation). r.states) set_states snoclo_place
+    ∷ lift (λ (r : Observation). r.states) set_states beside_place
+    ∷ shut (has_any time_shapes) time_shapes
     ∷ []
 
 -- a group of the observation has this shape
-unfoldable pub isKnown : Group → Bool
-isKnown g = anywhere (standsOf row g)
+unfoldable pub is_known : Group → Bool
+is_known g = anywhere (stands_of row g)
 
 -- "NOSIG, BECMG and TEMPO no longer stop the reading; WS and RMK still do." All five end the observation, and each change of a trend.
-abbrev pub stopWords : List Pattern
-stopWords = bytes "WS" ∷ bytes "RMK" ∷ []
+abbrev pub stop_words : List Pattern
+stop_words = bytes "WS" ∷ bytes "RMK" ∷ []
 
 unfoldable pub words : List Pattern
-words = bytes "NOSIG" ∷ bytes "BECMG" ∷ bytes "TEMPO" ∷ stopWords
+words = bytes "NOSIG" ∷ bytes "BECMG" ∷ bytes "TEMPO" ∷ stop_words

@@ -1,9 +1,9 @@
 // The tests of the row of METAR and SPECI: its words, the shapes of its places, how many groups may or must stand at each, and where a group goes.
 ghost use Rattle.std.specs.Prelude.{◌≡◌, ◌&&◌, drop};
-ghost use Rattle.shapes.specs.Pattern.{hasAny};
-ghost use Rattle.places.specs.Seek.{answers, fitFrom, findOf};
-ghost use Rattle.places.specs.Engine.{placeAt, standsOf, mustsOf, mostsOf, onward};
-ghost use Rattle.metar_row.specs.Row.{isName, timeShapes, row, isKnown, words};
+ghost use Rattle.shapes.specs.Pattern.{has_any};
+ghost use Rattle.places.specs.Seek.{answers, fit_from, find_of};
+ghost use Rattle.places.specs.Engine.{place_at, stands_of, musts_of, mosts_of, onward};
+ghost use Rattle.metar_row.specs.Row.{is_name, time_shapes, row, is_known, words};
 
 use aerodrome_groups::read::{has_runway, has_temperatures};
 use body::read::has_weather_or_nsw;
@@ -18,7 +18,7 @@ use wind::read::{has_variation, has_visibility, has_wind};
 
 // METAR or SPECI
 pub fn is_name(g: &[u8]) -> bool
-    ensures { result ≡ isName g.now }
+    ensures { result ≡ is_name g.now }
 {
     let metar = has_pattern(g, b"METAR");
     let special = has_pattern(g, b"SPECI");
@@ -27,7 +27,7 @@ pub fn is_name(g: &[u8]) -> bool
 
 // A word that ends the observation or a change of the trend: one of the trend's, or a stop word.
 pub fn is_word(g: &[u8]) -> bool
-    ensures { result ≡ hasAny words g.now }
+    ensures { result ≡ has_any words g.now }
 {
     let nosig = has_pattern(g, b"NOSIG");
     let becoming = has_pattern(g, b"BECMG");
@@ -39,7 +39,7 @@ pub fn is_word(g: &[u8]) -> bool
 
 // FM, TL or AT with a time
 fn is_time(g: &[u8]) -> bool
-    ensures { result ≡ hasAny timeShapes g.now }
+    ensures { result ≡ has_any time_shapes g.now }
 {
     let from = has_pattern(g, b"FM####");
     let until = has_pattern(g, b"TL####");
@@ -49,7 +49,7 @@ fn is_time(g: &[u8]) -> bool
 
 // Has the group the shape of this place?
 fn has_at(place: usize, g: &[u8]) -> bool
-    ensures { result ≡ (placeAt row place).has g.now }
+    ensures { result ≡ (place_at row place).has g.now }
 {
     match place {
         0 => is_name(g),
@@ -77,14 +77,14 @@ fn has_at(place: usize, g: &[u8]) -> bool
 
 // How many groups may stand at each place?
 fn mosts() -> [u8; 19]
-    ensures { result ≡ mostsOf row }
+    ensures { result ≡ mosts_of row }
 {
     [1, 1, 1, 1, 1, 1, 1, 1, 1, 4, 3, 4, 1, 1, 3, 4, 1, 1, 0]
 }
 
 // Which places must have a group?
 pub fn musts() -> [bool; 19]
-    ensures { result ≡ mustsOf row }
+    ensures { result ≡ musts_of row }
 {
     [
         true, false, true, true, false, false, true, false, true, false, false, false, true, true,
@@ -94,7 +94,7 @@ pub fn musts() -> [bool; 19]
 
 // May this place, where `count` groups stand, answer for the group, and has it the group's shape? A shape is asked for only where it may.
 fn is_fit(all: bool, place: usize, count: usize, g: &[u8]) -> bool
-    ensures { result ≡ (answers all count (placeAt row place).most && (placeAt row place).has g.now) }
+    ensures { result ≡ (answers all count (place_at row place).most && (place_at row place).has g.now) }
 {
     let most = mosts();
     if may_answer(all, count, most_at(&most, place)) {
@@ -106,7 +106,7 @@ fn is_fit(all: bool, place: usize, count: usize, g: &[u8]) -> bool
 
 // The first such place from `place` on.
 fn fit_from(all: bool, place: usize, count: usize, g: &[u8]) -> usize
-    ensures { result ≡ fitFrom all place count (drop place (standsOf row g.now)) }
+    ensures { result ≡ fit_from all place count (drop place (stands_of row g.now)) }
 {
     let group = anew(g);
     let mut i = place;
@@ -123,14 +123,14 @@ fn fit_from(all: bool, place: usize, count: usize, g: &[u8]) -> usize
 
 // Has some place of the observation the group's shape?
 pub fn is_known(g: &[u8]) -> bool
-    ensures { result ≡ isKnown g.now }
+    ensures { result ≡ is_known g.now }
 {
     fit_from(true, 0, 0, g) < 19
 }
 
 // The place that the group goes to.
 pub fn find(place: usize, count: usize, g: &[u8]) -> Found
-    ensures { result ≡ findOf (standsOf row g.now) place count }
+    ensures { result ≡ find_of (stands_of row g.now) place count }
 {
     let fit = fit_from(false, place, count, g);
     if fit < 19 {

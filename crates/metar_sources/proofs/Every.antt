@@ -6,18 +6,18 @@ use mathlib.Core.Path.{◌≡◌, sym, ap, subst}
 use mathlib.Core.Bool.{Bool, true, false, false≢true}
 use mathlib.Core.List.{List}
 use lib.ListN.{length}
-use Rattle.text.specs.Groups.{groupsFrom}
-use Rattle.text.specs.Text.{tailOf}
+use Rattle.text.specs.Groups.{groups_from}
+use Rattle.text.specs.Text.{tail_of}
 use Rattle.places.specs.Engine.{Place, Done}
 use Rattle.record.specs.declared.aerodrome.Observation.{Observation}
 use Rattle.record.specs.declared.aerodrome.TrendChange.{TrendChange}
 use Rattle.record.specs.declared.aerodrome.Metar.{Metar}
 use Rattle.metar_row.specs.Row as observation
 use Rattle.trend_row.specs.Row as trend
-use Rattle.metar.specs.Read.{groupsRead}
+use Rattle.metar.specs.Read.{groups_read}
 use Rattle.sources.specs.declared.kinds.Spot.{Spot}
 use Rattle.sources.specs.declared.kinds.Spot.TheVariants as spot
-use Rattle.sources.specs.Trail.{originIn, source_of}
+use Rattle.sources.specs.Trail.{origin_in, source_of}
 use Rattle.sources.proofs.Fields.{◌&◌, Rows, row_at}
 use Rattle.sources.proofs.Own.{EachTaken, each_map}
 use Rattle.sources.proofs.Every.{PlaceIs, SpotIs, MayHave, report-each, EachBefore, ItemSource, all-sources}
@@ -25,7 +25,7 @@ use Rattle.metar_sources.specs.declared.kinds.Element.{Element}
 use Rattle.metar_sources.specs.declared.kinds.Element.TheVariants as element
 use Rattle.metar_sources.specs.declared.kinds.ChangeElement.{ChangeElement}
 use Rattle.metar_sources.specs.declared.kinds.ChangeElement.TheVariants as change
-use Rattle.metar_sources.specs.Trail.{route, trailOf}
+use Rattle.metar_sources.specs.Trail.{route, trail_of}
 use Rattle.metar_sources.specs.Items as observed
 use Rattle.metar_sources.specs.Changes as changed
 use Rattle.metar_sources.proofs.Items.{beside-refused}
@@ -102,22 +102,22 @@ all-items =
       main = row_at ObservedAt observation.row observed-rows (λ i n g a a' few is. absurd (omega arith));
       placed =
           λ q some few w.
-          row_at (ChangedAt q some (omega arith)) (trend.row (trend.isChange w)) (changed-rows q some (omega arith) (trend.isChange w))
+          row_at (ChangedAt q some (omega arith)) (trend.row (trend.is_change w)) (changed-rows q some (omega arith) (trend.is_change w))
           (λ i n g a a' none is. absurd (omega arith));
       opening = λ q some few. of_word some (omega arith);
       joined = λ q some few w g joins. absurd (false≢true joins);
     }
 
 -- EACH GROUP OF THE TRAIL WAS TAKEN AT THE SPOT OF AN ITEM.
-pub trail-items : (t : List ℕ) (rest : ℕ) (r : Metar) → groupsRead (tailOf t) (length t) (groupsFrom t 0) ≡ Done rest r → EachTaken (SpotIs IsItem) (trailOf t)
-unfolding groupsRead
+pub trail-items : (t : List ℕ) (rest : ℕ) (r : Metar) → groups_read (tail_of t) (length t) (groups_from t 0) ≡ Done rest r → EachTaken (SpotIs IsItem) (trail_of t)
+unfolding groups_read
 trail-items t rest r reads =
     subst (EachTaken (SpotIs IsItem)) (sym (walked t rest r reads))
-    (report-each route coming begun none-lacks takes lacks (tailOf t) (length t) rest r all-items (went t rest r reads) reads)
+    (report-each route coming begun none-lacks takes lacks (tail_of t) (length t) rest r all-items (went t rest r reads) reads)
 
 -- EVERY GROUP THAT BEGINS BEFORE THE UNREAD REST IS THE SOURCE OF AN ITEM.
-pub every-source : (t : List ℕ) (rest : ℕ) (r : Metar) → groupsRead (tailOf t) (length t) (groupsFrom t 0) ≡ Done rest r
-    → EachBefore rest (ItemSource IsItem (λ q s. source_of (originIn q s (trailOf t)))) (groupsFrom t 0)
+pub every-source : (t : List ℕ) (rest : ℕ) (r : Metar) → groups_read (tail_of t) (length t) (groups_from t 0) ≡ Done rest r
+    → EachBefore rest (ItemSource IsItem (λ q s. source_of (origin_in q s (trail_of t)))) (groups_from t 0)
 every-source t rest r reads =
-    all-sources IsItem (λ q s. source_of (originIn q s (trailOf t))) t (trailOf t) (trail-covers t rest r reads) (trail-items t rest r reads)
-    (each_map (λ x is. ap source_of is) (trailOf t) (trail-own t rest r reads))
+    all-sources IsItem (λ q s. source_of (origin_in q s (trail_of t))) t (trail_of t) (trail-covers t rest r reads) (trail-items t rest r reads)
+    (each_map (λ x is. ap source_of is) (trail_of t) (trail-own t rest r reads))

@@ -10,32 +10,32 @@ use lib.Seq.{get_or-set_same, get_or-set_other}
 use lib.Dec.{eqb, leb, ltb}
 use borrow.Author.Tests.{eqb-false, ltb-true, ltb-false, lt-ltb, leb-true, leb-false, eq-eqb, ne_eqb}
 use Rattle.figures.proofs.Impossible.{impossible}
-use Rattle.text.specs.Groups.{Piece, groupsFrom}
-use Rattle.text.specs.Text.{tailOf}
-use Rattle.shapes.specs.Pattern.{hasAny}
-use Rattle.places.specs.Engine.{Group, Good, Done, placeAt}
+use Rattle.text.specs.Groups.{Piece, groups_from}
+use Rattle.text.specs.Text.{tail_of}
+use Rattle.shapes.specs.Pattern.{has_any}
+use Rattle.places.specs.Engine.{Group, Good, Done, place_at}
 use Rattle.places.specs.Parts.{Opens}
 use Rattle.record.specs.declared.aerodrome.Tendency.{Tendency}
 use Rattle.record.specs.declared.aerodrome.TrendChange.{TrendChange}
 use Rattle.record.specs.declared.aerodrome.Metar.{Metar}
-use Rattle.record.specs.Observation.{blankObservation}
-use Rattle.record.specs.Trend.{blankTrendChange, blankTrend}
+use Rattle.record.specs.Observation.{blank_observation}
+use Rattle.record.specs.Trend.{blank_trend_change, blank_trend}
 use Rattle.metar_row.specs.Row.{words}
 use Rattle.trend_row.specs.declared.kinds.Word.{Word}
 use Rattle.trend_row.specs.declared.kinds.Word.TheVariants as word
-use Rattle.trend_row.specs.Row.{isChange, row}
-use Rattle.trend.specs.Read.{tendencyOf, start_of, withChange, taking}
-use Rattle.metar.specs.Read.{groupsRead}
+use Rattle.trend_row.specs.Row.{is_change, row}
+use Rattle.trend.specs.Read.{tendency_of, start_of, with_change, taking}
+use Rattle.metar.specs.Read.{groups_read}
 use Rattle.sources.specs.declared.kinds.Spot.TheVariants as spot
-use Rattle.sources.specs.Trail.{Taken, Origin, originIn, source_of}
+use Rattle.sources.specs.Trail.{Taken, Origin, origin_in, source_of}
 use Rattle.sources.proofs.Rows.{Entry, Went, done, on, turn-within}
 use Rattle.sources.proofs.Items.{Stems, Begins, alone, joined, Beside, Shelf, part-stems, Opener, word-stems, past-part}
 use Rattle.sources.proofs.Texts.{ReadFrom, read-from}
 use Rattle.metar_sources.specs.declared.kinds.ChangeElement.{ChangeElement}
 use Rattle.metar_sources.specs.declared.kinds.ChangeElement.TheVariants as element
-use Rattle.metar_sources.specs.Trail.{route, trailOf}
-use Rattle.metar_sources.specs.Changes.{place_of, most_of, Value, valueIn, Said, changeAt, WordItem, word_in, wordValue, no_word, WordSaid}
-use Rattle.metar_sources.proofs.Changes.{times-done, fairIn, change-item}
+use Rattle.metar_sources.specs.Trail.{route, trail_of}
+use Rattle.metar_sources.specs.Changes.{place_of, most_of, Value, value_in, Said, change_at, WordItem, word_in, word_value, no_word, WordSaid}
+use Rattle.metar_sources.proofs.Changes.{times-done, fair_in, change-item}
 use Rattle.metar_sources.proofs.Sources.{coming, begun, none-lacks, takes, lacks, word-opens, nosig-first, went, walked, trail-covers}
 
 -- ---- what is known of a report into which m parts were taken
@@ -75,7 +75,7 @@ begun-by : (r : Metar) (w : Word) (p : TrendChange) → Begins route coming begu
 begun-by r w p (alone {g} is) = let x = word-opens r g w p is in (x.1, x.2)
 begun-by r w p (joined is joins) = absurd (false≢true joins)
 
-change-next : (m : ℕ) (r : Metar) (c : TrendChange) → Known m r → r.trend.nosig ≡ false → Known (m + 1) (record { observation = r.observation; trend = withChange r.trend c })
+change-next : (m : ℕ) (r : Metar) (c : TrendChange) → Known m r → r.trend.nosig ≡ false → Known (m + 1) (record { observation = r.observation; trend = with_change r.trend c })
 change-next m r c (fair, many) is = go (ltb r.trend.count 3) refl
   where
     go : (b : Bool) → ltb r.trend.count 3 ≡ b
@@ -91,43 +91,43 @@ known_next m r word.Temporary p p' known b = change-next m r p' known (begun-by 
 module _ (q : ℕ) (some : 0 < q) (few : q < 4) where
   -- another part's change goes to another slot
   other-slot : (m : ℕ) (r : Metar) (c : TrendChange) → Known m r → r.trend.nosig ≡ false → eqb q (m + 1) ≡ false
-      → changeAt q (record { observation = r.observation; trend = withChange r.trend c }) ≡ changeAt q r
+      → change_at q (record { observation = r.observation; trend = with_change r.trend c }) ≡ change_at q r
   other-slot m r c (fair, many) is o = go (ltb r.trend.count 3) refl
     where
       go : (b : Bool) → ltb r.trend.count 3 ≡ b
-          → get_or (cond b (record { items = set r.trend.items r.trend.count c; count = r.trend.count + 1; nosig = r.trend.nosig }) r.trend).items (q - 1) blankTrendChange
-          ≡ get_or r.trend.items (q - 1) blankTrendChange
+          → get_or (cond b (record { items = set r.trend.items r.trend.count c; count = r.trend.count + 1; nosig = r.trend.nosig }) r.trend).items (q - 1) blank_trend_change
+          ≡ get_or r.trend.items (q - 1) blank_trend_change
       go true l =
           let n = cap-is m r.trend.count (many is) (ltb-true r.trend.count 3 l) in
-          get_or-set_other r.trend.items r.trend.count (q - 1) c blankTrendChange (λ e. eqb-false q (m + 1) o (omega arith))
+          get_or-set_other r.trend.items r.trend.count (q - 1) c blank_trend_change (λ e. eqb-false q (m + 1) o (omega arith))
       go false l = refl
 
   own-slot : (m : ℕ) (r : Metar) (c : TrendChange) → Known m r → r.trend.nosig ≡ false → q ≡ m + 1
-      → changeAt q (record { observation = r.observation; trend = withChange r.trend c }) ≡ c
+      → change_at q (record { observation = r.observation; trend = with_change r.trend c }) ≡ c
   own-slot m r c (fair, many) is o =
       let n : r.trend.count ≡ m = many is ∙ low (leb 3 m) refl in
       let l : r.trend.count < 3 = omega arith in
       let at : q - 1 ≡ r.trend.count = omega arith in
-      rw (lt-ltb r.trend.count 3 l, at) (get_or-set_same r.trend.items r.trend.count c blankTrendChange (rw fair l))
+      rw (lt-ltb r.trend.count 3 l, at) (get_or-set_same r.trend.items r.trend.count c blank_trend_change (rw fair l))
     where
       low : (a : Bool) → leb 3 m ≡ a → cond a 3 m ≡ m
       low true p = absurd (omega (arith, leb-true 3 m p))
       low false p = refl
 
   slot-aside : (m : ℕ) (r : Metar) (w : Word) (p p' : TrendChange) → Known m r → Begins route coming begun none-lacks takes lacks r w p → eqb q (m + 1) ≡ false
-      → changeAt q (takes r w p') ≡ changeAt q r
+      → change_at q (takes r w p') ≡ change_at q r
   slot-aside m r word.Nosig p p' known b o = refl
   slot-aside m r word.Becoming p p' known b o = other-slot m r p' known (begun-by r word.Becoming p b).1 o
   slot-aside m r word.Temporary p p' known b o = other-slot m r p' known (begun-by r word.Temporary p b).1 o
 
   -- after NOSIG no group is taken
-  none-taken : {c n : ℕ} {p p' : TrendChange} {gs left : List Piece} {es : List Entry} → Went (row false) (hasAny words) c n p' left 0 0 p gs es → p' ≡ p
+  none-taken : {c n : ℕ} {p p' : TrendChange} {gs left : List Piece} {es : List Entry} → Went (row false) (has_any words) c n p' left 0 0 p gs es → p' ≡ p
   unfolding row
   none-taken done = refl
   none-taken (on {c = c} {k = k} {i = i} {n = n} {g = g} t e w) =
-      absurd (shut i n (turn-within (row false) (hasAny words) c k g.bytes i n t).1)
+      absurd (shut i n (turn-within (row false) (has_any words) c k g.bytes i n t).1)
     where
-      shut : (i n : ℕ) → n < (placeAt (row false) i).most → ⊥
+      shut : (i n : ℕ) → n < (place_at (row false) i).most → ⊥
       shut zero n h = absurd (omega arith)
       shut (suc zero) n h = absurd (omega arith)
       shut (suc (suc zero)) n h = absurd (omega arith)
@@ -140,12 +140,12 @@ module _ (q : ℕ) (some : 0 < q) (few : q < 4) where
 
   module _ (e : ChangeElement) (k : ℕ) (fits : k < most_of e) where
     abbrev get : Metar → Value e
-    get r = valueIn e k (changeAt q r)
+    get r = value_in e k (change_at q r)
 
     beside : Beside route coming begun none-lacks takes lacks q get Known
-    beside = record { next = known_next; aside = λ m r w p p' known b o. ap (valueIn e k) (slot-aside m r w p p' known b o) }
+    beside = record { next = known_next; aside = λ m r w p p' known b o. ap (value_in e k) (slot-aside m r w p p' known b o) }
 
-    start-fair : (e : ChangeElement) (w : Word) → fairIn e (start_of w)
+    start-fair : (e : ChangeElement) (w : Word) → fair_in e (start_of w)
     start-fair element.From w = tt
     start-fair element.Until w = tt
     start-fair element.At w = tt
@@ -154,7 +154,7 @@ module _ (q : ℕ) (some : 0 < q) (few : q < 4) where
     start-fair element.Weather w = refl
     start-fair element.Clouds w = refl
 
-    start-blank : (e : ChangeElement) (k : ℕ) (w : Word) → valueIn e k (start_of w) ≡ valueIn e k blankTrendChange
+    start-blank : (e : ChangeElement) (k : ℕ) (w : Word) → value_in e k (start_of w) ≡ value_in e k blank_trend_change
     start-blank element.From k w = refl
     start-blank element.Until k w = refl
     start-blank element.At k w = refl
@@ -164,32 +164,32 @@ module _ (q : ℕ) (some : 0 < q) (few : q < 4) where
     start-blank element.Clouds k w = refl
 
     comes-in : (m : ℕ) (r : Metar) (w : Word) (p p' : TrendChange) {c n : ℕ} {gs left : List Piece} {es : List Entry} → Known m r → q ≡ m + 1
-        → get r ≡ valueIn e k blankTrendChange → Begins route coming begun none-lacks takes lacks r w p
-        → Went (row (isChange w)) (hasAny words) c n p' left 0 0 p gs es → get (takes r w p') ≡ valueIn e k p'
+        → get r ≡ value_in e k blank_trend_change → Begins route coming begun none-lacks takes lacks r w p
+        → Went (row (is_change w)) (has_any words) c n p' left 0 0 p gs es → get (takes r w p') ≡ value_in e k p'
     comes-in m r word.Nosig p p' known is blank b went =
-        blank ∙ sym (ap (valueIn e k) (none-taken went ∙ (begun-by r word.Nosig p b).0) ∙ start-blank e k word.Nosig)
-    comes-in m r word.Becoming p p' known is blank b went = ap (valueIn e k) (own-slot m r p' known (begun-by r word.Becoming p b).1 is)
-    comes-in m r word.Temporary p p' known is blank b went = ap (valueIn e k) (own-slot m r p' known (begun-by r word.Temporary p b).1 is)
+        blank ∙ sym (ap (value_in e k) (none-taken went ∙ (begun-by r word.Nosig p b).0) ∙ start-blank e k word.Nosig)
+    comes-in m r word.Becoming p p' known is blank b went = ap (value_in e k) (own-slot m r p' known (begun-by r word.Becoming p b).1 is)
+    comes-in m r word.Temporary p p' known is blank b went = ap (value_in e k) (own-slot m r p' known (begun-by r word.Temporary p b).1 is)
 
-    shelf : Shelf route coming begun none-lacks takes lacks beside (place_of e) k (valueIn e k) (Said e) (fairIn e) (valueIn e k blankTrendChange)
+    shelf : Shelf route coming begun none-lacks takes lacks beside (place_of e) k (value_in e k) (Said e) (fair_in e) (value_in e k blank_trend_change)
     shelf =
         record {
-          item = λ w. change-item (isChange w) e k fits;
-          starts = λ r w p b. let (is, o) = begun-by r w p b in (subst (fairIn e) (sym is) (start-fair e w), ap (valueIn e k) is ∙ start-blank e k w);
+          item = λ w. change-item (is_change w) e k fits;
+          starts = λ r w p b. let (is, o) = begun-by r w p b in (subst (fair_in e) (sym is) (start-fair e w), ap (value_in e k) is ∙ start-blank e k w);
           comes = comes-in;
         }
 
     -- EACH ITEM OF PART q OF THE TREND is what the definition of its group says of the bytes that it was read from, or, with no such group, it is missing.
-    pub change-source : (t : List ℕ) (rest : ℕ) (r : Metar) → groupsRead (tailOf t) (length t) (groupsFrom t 0) ≡ Done rest r
-        → ReadFrom t (λ g. Said e g (get r)) (get r ≡ valueIn e k blankTrendChange) (source_of (originIn q (spot.At (place_of e) k) (trailOf t)))
+    pub change-source : (t : List ℕ) (rest : ℕ) (r : Metar) → groups_read (tail_of t) (length t) (groups_from t 0) ≡ Done rest r
+        → ReadFrom t (λ g. Said e g (get r)) (get r ≡ value_in e k blank_trend_change) (source_of (origin_in q (spot.At (place_of e) k) (trail_of t)))
     change-source t rest r reads =
         let d = went t rest r reads in
-        read-from t q (spot.At (place_of e) k) (trailOf t) (trail-covers t rest r reads)
-        (subst (λ (xs : List Taken). Stems (λ g. Said e g.bytes (get r)) (get r ≡ valueIn e k blankTrendChange) (originIn q (spot.At (place_of e) k) xs)) (sym (walked t rest r reads))
-        (subst (Stems (λ g. Said e g.bytes (get r)) (get r ≡ valueIn e k blankTrendChange)) (sym (past-part q 0 (spot.At (place_of e) k) d.entries d.follows.taken (ne_eqb q 0 (omega arith))))
-        (part-stems route coming begun none-lacks takes lacks beside shelf d.follows.after (refl, λ e. refl) some (ap (valueIn e k) (blank-slot (q - 1))))))
+        read-from t q (spot.At (place_of e) k) (trail_of t) (trail-covers t rest r reads)
+        (subst (λ (xs : List Taken). Stems (λ g. Said e g.bytes (get r)) (get r ≡ value_in e k blank_trend_change) (origin_in q (spot.At (place_of e) k) xs)) (sym (walked t rest r reads))
+        (subst (Stems (λ g. Said e g.bytes (get r)) (get r ≡ value_in e k blank_trend_change)) (sym (past-part q 0 (spot.At (place_of e) k) d.entries d.follows.taken (ne_eqb q 0 (omega arith))))
+        (part-stems route coming begun none-lacks takes lacks beside shelf d.follows.after (refl, λ e. refl) some (ap (value_in e k) (blank-slot (q - 1))))))
       where
-        blank-slot : (i : ℕ) → get_or (replicate 3 blankTrendChange) i blankTrendChange ≡ blankTrendChange
+        blank-slot : (i : ℕ) → get_or (replicate 3 blank_trend_change) i blank_trend_change ≡ blank_trend_change
         blank-slot zero = refl
         blank-slot (suc zero) = refl
         blank-slot (suc (suc zero)) = refl
@@ -198,13 +198,13 @@ module _ (q : ℕ) (some : 0 < q) (few : q < 4) where
 -- ---- the word of a part
 
 -- the row's groups do not touch it
-tendency-kept : (free : Bool) {c n c₁ k₁ : ℕ} {p p' : TrendChange} {gs left : List Piece} {es : List Entry} → Went (row free) (hasAny words) c₁ k₁ p' left c n p gs es
+tendency-kept : (free : Bool) {c n c₁ k₁ : ℕ} {p p' : TrendChange} {gs left : List Piece} {es : List Entry} → Went (row free) (has_any words) c₁ k₁ p' left c n p gs es
     → p'.tendency ≡ p.tendency
 tendency-kept free done = refl
 tendency-kept free {p = p} (on {i = i} {n = m} {r' = r} {g = g} t e w) = tendency-kept free w ∙ (times-done free i m g.bytes p r e).1
 
 module _ (q : ℕ) (some : 0 < q) (few : q < 4) where
-  nosig-kept : (r : Metar) (c : TrendChange) → (withChange r.trend c).nosig ≡ r.trend.nosig
+  nosig-kept : (r : Metar) (c : TrendChange) → (with_change r.trend c).nosig ≡ r.trend.nosig
   nosig-kept r c = go (ltb r.trend.count 3)
     where
       go : (b : Bool) → (cond b (record { items = set r.trend.items r.trend.count c; count = r.trend.count + 1; nosig = r.trend.nosig }) r.trend).nosig ≡ r.trend.nosig
@@ -237,16 +237,16 @@ module _ (q : ℕ) (some : 0 < q) (few : q < 4) where
 
   changes-word : (m : ℕ) (r : Metar) (w : Word) (p p' : TrendChange) → Known m r → q ≡ m + 1 → r.trend.nosig ≡ false → p ≡ start_of w → p'.tendency ≡ p.tendency
       → ◌≡◌ {A = WordItem}
-      (record { nosig = eqb q 1 && (withChange r.trend p').nosig; tendency = (changeAt q (record { observation = r.observation; trend = withChange r.trend p' })).tendency })
-      (record { nosig = false; tendency = tendencyOf w })
+      (record { nosig = eqb q 1 && (with_change r.trend p').nosig; tendency = (change_at q (record { observation = r.observation; trend = with_change r.trend p' })).tendency })
+      (record { nosig = false; tendency = tendency_of w })
   changes-word m r w p p' known is free starts kept = rw (own-slot q some few m r p' known free is, nosig-kept r p', free, kept, starts) (go (eqb q 1))
     where
-      go : (b : Bool) → ◌≡◌ {A = WordItem} (record { nosig = b && false; tendency = tendencyOf w }) (record { nosig = false; tendency = tendencyOf w })
+      go : (b : Bool) → ◌≡◌ {A = WordItem} (record { nosig = b && false; tendency = tendency_of w }) (record { nosig = false; tendency = tendency_of w })
       go true = refl
       go false = refl
 
   word-opened : (m : ℕ) (r : Metar) (g : Group) (w : Word) (p p' : TrendChange) {c n : ℕ} {gs left : List Piece} {es : List Entry} → Known m r → q ≡ m + 1
-      → word_in q r ≡ no_word → coming r g ≡ Opens (Good (record { kind = w; start = p })) → Went (row (isChange w)) (hasAny words) c n p' left 0 0 p gs es
+      → word_in q r ≡ no_word → coming r g ≡ Opens (Good (record { kind = w; start = p })) → Went (row (is_change w)) (has_any words) c n p' left 0 0 p gs es
       → WordSaid g (word_in q (takes r w p'))
   word-opened m r g word.Nosig p p' known is blank opens went =
       let z = nosig-part m r p known (alone opens) in
@@ -263,17 +263,17 @@ module _ (q : ℕ) (some : 0 < q) (few : q < 4) where
   word-opener = record { opens = word-opened; joins = λ m r g h w p p' known is blank opens joins went. absurd (false≢true joins) }
 
   -- THE WORD OF PART q: NOSIG, or the change's BECMG or TEMPO, is what the group is that the part was opened by; with no such group there is no such part.
-  pub opening-source : (t : List ℕ) (rest : ℕ) (r : Metar) → groupsRead (tailOf t) (length t) (groupsFrom t 0) ≡ Done rest r
-      → ReadFrom t (λ g. WordSaid g (word_in q r)) (word_in q r ≡ no_word) (source_of (originIn q spot.Opening (trailOf t)))
+  pub opening-source : (t : List ℕ) (rest : ℕ) (r : Metar) → groups_read (tail_of t) (length t) (groups_from t 0) ≡ Done rest r
+      → ReadFrom t (λ g. WordSaid g (word_in q r)) (word_in q r ≡ no_word) (source_of (origin_in q spot.Opening (trail_of t)))
   opening-source t rest r reads =
       let d = went t rest r reads in
-      read-from t q spot.Opening (trailOf t) (trail-covers t rest r reads)
-      (subst (λ (xs : List Taken). Stems (λ g. WordSaid g.bytes (word_in q r)) (word_in q r ≡ no_word) (originIn q spot.Opening xs)) (sym (walked t rest r reads))
+      read-from t q spot.Opening (trail_of t) (trail-covers t rest r reads)
+      (subst (λ (xs : List Taken). Stems (λ g. WordSaid g.bytes (word_in q r)) (word_in q r ≡ no_word) (origin_in q spot.Opening xs)) (sym (walked t rest r reads))
       (subst (Stems (λ g. WordSaid g.bytes (word_in q r)) (word_in q r ≡ no_word)) (sym (past-part q 0 spot.Opening d.entries d.follows.taken (ne_eqb q 0 (omega arith))))
       (word-stems route coming begun none-lacks takes lacks word-beside word-opener
       d.follows.after (refl, λ e. refl) some (start (eqb q 1) (q - 1)))))
     where
-      start : (b : Bool) (i : ℕ) → ◌≡◌ {A = WordItem} (record { nosig = b && false; tendency = (get_or (replicate 3 blankTrendChange) i blankTrendChange).tendency }) no_word
+      start : (b : Bool) (i : ℕ) → ◌≡◌ {A = WordItem} (record { nosig = b && false; tendency = (get_or (replicate 3 blank_trend_change) i blank_trend_change).tendency }) no_word
       start true zero = refl
       start true (suc zero) = refl
       start true (suc (suc zero)) = refl

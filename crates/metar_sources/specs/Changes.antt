@@ -12,13 +12,13 @@ use Rattle.record.specs.declared.aerodrome.Wind.{Wind}
 use Rattle.record.specs.declared.aerodrome.Visibility.{Visibility}
 use Rattle.record.specs.declared.aerodrome.TrendChange.{TrendChange}
 use Rattle.record.specs.declared.aerodrome.Metar.{Metar}
-use Rattle.record.specs.Trend.{blankTrendChange}
+use Rattle.record.specs.Trend.{blank_trend_change}
 use Rattle.trend_row.specs.declared.kinds.Word.{Word}
 use Rattle.trend_row.specs.declared.kinds.Word.TheVariants as word
-use Rattle.trend_row.specs.Times.{readMoment}
+use Rattle.trend_row.specs.Times.{read_moment}
 use Rattle.sources.specs.Trail.{Opens}
-use Rattle.body_sources.specs.Items.{WindSaid, VisibilitySaid, WeatherItem, weatherAt, WeatherSaid, SkyItem, skyAt, SkySaid}
-use Rattle.metar_sources.specs.Trail.{wordMove}
+use Rattle.body_sources.specs.Items.{WindSaid, VisibilitySaid, WeatherItem, weather_at, WeatherSaid, SkyItem, sky_at, SkySaid}
+use Rattle.metar_sources.specs.Trail.{word_move}
 use Rattle.metar_sources.specs.declared.kinds.ChangeElement.{ChangeElement}
 use Rattle.metar_sources.specs.declared.kinds.ChangeElement.TheVariants as element
 
@@ -28,19 +28,19 @@ pub data Perhaps : Type 0 where
   time : Moment → Perhaps
 
 -- FM, TL and AT of a change's times
-abbrev pub fromOf : Hours → Perhaps
-fromOf hours.None = none
-fromOf (hours.From f) = time f
-fromOf (hours.Until u) = none
-fromOf (hours.Between f u) = time f
-fromOf (hours.At t) = none
+abbrev pub from_of : Hours → Perhaps
+from_of hours.None = none
+from_of (hours.From f) = time f
+from_of (hours.Until u) = none
+from_of (hours.Between f u) = time f
+from_of (hours.At t) = none
 
-abbrev pub untilOf : Hours → Perhaps
-untilOf hours.None = none
-untilOf (hours.From f) = none
-untilOf (hours.Until u) = time u
-untilOf (hours.Between f u) = time u
-untilOf (hours.At t) = none
+abbrev pub until_of : Hours → Perhaps
+until_of hours.None = none
+until_of (hours.From f) = none
+until_of (hours.Until u) = time u
+until_of (hours.Between f u) = time u
+until_of (hours.At t) = none
 
 abbrev pub at_of : Hours → Perhaps
 at_of hours.None = none
@@ -51,7 +51,7 @@ at_of (hours.At t) = time t
 
 -- what a time's group says; TL may be 2400
 pub data TimeSaid (until : Bool) (g : Group) : Perhaps → Type 0 where
-  says : {t : Moment} → readMoment until g ≡ Good t → TimeSaid until g (time t)
+  says : {t : Moment} → read_moment until g ≡ Good t → TimeSaid until g (time t)
 
 abbrev pub place_of : ChangeElement → ℕ
 place_of element.From = 1
@@ -80,14 +80,14 @@ Value element.Visibility = Visibility
 Value element.Weather = WeatherItem
 Value element.Clouds = SkyItem
 
-abbrev pub valueIn : (e : ChangeElement) → ℕ → TrendChange → Value e
-valueIn element.From k c = fromOf c.times.is
-valueIn element.Until k c = untilOf c.times.is
-valueIn element.At k c = at_of c.times.is
-valueIn element.Wind k c = c.body.wind
-valueIn element.Visibility k c = c.body.visibility
-valueIn element.Weather k c = weatherAt k c.body
-valueIn element.Clouds k c = skyAt k c.body
+abbrev pub value_in : (e : ChangeElement) → ℕ → TrendChange → Value e
+value_in element.From k c = from_of c.times.is
+value_in element.Until k c = until_of c.times.is
+value_in element.At k c = at_of c.times.is
+value_in element.Wind k c = c.body.wind
+value_in element.Visibility k c = c.body.visibility
+value_in element.Weather k c = weather_at k c.body
+value_in element.Clouds k c = sky_at k c.body
 
 abbrev pub Said : (e : ChangeElement) → Group → Value e → Type 0
 Said element.From g v = TimeSaid false g v
@@ -99,8 +99,8 @@ Said element.Weather g v = WeatherSaid true g v
 Said element.Clouds g v = SkySaid true g v
 
 -- the change that part q of a report is, 1 to 3
-abbrev pub changeAt : ℕ → Metar → TrendChange
-changeAt q r = get_or r.trend.items (q - 1) blankTrendChange
+abbrev pub change_at : ℕ → Metar → TrendChange
+change_at q r = get_or r.trend.items (q - 1) blank_trend_change
 
 -- ---- the word that opened part q: NOSIG, or BECMG or TEMPO of a change
 
@@ -110,12 +110,12 @@ pub record WordItem : Type 0 where
 
 -- NOSIG stands alone, so it opens part 1
 abbrev pub word_in : ℕ → Metar → WordItem
-word_in q r = record { nosig = eqb q 1 && r.trend.nosig; tendency = (changeAt q r).tendency }
+word_in q r = record { nosig = eqb q 1 && r.trend.nosig; tendency = (change_at q r).tendency }
 
-abbrev pub wordValue : Word → WordItem
-wordValue word.Nosig = record { nosig = true; tendency = tendency.None }
-wordValue word.Becoming = record { nosig = false; tendency = tendency.Becoming }
-wordValue word.Temporary = record { nosig = false; tendency = tendency.Temporary }
+abbrev pub word_value : Word → WordItem
+word_value word.Nosig = record { nosig = true; tendency = tendency.None }
+word_value word.Becoming = record { nosig = false; tendency = tendency.Becoming }
+word_value word.Temporary = record { nosig = false; tendency = tendency.Temporary }
 
 abbrev pub no_word : WordItem
 no_word = record { nosig = false; tendency = tendency.None }
@@ -123,5 +123,5 @@ no_word = record { nosig = false; tendency = tendency.None }
 -- the word that the group is, and what it stands for
 pub record WordSaid (g : Group) (v : WordItem) : Type 0 where
   pub word : Word
-  pub is : wordMove g ≡ Opens word
-  pub value : v ≡ wordValue word
+  pub is : word_move g ≡ Opens word
+  pub value : v ≡ word_value word

@@ -3,7 +3,7 @@
 -- Assumes nothing: these are definitions.
 use Rattle.std.specs.Prelude.{ℕ, ◌≡◌, Bool, true, false, get_or}
 use Rattle.figures.specs.Quote.{bytes}
-use Rattle.shapes.specs.Pattern.{hasPattern}
+use Rattle.shapes.specs.Pattern.{has_pattern}
 use Rattle.places.specs.Engine.{Group, Good}
 use Rattle.record.specs.declared.aerodrome.Station.{Station}
 use Rattle.record.specs.declared.aerodrome.Instant.{Instant}
@@ -16,15 +16,15 @@ use Rattle.record.specs.declared.aerodrome.Temperatures.{Temperatures}
 use Rattle.record.specs.declared.aerodrome.Qnh.{Qnh}
 use Rattle.record.specs.declared.aerodrome.RunwayState.{RunwayState}
 use Rattle.record.specs.declared.aerodrome.Observation.{Observation}
-use Rattle.record.specs.Body.{blankWeather}
-use Rattle.record.specs.Observation.{blankRunway, blankState}
-use Rattle.elements.specs.Wind.{readVariation}
-use Rattle.elements.specs.Weather.{readRecent}
-use Rattle.aerodrome_groups.specs.Head.{stationOf, readTime}
-use Rattle.aerodrome_groups.specs.Runway.{readRunway}
-use Rattle.aerodrome_groups.specs.Temperatures.{readTemperatures, readQnh}
-use Rattle.runway_states.specs.State.{readState}
-use Rattle.body_sources.specs.Items.{WindSaid, VisibilitySaid, WeatherItem, weatherAt, WeatherSaid, SkyItem, skyAt, SkySaid}
+use Rattle.record.specs.Body.{blank_weather}
+use Rattle.record.specs.Observation.{blank_runway, blank_state}
+use Rattle.elements.specs.Wind.{read_variation}
+use Rattle.elements.specs.Weather.{read_recent}
+use Rattle.aerodrome_groups.specs.Head.{station_of, read_time}
+use Rattle.aerodrome_groups.specs.Runway.{read_runway}
+use Rattle.aerodrome_groups.specs.Temperatures.{read_temperatures, read_qnh}
+use Rattle.runway_states.specs.State.{read_state}
+use Rattle.body_sources.specs.Items.{WindSaid, VisibilitySaid, WeatherItem, weather_at, WeatherSaid, SkyItem, sky_at, SkySaid}
 use Rattle.metar_sources.specs.declared.kinds.Element.{Element}
 use Rattle.metar_sources.specs.declared.kinds.Element.TheVariants as element
 
@@ -97,32 +97,32 @@ value_of element.Automatic k r = r.automatic
 value_of element.Wind k r = r.body.wind
 value_of element.Variation k r = r.variation
 value_of element.Visibility k r = r.body.visibility
-value_of element.Runway k r = get_or r.runways.items k blankRunway
-value_of element.Weather k r = weatherAt k r.body
-value_of element.Clouds k r = skyAt k r.body
+value_of element.Runway k r = get_or r.runways.items k blank_runway
+value_of element.Weather k r = weather_at k r.body
+value_of element.Clouds k r = sky_at k r.body
 value_of element.Temperatures k r = r.temperatures
 value_of element.Pressure k r = r.qnh
-value_of element.Recent k r = get_or r.recents.items k blankWeather
-value_of element.State k r = get_or r.states.items k blankState
+value_of element.Recent k r = get_or r.recents.items k blank_weather
+value_of element.State k r = get_or r.states.items k blank_state
 value_of element.Snoclo k r = r.states.snoclo
 
 -- WHAT THE DEFINITION OF THE GROUP SAYS OF ITS BYTES. COR, NIL, AUTO and SNOCLO are words: that the group stands is all they say. Of recent weather, AUTO
 -- decides only whether UP is refused.
 abbrev pub Said : (e : Element) → Group → Value e → Type 0
-Said element.Name g v = v ≡ hasPattern g (bytes "SPECI")
+Said element.Name g v = v ≡ has_pattern g (bytes "SPECI")
 Said element.Correction g v = v ≡ true
-Said element.Station g v = v ≡ stationOf g
-Said element.Time g v = readTime g ≡ Good v
+Said element.Station g v = v ≡ station_of g
+Said element.Time g v = read_time g ≡ Good v
 Said element.Nil g v = v ≡ true
 Said element.Automatic g v = v ≡ true
 Said element.Wind g v = WindSaid false g v
-Said element.Variation g v = readVariation g ≡ Good v
+Said element.Variation g v = read_variation g ≡ Good v
 Said element.Visibility g v = VisibilitySaid false g v
-Said element.Runway g v = readRunway g ≡ Good v
+Said element.Runway g v = read_runway g ≡ Good v
 Said element.Weather g v = WeatherSaid false g v
 Said element.Clouds g v = SkySaid false g v
-Said element.Temperatures g v = readTemperatures g ≡ Good v
-Said element.Pressure g v = readQnh g ≡ Good v
-Said element.Recent g v = (automatic : Bool) × (readRecent automatic g ≡ Good v)
-Said element.State g v = readState g ≡ Good v
+Said element.Temperatures g v = read_temperatures g ≡ Good v
+Said element.Pressure g v = read_qnh g ≡ Good v
+Said element.Recent g v = (automatic : Bool) × (read_recent automatic g ≡ Good v)
+Said element.State g v = read_state g ≡ Good v
 Said element.Snoclo g v = v ≡ true

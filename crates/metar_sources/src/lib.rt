@@ -2,13 +2,13 @@
 pub mod kinds;
 
 ghost use Rattle.std.specs.Prelude.{◌≡◌};
-ghost use Rattle.shapes.specs.Pattern.{hasAny};
-ghost use Rattle.metar_row.specs.Row.{stopWords};
+ghost use Rattle.shapes.specs.Pattern.{has_any};
+ghost use Rattle.metar_row.specs.Row.{stop_words};
 ghost use Rattle.trend_row.specs.declared.kinds.Word.{Word};
-ghost use Rattle.sources.specs.Trail.{originIn, source_of};
+ghost use Rattle.sources.specs.Trail.{origin_in, source_of};
 ghost use Rattle.metar_sources.specs.Items as observed;
 ghost use Rattle.metar_sources.specs.Changes as changed;
-ghost use Rattle.metar_sources.specs.Trail.{wordMove, trailOf, markAt, turnIn, pastIn, metMove, metOf};
+ghost use Rattle.metar_sources.specs.Trail.{word_move, trail_of, mark_at, turn_in, past_in, met_move, met_of};
 
 use kinds::{ChangeElement, Element, Met};
 use metar_row::go_past;
@@ -22,7 +22,7 @@ use trend_row::row::is_change;
 
 // The group's turn in its part: the observation, or a part of the trend that `word` opened.
 fn turn_in(part: usize, word: Word, place: usize, count: usize, g: &[u8]) -> Turn
-    ensures { result ≡ turnIn part word place count g.now }
+    ensures { result ≡ turn_in part word place count g.now }
 {
     if part == 0 {
         metar::step::decide(place, count, g)
@@ -33,13 +33,13 @@ fn turn_in(part: usize, word: Word, place: usize, count: usize, g: &[u8]) -> Tur
 
 // Where reading stands past a place.
 fn past_in(part: usize, place: usize) -> usize
-    ensures { (w : Word) → result ≡ pastIn part w place }
+    ensures { (w : Word) → result ≡ past_in part w place }
 {
     if part == 0 { go_past(place) } else { place }
 }
 
 fn is_stop_word(g: &[u8]) -> bool
-    ensures { result ≡ hasAny stopWords g.now }
+    ensures { result ≡ has_any stop_words g.now }
 {
     let shear = has_pattern(g, b"WS");
     let remarks = has_pattern(g, b"RMK");
@@ -48,7 +48,7 @@ fn is_stop_word(g: &[u8]) -> bool
 
 // A word, from start up to end.
 fn meet_word(g: &[u8], start: usize, end: usize) -> Met
-    ensures { result ≡ metMove start end (wordMove g.now) }
+    ensures { result ≡ met_move start end (word_move g.now) }
 {
     if is_stop_word(g) {
         return Met::Over;
@@ -76,7 +76,7 @@ fn meet_word(g: &[u8], start: usize, end: usize) -> Met
 
 // The next group of the text, in the part that `word` opened.
 fn meet(text: &[u8], from: usize, part: usize, word: Word, place: usize, count: usize) -> Met
-    ensures { result ≡ metOf text.now from (markAt part word place count) }
+    ensures { result ≡ met_of text.now from (mark_at part word place count) }
 {
     let Cut::Group { start, end } = text::next_group(text, from) else {
         return Met::Over;
@@ -101,7 +101,7 @@ fn meet(text: &[u8], from: usize, part: usize, word: Word, place: usize, count: 
 
 // The group that was taken at a spot of a part, in a text that is accepted as a METAR or SPECI.
 pub fn find(text: &[u8], part: usize, spot: Spot) -> Source
-    ensures { result ≡ source_of (originIn part spot (trailOf text.now)) }
+    ensures { result ≡ source_of (origin_in part spot (trail_of text.now)) }
 {
     let mut here = 0;
     let mut opener = Word::Nosig;

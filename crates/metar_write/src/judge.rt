@@ -1,6 +1,6 @@
 // What the writer judges of a METAR or SPECI before it writes anything: that no field foreign to it is told, then each group in written order.
 ghost use Rattle.std.specs.Prelude.{◌≡◌};
-ghost use Rattle.metar.specs.Write.{judgeObservation, judgeOf};
+ghost use Rattle.metar.specs.Write.{judge_observation, judge_of};
 
 use crate::trends::judge_trend;
 use aerodrome_groups::judge::{
@@ -15,7 +15,7 @@ use weather_write::judge::judge_recents;
 use wind::judge::judge_variation;
 
 fn judge_observation(r: Observation) -> Judged
-    ensures { result ≡ judgeObservation r }
+    ensures { result ≡ judge_observation r }
 {
     let automatic = r.automatic;
     let body = r.body;
@@ -38,7 +38,7 @@ fn judge_observation(r: Observation) -> Judged
 
 // Foreign to a NIL report is what stands after its time, and there is nothing more to judge of it.
 pub fn judge(r: Metar) -> Judged
-    ensures { result ≡ judgeOf r }
+    ensures { result ≡ judge_of r }
 {
     let observation = r.observation;
     let trend = r.trend;

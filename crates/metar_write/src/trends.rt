@@ -2,7 +2,7 @@
 ghost use Rattle.std.specs.Prelude.{◌≡◌, ◌≤◌, take};
 ghost use Rattle.figures.specs.Put.{Put};
 ghost use Rattle.text.specs.Groups.{written};
-ghost use Rattle.trend.specs.Write.{judgeChange, judgeEach, judgeTrend, showWord, showChange, showEach, showTrend};
+ghost use Rattle.trend.specs.Write.{judge_change, judge_each, judge_trend, show_word, show_change, show_each, show_trend};
 
 use body::judge::{has_element, judge_body};
 use body::write::put_body;
@@ -16,7 +16,7 @@ use trend_row::times::{hours_fit, put_times};
 
 // Its word, which NOSIG must not stand beside, its times, its body, and that it has an element.
 fn judge_change(nosig: bool, c: TrendChange) -> Judged
-    ensures { result ≡ judgeChange nosig c }
+    ensures { result ≡ judge_change nosig c }
 {
     let tendency = c.tendency;
     let times = c.times;
@@ -32,7 +32,7 @@ fn judge_change(nosig: bool, c: TrendChange) -> Judged
 // The first n changes.
 fn judge_each(t: Trend, n: usize) -> Judged
     requires { n ≤ 3 }
-    ensures { result ≡ judgeEach t.nosig (take n t.items) }
+    ensures { result ≡ judge_each t.nosig (take n t.items) }
 {
     let items = t.items;
     let mut i = 0;
@@ -47,7 +47,7 @@ fn judge_each(t: Trend, n: usize) -> Judged
 }
 
 pub fn judge_trend(t: Trend) -> Judged
-    ensures { result ≡ judgeTrend t }
+    ensures { result ≡ judge_trend t }
 {
     let n = t.count;
     if n <= 3 {
@@ -61,7 +61,7 @@ pub fn judge_trend(t: Trend) -> Judged
 // ---- writing
 
 fn put_word(out: &mut [u8], at: usize, tendency: Tendency) -> usize
-    ensures { Put out.old at (written at (showWord tendency)) result out.new }
+    ensures { Put out.old at (written at (show_word tendency)) result out.new }
 {
     match tendency {
         Tendency::None => at,
@@ -71,7 +71,7 @@ fn put_word(out: &mut [u8], at: usize, tendency: Tendency) -> usize
 }
 
 fn put_change(out: &mut [u8], at: usize, c: TrendChange) -> usize
-    ensures { Put out.old at (written at (showChange c)) result out.new }
+    ensures { Put out.old at (written at (show_change c)) result out.new }
 {
     let tendency = c.tendency;
     let times = c.times;
@@ -84,7 +84,7 @@ fn put_change(out: &mut [u8], at: usize, c: TrendChange) -> usize
 // The first n changes.
 fn put_each(out: &mut [u8], at: usize, t: Trend, n: usize) -> usize
     requires { n ≤ 3 }
-    ensures { Put out.old at (written at (showEach (take n t.items))) result out.new }
+    ensures { Put out.old at (written at (show_each (take n t.items))) result out.new }
 {
     let items = t.items;
     let mut next = at;
@@ -99,7 +99,7 @@ fn put_each(out: &mut [u8], at: usize, t: Trend, n: usize) -> usize
 // NOSIG, or the changes; past the third there is none.
 pub fn put_trend(out: &mut [u8], at: usize, t: Trend) -> usize
     requires { t.count ≤ 3 }
-    ensures { Put out.old at (written at (showTrend t)) result out.new }
+    ensures { Put out.old at (written at (show_trend t)) result out.new }
 {
     let alone = put_if(out, at, t.nosig, b"NOSIG");
     put_each(out, alone, t, t.count)

@@ -4,9 +4,9 @@ ghost use Rattle.figures.specs.Put.{Put};
 ghost use Rattle.figures.specs.Quote.{bytes};
 ghost use Rattle.text.specs.declared.kinds.Judged.TheVariants as judged;
 ghost use Rattle.text.specs.Groups.{written};
-ghost use Rattle.places.specs.Engine.{written as groupsAt};
+ghost use Rattle.places.specs.Engine.{written as groups_at};
 ghost use Rattle.metar_row.specs.Row.{row};
-ghost use Rattle.metar.specs.Write.{judgeOf, groups_of, written_of, bufferOf};
+ghost use Rattle.metar.specs.Write.{judge_of, groups_of, written_of, buffer_of};
 
 use crate::judge::judge;
 use crate::trends::put_trend;
@@ -32,7 +32,7 @@ fn put_name(out: &mut [u8], special: bool) -> usize
 
 // METAR or SPECI, COR, CCCC, YYGGggZ, NIL, AUTO: the first six places.
 fn put_head(out: &mut [u8], r: Observation) -> usize
-    ensures { Put out.old 0 (written 0 (groupsAt (take 6 row) r)) result out.new }
+    ensures { Put out.old 0 (written 0 (groups_at (take 6 row) r)) result out.new }
 {
     let special = r.special;
     let corrected = r.corrected;
@@ -50,7 +50,7 @@ fn put_head(out: &mut [u8], r: Observation) -> usize
 
 // Wind, its variation, visibility and runway ranges: the next four. A NIL report is written without wind and visibility.
 fn put_seen(out: &mut [u8], at: usize, r: Observation) -> usize
-    ensures { Put out.old at (written at (groupsAt (take 4 (drop 6 row)) r)) result out.new }
+    ensures { Put out.old at (written at (groups_at (take 4 (drop 6 row)) r)) result out.new }
 {
     let nil = r.nil;
     let body = r.body;
@@ -66,7 +66,7 @@ fn put_seen(out: &mut [u8], at: usize, r: Observation) -> usize
 
 // T/Td, Q, recent weather and runway states: the last places. A NIL report is written without T/Td and Q.
 fn put_last(out: &mut [u8], at: usize, r: Observation) -> usize
-    ensures { Put out.old at (written at (groupsAt (drop 12 row) r)) result out.new }
+    ensures { Put out.old at (written at (groups_at (drop 12 row) r)) result out.new }
 {
     let nil = r.nil;
     let temperatures = r.temperatures;
@@ -86,7 +86,7 @@ fn put_last(out: &mut [u8], at: usize, r: Observation) -> usize
 
 // The observation, as it stands before the trend.
 fn put_observation(out: &mut [u8], r: Observation) -> usize
-    ensures { Put out.old 0 (written 0 (groupsAt row r)) result out.new }
+    ensures { Put out.old 0 (written 0 (groups_at row r)) result out.new }
 {
     let body = r.body;
     let sky = body.sky;
@@ -111,8 +111,8 @@ fn put_report(out: &mut [u8], r: Metar) -> usize
 
 // A record that is judged fine: its text, at most 704 bytes, is made first, so that its length is known before the lent buffer is touched.
 fn write_fine(r: Metar, out: &mut [u8]) -> Written
-    requires { judgeOf r ≡ judged.Fine }
-    ensures { (result ≡ written_of r (length out.old)) × (out.new ≡ bufferOf r out.old) }
+    requires { judge_of r ≡ judged.Fine }
+    ensures { (result ≡ written_of r (length out.old)) × (out.new ≡ buffer_of r out.old) }
 {
     let mut text = [0u8; 704];
     let end = put_report(&mut text, r);
@@ -120,7 +120,7 @@ fn write_fine(r: Metar, out: &mut [u8]) -> Written
 }
 
 pub fn write(r: Metar, out: &mut [u8]) -> Written
-    ensures { (result ≡ written_of r (length out.old)) × (out.new ≡ bufferOf r out.old) }
+    ensures { (result ≡ written_of r (length out.old)) × (out.new ≡ buffer_of r out.old) }
 {
     let verdict = judge(r);
     match verdict {

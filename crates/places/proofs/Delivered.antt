@@ -16,9 +16,9 @@ use Rattle.text.specs.declared.kinds.Tail.{Tail}
 use Rattle.text.specs.declared.kinds.Tail.TheVariants.{Clear}
 use Rattle.text.specs.declared.kinds.Written.{Written}
 use Rattle.text.specs.declared.kinds.Written.TheVariants as answer
-use Rattle.text.specs.Groups.{Piece, groupsFrom, join, written}
-use Rattle.text.specs.Text.{tailOf}
-use Rattle.text.specs.Write.{answerBy, bufferBy}
+use Rattle.text.specs.Groups.{Piece, groups_from, join, written}
+use Rattle.text.specs.Text.{tail_of}
+use Rattle.text.specs.Write.{answer_by, buffer_by}
 use Rattle.text.proofs.Joins.{round-trip-bytes, join-tail}
 use Rattle.text.proofs.Writes.{write-groups, made-within, made-text}
 use Rattle.places.specs.Engine.{Group, Outcome, Done}
@@ -52,8 +52,8 @@ joined-short (g ∷ gs) some s = rw (join-room g gs) s.short
 -- what groups come to, from any pieces that hold them, their text comes to
 pub joined_back : {R : Type 0} {n : ℕ} {r : R} (read : Tail → ℕ → List Piece → Outcome R) (gs : List Group) → Sizes n gs
     → ((end : ℕ) (ps : List Piece) → groups_of ps ≡ gs → read Clear end ps ≡ Done end r)
-    → read (tailOf (join gs)) (length (join gs)) (groupsFrom (join gs) 0) ≡ Done (length (join gs)) r
-joined_back read gs s back = rw (join-tail gs s.wholes) (back (length (join gs)) (groupsFrom (join gs) 0) (round-trip-bytes gs s.wholes))
+    → read (tail_of (join gs)) (length (join gs)) (groups_from (join gs) 0) ≡ Done (length (join gs)) r
+joined_back read gs s back = rw (join-tail gs s.wholes) (back (length (join gs)) (groups_from (join gs) 0) (round-trip-bytes gs s.wholes))
 
 -- the report made first in an array that has room for it
 pub made : {m n end : ℕ} {e : List ℕ} (gs : List Group) → Sizes m gs → length (join gs) ≤ n → Put (replicate n 0) 0 (written 0 gs ++ (61 ∷ [])) end e
@@ -63,8 +63,8 @@ made gs s short p = (made-within gs s.wholes short p, made-text gs s.wholes shor
 -- ---- the answer and the buffer, of a record judged j whose canonical text is x
 
 pub delivered : {j : Judged} {x y e : List ℕ} {w : Written} (b : List ℕ) → j ≡ judged.Fine → y ≡ x
-    → (w ≡ answerBy judged.Fine y (length b)) × (e ≡ bufferBy judged.Fine y b) → (w ≡ answerBy j x (length b)) × (e ≡ bufferBy j x b)
+    → (w ≡ answer_by judged.Fine y (length b)) × (e ≡ buffer_by judged.Fine y b) → (w ≡ answer_by j x (length b)) × (e ≡ buffer_by j x b)
 delivered b fine is h = rw (fine, ← is) h
 
-pub not-delivered : {j : Judged} {f : Refusal} (x b : List ℕ) → j ≡ judged.Refused f → (answer.Refused f ≡ answerBy j x (length b)) × (b ≡ bufferBy j x b)
+pub not-delivered : {j : Judged} {f : Refusal} (x b : List ℕ) → j ≡ judged.Refused f → (answer.Refused f ≡ answer_by j x (length b)) × (b ≡ buffer_by j x b)
 not-delivered x b e = (rw e, rw e)

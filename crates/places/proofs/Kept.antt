@@ -10,11 +10,11 @@ use mathlib.Core.List.{List, [], ◌∷◌, ◌++◌}
 use lib.ListN.{length}
 use Rattle.text.specs.declared.kinds.Tail.TheVariants.{Clear}
 use Rattle.text.specs.declared.kinds.Bytes.TheVariants as judgement
-use Rattle.text.specs.Groups.{groupsFrom, join}
+use Rattle.text.specs.Groups.{groups_from, join}
 use Rattle.text.specs.Text.{bytes_of}
 use Rattle.text.proofs.Joins.{round-trip-bytes, join-sound}
 use Rattle.figures.proofs.Impossible.{impossible}
-use Rattle.shapes.specs.Pattern.{Pattern, hasAny}
+use Rattle.shapes.specs.Pattern.{Pattern, has_any}
 use Rattle.places.specs.Engine.{Group, Good, Place, Done, run, written, put_all}
 use Rattle.places.proofs.ReadBack.{All, sound, Covered, Shaped, Spoken, fill, Served, ServedRow, stops, read_back}
 use Rattle.places.proofs.Sizes.{Sized, Sizes, sizes-none, sizes-all, sizes-append, sizes-more, join-room, room}
@@ -56,15 +56,15 @@ module _ {R : Type 0} where
   kept-served (last k s o w e) = (k.served, (λ t. (o, w, e)), λ t. absurd (false≢true (sym t ∙ s)))
 
   -- the bytes that a row's groups may take in a text
-  abbrev pub rowRoom : List ℕ → List (Place R) → ℕ
-  rowRoom [] ps = 0
-  rowRoom (n ∷ ns) [] = 0
-  rowRoom (n ∷ ns) (p ∷ ps) = (n + 1) * p.most + rowRoom ns ps
+  abbrev pub row_room : List ℕ → List (Place R) → ℕ
+  row_room [] ps = 0
+  row_room (n ∷ ns) [] = 0
+  row_room (n ∷ ns) (p ∷ ps) = (n + 1) * p.most + row_room ns ps
 
   shown-sizes : (p : Place R) (n : ℕ) (r acc : R) → Kept p n r acc → Sizes ((n + 1) * p.most) (p.show r)
   shown-sizes p n r acc k = sizes-more (mul-le-mul_left (n + 1) k.served.few) (sizes-all n (p.show r) k.sized)
 
-  pub kept-sizes : {ns : List ℕ} {ps : List (Place R)} {r acc : R} → KeptRow ns ps r acc → Sizes (rowRoom ns ps) (written ps r)
+  pub kept-sizes : {ns : List ℕ} {ps : List (Place R)} {r acc : R} → KeptRow ns ps r acc → Sizes (row_room ns ps) (written ps r)
   kept-sizes done = sizes-none
   kept-sizes {r = r} {acc} (more {n} {ns} {p} {ps} k s ks) = sizes-append (p.show r) (written ps r) (shown-sizes p n r acc k) (kept-sizes ks)
   kept-sizes {r = r} {acc} (last {n} {ns} {p} {ps} k s o w e) =
@@ -72,26 +72,26 @@ module _ {R : Type 0} where
 
   -- THE TEXT OF WHAT A ROW KEEPS: how long it is, that a text may hold its bytes, and that it is read back whole.
   module _ (row : List (Place R)) (words : List Pattern) (ns : List ℕ) (r acc : R) (kept : KeptRow ns row r acc) where
-    pub text-short : 0 < length (written row r) → length (join (written row r)) ≤ rowRoom ns row
+    pub text-short : 0 < length (written row r) → length (join (written row r)) ≤ row_room ns row
     text-short some = go (written row r) some (kept-sizes kept).short
       where
-        go : (gs : List Group) → 0 < length gs → room gs ≤ rowRoom ns row → length (join gs) ≤ rowRoom ns row
+        go : (gs : List Group) → 0 < length gs → room gs ≤ row_room ns row → length (join gs) ≤ row_room ns row
         go [] s h = absurd (omega arith)
         go (g ∷ gs) s h = rw (join-room g gs) h
 
-    pub text-sound : 0 < length (written row r) → rowRoom ns row ≤ 2048 → bytes_of (join (written row r)) ≡ judgement.Sound
+    pub text-sound : 0 < length (written row r) → row_room ns row ≤ 2048 → bytes_of (join (written row r)) ≡ judgement.Sound
     text-sound some h = let s = text-short some in join-sound (written row r) (kept-sizes kept).allow (omega arith)
 
     pub text-back : 0 < length row → sound words row ≡ true → Covered row → (end : ℕ)
-        → run row words Clear end 0 0 acc (groupsFrom (join (written row r)) 0) ≡ Done end (put_all row r acc)
+        → run row words Clear end 0 0 acc (groups_from (join (written row r)) 0) ≡ Done end (put_all row r acc)
     text-back some told covered end =
-        read_back row words r acc some told covered (kept-spoken kept) (kept-served kept) (groupsFrom (join (written row r)) 0)
+        read_back row words r acc some told covered (kept-spoken kept) (kept-served kept) (groups_from (join (written row r)) 0)
         (round-trip-bytes (written row r) (kept-sizes kept).wholes) end
 
   -- ---- places of common forms
 
   -- one group that must stand: it has the shape, fits what the place speaks, and is read as what is put
-  pub keep_one : {p : Place R} {n : ℕ} {r acc : R} (g : Group) → p.show r ≡ g ∷ [] → p.has g ≡ true → hasAny p.spoken g ≡ true → Sized n g → 1 ≤ p.most
+  pub keep_one : {p : Place R} {n : ℕ} {r acc : R} (g : Group) → p.show r ≡ g ∷ [] → p.has g ≡ true → has_any p.spoken g ≡ true → Sized n g → 1 ≤ p.most
       → p.read 0 g acc ≡ Good (p.put r acc) → Kept p n r acc
   keep_one {p} {n} {r} {acc} g is h s z m e =
       record {

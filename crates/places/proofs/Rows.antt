@@ -10,8 +10,8 @@ use lib.ListN.{length, get_or, take, drop, take-append-drop, length-map, get_or-
 use lib.Dec.{ltb, eqb, eqb-zero-suc, eqb-suc-zero, eqb-suc-suc}
 use borrow.Author.Tests.{ltb-true, not-true}
 use Rattle.figures.proofs.Impossible.{impossible}
-use Rattle.places.specs.Seek.{Stand, seek, anywhere, orEarlier, findOf}
-use Rattle.places.specs.Engine.{Group, Place, nowhere, placeAt, onward, standing, standsOf, written}
+use Rattle.places.specs.Seek.{Stand, seek, anywhere, or_earlier, find_of}
+use Rattle.places.specs.Engine.{Group, Place, nowhere, place_at, onward, standing, stands_of, written}
 use Rattle.places.specs.declared.kinds.Found.{Found}
 use Rattle.places.specs.declared.kinds.Found.TheVariants.{Take, Skips, Full, Earlier, Unknown}
 
@@ -62,10 +62,10 @@ beyond b (suc n) i h e =
 
 module _ {R : Type 0} (row : List (Place R)) (g : Group) where
   -- the shape of a place by its number, and that past the row there is none
-  pub has-at : (n : ℕ) {i : ℕ} {b : Bool} → i ≡ n → b ≡ (placeAt row n).has g → b ≡ (placeAt row i).has g
+  pub has-at : (n : ℕ) {i : ℕ} {b : Bool} → i ≡ n → b ≡ (place_at row n).has g → b ≡ (place_at row i).has g
   has-at n e h = rw e h
 
-  pub has-nowhere : (i : ℕ) → length row ≤ i → false ≡ (placeAt row i).has g
+  pub has-nowhere : (i : ℕ) → length row ≤ i → false ≡ (place_at row i).has g
   has-nowhere i h = rw (get_or-eq_default row (nowhere {R = R}) {n = i} h)
 
 -- ---- a place that takes a group
@@ -107,7 +107,7 @@ seek-fits ps (q ∷ qs) i k late j n d e =
         impossible (cc)
     go false r b l false s ih = ih r s
 
-found : (here : Bool) (f : Found) (j n : ℕ) → orEarlier here f ≡ Take j n → f ≡ Take j n
+found : (here : Bool) (f : Found) (j n : ℕ) → or_earlier here f ≡ Take j n → f ≡ Take j n
 found here (Take i k) j n e = e
 found here Skips j n e = e
 found here Full j n e = e
@@ -115,21 +115,21 @@ found here Earlier j n e = e
 found true Unknown j n e = impossible (cc)
 found false Unknown j n e = e
 
-find-fits : (ps : List Stand) (c k j n : ℕ) → findOf ps c k ≡ Take j n → Fit ps j n
-unfolding findOf
+find-fits : (ps : List Stand) (c k j n : ℕ) → find_of ps c k ≡ Take j n → Fit ps j n
+unfolding find_of
 find-fits ps c k j n e = seek-fits ps (drop c ps) c k false j n refl (found (anywhere ps) (seek c k false (drop c ps)) j n e)
 
 module _ {R : Type 0} where
   -- A GROUP THAT IS TAKEN GOES TO A PLACE OF THE ROW THAT HAS ROOM FOR IT AND HAS ITS SHAPE.
   pub record Open (row : List (Place R)) (g : Group) (j n : ℕ) : Type 0 where
     pub within : j < length row
-    pub room : n < (placeAt row j).most
-    pub shaped : (placeAt row j).has g ≡ true
+    pub room : n < (place_at row j).most
+    pub shaped : (place_at row j).has g ≡ true
 
-  pub taken-open : (row : List (Place R)) (g : Group) (c k j n : ℕ) → findOf (standsOf row g) c k ≡ Take j n → Open row g j n
+  pub taken-open : (row : List (Place R)) (g : Group) (c k j n : ℕ) → find_of (stands_of row g) c k ≡ Take j n → Open row g j n
   taken-open row g c k j n e =
-      let f = find-fits (standsOf row g) c k j n e in
-      let is : get_or (standsOf row g) j none ≡ standing g (placeAt row j) = get_or-map (standing g) row j nowhere in
+      let f = find-fits (stands_of row g) c k j n e in
+      let is : get_or (stands_of row g) j none ≡ standing g (place_at row j) = get_or-map (standing g) row j nowhere in
       record {
         within = rw length-map at f.within;
         room = rw is at f.room;
@@ -138,34 +138,34 @@ module _ {R : Type 0} where
 
 -- ---- tests that hold at one place alone
 
-abbrev pub noneIn : List Bool → Bool
-noneIn [] = true
-noneIn (b ∷ bs) = not b && noneIn bs
+abbrev pub none_in : List Bool → Bool
+none_in [] = true
+none_in (b ∷ bs) = not b && none_in bs
 
-abbrev pub onlyAt : ℕ → List Bool → Bool
-onlyAt k [] = false
-onlyAt zero (b ∷ bs) = b && noneIn bs
-onlyAt (suc k) (b ∷ bs) = not b && onlyAt k bs
+abbrev pub only_at_lem : ℕ → List Bool → Bool
+only_at_lem k [] = false
+only_at_lem zero (b ∷ bs) = b && none_in bs
+only_at_lem (suc k) (b ∷ bs) = not b && only_at_lem k bs
 
-none-at : (bs : List Bool) (i : ℕ) → noneIn bs ≡ true → get_or bs i false ≡ false
+none-at : (bs : List Bool) (i : ℕ) → none_in bs ≡ true → get_or bs i false ≡ false
 none-at [] i e = refl
-none-at (b ∷ bs) zero e = not-true b ((and-eq-true_iff (not b) (noneIn bs)).0 e).0
-none-at (b ∷ bs) (suc i) e = none-at bs i ((and-eq-true_iff (not b) (noneIn bs)).0 e).1
+none-at (b ∷ bs) zero e = not-true b ((and-eq-true_iff (not b) (none_in bs)).0 e).0
+none-at (b ∷ bs) (suc i) e = none-at bs i ((and-eq-true_iff (not b) (none_in bs)).0 e).1
 
-pub only_at : (k : ℕ) (bs : List Bool) (i : ℕ) → onlyAt k bs ≡ true → eqb i k ≡ get_or bs i false
-only_at k [] i e = absurd (false≢true e)
-only_at zero (b ∷ bs) zero e = sym ((and-eq-true_iff b (noneIn bs)).0 e).0
-only_at zero (b ∷ bs) (suc i) e = eqb-suc-zero i ∙ sym (none-at bs i ((and-eq-true_iff b (noneIn bs)).0 e).1)
-only_at (suc k) (b ∷ bs) zero e = eqb-zero-suc k ∙ sym (not-true b ((and-eq-true_iff (not b) (onlyAt k bs)).0 e).0)
-only_at (suc k) (b ∷ bs) (suc i) e = eqb-suc-suc i k ∙ only_at k bs i ((and-eq-true_iff (not b) (onlyAt k bs)).0 e).1
+pub only_at_lem : (k : ℕ) (bs : List Bool) (i : ℕ) → only_at_lem k bs ≡ true → eqb i k ≡ get_or bs i false
+only_at_lem k [] i e = absurd (false≢true e)
+only_at_lem zero (b ∷ bs) zero e = sym ((and-eq-true_iff b (none_in bs)).0 e).0
+only_at_lem zero (b ∷ bs) (suc i) e = eqb-suc-zero i ∙ sym (none-at bs i ((and-eq-true_iff b (none_in bs)).0 e).1)
+only_at_lem (suc k) (b ∷ bs) zero e = eqb-zero-suc k ∙ sym (not-true b ((and-eq-true_iff (not b) (only_at_lem k bs)).0 e).0)
+only_at_lem (suc k) (b ∷ bs) (suc i) e = eqb-suc-suc i k ∙ only_at_lem k bs i ((and-eq-true_iff (not b) (only_at_lem k bs)).0 e).1
 
 module _ {R : Type 0} where
   -- the place that ends the report, where there is one
-  pub ends_at : (row : List (Place R)) (k i : ℕ) → onlyAt k (map (λ (p : Place R). p.ends) row) ≡ true → eqb i k ≡ (placeAt row i).ends
-  ends_at row k i e = only_at k (map (λ (p : Place R). p.ends) row) i e ∙ get_or-map (λ (p : Place R). p.ends) row i nowhere
+  pub ends_at : (row : List (Place R)) (k i : ℕ) → only_at_lem k (map (λ (p : Place R). p.ends) row) ≡ true → eqb i k ≡ (place_at row i).ends
+  ends_at row k i e = only_at_lem k (map (λ (p : Place R). p.ends) row) i e ∙ get_or-map (λ (p : Place R). p.ends) row i nowhere
 
   -- where there is none, reading goes on from the place itself
-  pub endless : (row : List (Place R)) (i : ℕ) → noneIn (map (λ (p : Place R). p.ends) row) ≡ true → i ≡ onward row i
+  pub endless : (row : List (Place R)) (i : ℕ) → none_in (map (λ (p : Place R). p.ends) row) ≡ true → i ≡ onward row i
   endless row i e =
       rw (← get_or-map (λ (p : Place R). p.ends) row i nowhere, none-at (map (λ (p : Place R). p.ends) row) i e)
 

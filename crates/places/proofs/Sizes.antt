@@ -10,11 +10,11 @@ use mathlib.Core.List.{List, [], ◌∷◌, ◌++◌}
 use lib.ListN.{length, length-append}
 use lib.Dec.{leb, eqb}
 use borrow.Author.Tests.{leb-true, leb-false, le-leb, lt-leb, eqb-true, ne_eqb, not-true}
-use Rattle.figures.specs.Figures.{isFigure, isLetter, every}
+use Rattle.figures.specs.Figures.{is_figure, is_letter, every}
 use Rattle.text.specs.Bytes.{inner, allowed}
 use Rattle.text.specs.Groups.{spaced, parted, join, Every, Everywhere, Whole, Wholes}
 use Rattle.text.proofs.Joins.{length-join, wholes-append, everywhere-append}
-use Rattle.shapes.specs.Pattern.{Pattern, low, high, fits, more, hasPattern, hasAny}
+use Rattle.shapes.specs.Pattern.{Pattern, low, high, fits, more, has_pattern, has_any}
 use Rattle.shapes.proofs.Patterns.{both, or_cases, or_right, starless, pattern-length, within}
 use Rattle.places.specs.Engine.{Group}
 use Rattle.places.proofs.ReadBack.{All, All-map}
@@ -22,8 +22,8 @@ use Rattle.places.proofs.ReadBack.{All, All-map}
 -- ---- bytes
 
 -- the bytes from l through h are all figures or slashes, all letters, or a sign
-abbrev plainFrom : ℕ → ℕ → Bool
-plainFrom l h = (leb 47 l && leb h 57) || ((leb 65 l && leb h 90) || ((leb 43 l && leb h 43) || (leb 45 l && leb h 45)))
+abbrev plain_from : ℕ → ℕ → Bool
+plain_from l h = (leb 47 l && leb h 57) || ((leb 65 l && leb h 90) || ((leb 43 l && leb h 43) || (leb 45 l && leb h 45)))
 
 -- a figure or a slash, a letter, a sign
 pub data Plain (b : ℕ) : Type 0 where
@@ -32,7 +32,7 @@ pub data Plain (b : ℕ) : Type 0 where
   plus : b ≡ 43 → Plain b
   minus : b ≡ 45 → Plain b
 
-plain-from : (l h b : ℕ) → plainFrom l h ≡ true → l ≤ b → b ≤ h → Plain b
+plain-from : (l h b : ℕ) → plain_from l h ≡ true → l ≤ b → b ≤ h → Plain b
 plain-from l h b e lo hi =
     or_cases (leb 47 l && leb h 57) _ e
     (λ f.
@@ -104,70 +104,70 @@ sized n [] some h e = absurd (omega arith)
 sized n (b ∷ g) some h e = record { whole = (tt, all-inner (b ∷ g) e); allow = all-allowed (b ∷ g) e; short = h }
 
 -- a call sign
-pub sized-sign : (n : ℕ) (g : Group) → (leb 3 (length g) && leb (length g) n && every (λ b. isLetter b || isFigure b) g) ≡ true → Sized n g
+pub sized-sign : (n : ℕ) (g : Group) → (leb 3 (length g) && leb (length g) n && every (λ b. is_letter b || is_figure b) g) ≡ true → Sized n g
 sized-sign n g e =
-    let t = both (leb 3 (length g) && leb (length g) n) (every (λ b. isLetter b || isFigure b) g) e in
+    let t = both (leb 3 (length g) && leb (length g) n) (every (λ b. is_letter b || is_figure b) g) e in
     let s = both (leb 3 (length g)) (leb (length g) n) t.0 in
     let three = leb-true 3 (length g) s.0 in
     sized n g (omega arith) (leb-true (length g) n s.1) (go g t.1)
   where
-    byte : (b : ℕ) → (isLetter b || isFigure b) ≡ true → Plain b
+    byte : (b : ℕ) → (is_letter b || is_figure b) ≡ true → Plain b
     byte b e =
-        or_cases (isLetter b) (isFigure b) e
+        or_cases (is_letter b) (is_figure b) e
         (λ h. let t = both (leb 65 b) (leb b 90) h in letter (leb-true 65 b t.0) (leb-true b 90 t.1))
         (λ h.
         let t = both (leb 48 b) (leb b 57) h in
         let l = leb-true 48 b t.0 in
         figure (omega arith) (leb-true b 57 t.1))
 
-    go : (g : Group) → every (λ b. isLetter b || isFigure b) g ≡ true → AllPlain g
+    go : (g : Group) → every (λ b. is_letter b || is_figure b) g ≡ true → AllPlain g
     go [] e = tt
-    go (b ∷ g) e = let t = both (isLetter b || isFigure b) (every (λ b. isLetter b || isFigure b) g) e in (byte b t.0, go g t.1)
+    go (b ∷ g) e = let t = both (is_letter b || is_figure b) (every (λ b. is_letter b || is_figure b) g) e in (byte b t.0, go g t.1)
 
 -- a pattern that leaves room for such bytes alone
-abbrev pub plainPattern : Pattern → Bool
-plainPattern [] = true
-plainPattern (p ∷ ps) = (not (more p) && plainFrom (low p) (high p)) && plainPattern ps
+abbrev pub plain_pattern : Pattern → Bool
+plain_pattern [] = true
+plain_pattern (p ∷ ps) = (not (more p) && plain_from (low p) (high p)) && plain_pattern ps
 
-plain-starless : (ps : Pattern) → plainPattern ps ≡ true → starless ps ≡ true
+plain-starless : (ps : Pattern) → plain_pattern ps ≡ true → starless ps ≡ true
 plain-starless [] e = refl
 plain-starless (p ∷ ps) e =
-    let t = both (not (more p) && plainFrom (low p) (high p)) (plainPattern ps) e in
+    let t = both (not (more p) && plain_from (low p) (high p)) (plain_pattern ps) e in
     rw (both (not (more p)) _ t.0).0 (plain-starless ps t.1)
 
-pattern-plain : (g : Group) (ps : Pattern) → plainPattern ps ≡ true → hasPattern g ps ≡ true → AllPlain g
-unfolding hasPattern
+pattern-plain : (g : Group) (ps : Pattern) → plain_pattern ps ≡ true → has_pattern g ps ≡ true → AllPlain g
+unfolding has_pattern
 pattern-plain [] ps e h = tt
 pattern-plain (b ∷ g) [] e h = absurd (false≢true h)
 pattern-plain (b ∷ g) (p ∷ ps) e h =
-    let t = both (not (more p) && plainFrom (low p) (high p)) (plainPattern ps) e in
-    let s = both (not (more p)) (plainFrom (low p) (high p)) t.0 in
-    let f = both (fits p b) (hasPattern g ps) (rw (not-true (more p) s.0) at h) in
+    let t = both (not (more p) && plain_from (low p) (high p)) (plain_pattern ps) e in
+    let s = both (not (more p)) (plain_from (low p) (high p)) t.0 in
+    let f = both (fits p b) (has_pattern g ps) (rw (not-true (more p) s.0) at h) in
     let w = within p b f.0 in
     (plain-from (low p) (high p) b s.1 (omega (arith, w)) (omega (arith, w)), pattern-plain g ps t.1 f.1)
 
 -- a group of one of several such patterns, of 1 to n bytes each
 abbrev pub measured : ℕ → List Pattern → Bool
 measured n [] = true
-measured n (p ∷ ps) = (plainPattern p && (leb 1 (length p) && leb (length p) n)) && measured n ps
+measured n (p ∷ ps) = (plain_pattern p && (leb 1 (length p) && leb (length p) n)) && measured n ps
 
-pub sized-any : (n : ℕ) (ps : List Pattern) (g : Group) → measured n ps ≡ true → hasAny ps g ≡ true → Sized n g
-unfolding hasAny
+pub sized-any : (n : ℕ) (ps : List Pattern) (g : Group) → measured n ps ≡ true → has_any ps g ≡ true → Sized n g
+unfolding has_any
 sized-any n [] g e h = absurd (false≢true h)
 sized-any n (p ∷ ps) g e h =
-    let t = both (plainPattern p && (leb 1 (length p) && leb (length p) n)) (measured n ps) e in
-    let s = both (plainPattern p) (leb 1 (length p) && leb (length p) n) t.0 in
+    let t = both (plain_pattern p && (leb 1 (length p) && leb (length p) n)) (measured n ps) e in
+    let s = both (plain_pattern p) (leb 1 (length p) && leb (length p) n) t.0 in
     let r = both (leb 1 (length p)) (leb (length p) n) s.1 in
     let l = leb-true 1 (length p) r.0 in
     let u = leb-true (length p) n r.1 in
-    or_cases (hasPattern g p) (hasAny ps g) h
+    or_cases (has_pattern g p) (has_any ps g) h
     (λ q.
     let m = pattern-length g p (plain-starless p s.0) q in
     sized n g (omega arith) (omega arith) (pattern-plain g p s.0 q))
     (sized-any n ps g t.1)
 
 -- each of several groups
-pub sized-each : (P : Group → Type 0) (n : ℕ) (ps : List Pattern) (gs : List Group) → measured n ps ≡ true → All (λ g. P g × (hasAny ps g ≡ true)) gs → All (Sized n) gs
+pub sized-each : (P : Group → Type 0) (n : ℕ) (ps : List Pattern) (gs : List Group) → measured n ps ≡ true → All (λ g. P g × (has_any ps g ≡ true)) gs → All (Sized n) gs
 sized-each P n ps gs e a = All-map (λ g h. sized-any n ps g e h.1) gs a
 
 -- ---- groups one after the other

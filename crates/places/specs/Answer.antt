@@ -10,24 +10,24 @@ use Rattle.text.specs.declared.kinds.Verdict.TheVariants as verdict
 use Rattle.places.specs.Engine.{Outcome, Done, Fault}
 
 -- a verdict with the record that it accepts
-abbrev pub outcomeOf : {R : Type 0} → Verdict → R → Outcome R
-outcomeOf (verdict.Accepted rest) r = Done rest r
-outcomeOf (verdict.Refused f at) r = Fault f at
+abbrev pub outcome_of : {R : Type 0} → Verdict → R → Outcome R
+outcome_of (verdict.Accepted rest) r = Done rest r
+outcome_of (verdict.Refused f at) r = Fault f at
 
 -- the verdict at the text's end: what follows the "=" is refused first, an absence last
-abbrev pub endVerdict : Tail → ℕ → Bool → Verdict
-endVerdict (Junk at) end lacking = verdict.Refused refusal.Shape at
-endVerdict Clear end true = verdict.Refused refusal.Absence end
-endVerdict Clear end false = verdict.Accepted end
+abbrev pub end_verdict : Tail → ℕ → Bool → Verdict
+end_verdict (Junk at) end lacking = verdict.Refused refusal.Shape at
+end_verdict Clear end true = verdict.Refused refusal.Absence end
+end_verdict Clear end false = verdict.Accepted end
 
 -- `make` puts a verdict and a record together, `blank` is the blank record
 module _ {R A : Type 0} (make : Verdict → R → A) (blank : R) where
-  abbrev pub acceptedAs : ℕ → R → A
-  acceptedAs rest r = make (verdict.Accepted rest) r
+  abbrev pub accepted_as : ℕ → R → A
+  accepted_as rest r = make (verdict.Accepted rest) r
 
-  abbrev pub refusedAs : Refusal → ℕ → A
-  refusedAs f at = make (verdict.Refused f at) blank
+  abbrev pub refused_as : Refusal → ℕ → A
+  refused_as f at = make (verdict.Refused f at) blank
 
   abbrev pub answer_of : Outcome R → A
-  answer_of (Done rest r) = acceptedAs rest r
-  answer_of (Fault f at) = refusedAs f at
+  answer_of (Done rest r) = accepted_as rest r
+  answer_of (Fault f at) = refused_as f at

@@ -7,10 +7,10 @@ use Rattle.text.specs.declared.kinds.Refusal.TheVariants as refusal
 use Rattle.text.specs.declared.kinds.Tail.{Tail}
 use Rattle.text.specs.declared.kinds.Tail.TheVariants.{Clear, Junk}
 use Rattle.text.specs.Groups.{Piece}
-use Rattle.shapes.specs.Pattern.{Pattern, hasAny}
+use Rattle.shapes.specs.Pattern.{Pattern, has_any}
 use Rattle.places.specs.declared.kinds.Found.{Found}
 use Rattle.places.specs.declared.kinds.Found.TheVariants.{Take, Skips, Full, Earlier, Unknown}
-use Rattle.places.specs.Seek.{Stand, findOf, owed, refusalOf}
+use Rattle.places.specs.Seek.{Stand, find_of, owed, refusal_of}
 
 abbrev pub Group : Type 0
 Group = List ℕ
@@ -58,21 +58,21 @@ module _ {R : Type 0} where
   abbrev pub nowhere : Place R
   nowhere = record { has = λ g. false; cover = []; spoken = []; most = 0; must = false; ends = false; read = λ k g r. Bad refusal.Shape; show = λ r. []; put = λ r acc. acc }
 
-  abbrev pub placeAt : List (Place R) → ℕ → Place R
-  placeAt row i = get_or row i nowhere
+  abbrev pub place_at : List (Place R) → ℕ → Place R
+  place_at row i = get_or row i nowhere
 
   -- a row as it stands to a group; which of its places must have one, how many may stand at each
   abbrev pub standing : Group → Place R → Stand
   standing g p = record { has = p.has g; most = p.most; must = p.must }
 
-  abbrev pub standsOf : List (Place R) → Group → List Stand
-  standsOf row g = map (standing g) row
+  abbrev pub stands_of : List (Place R) → Group → List Stand
+  stands_of row g = map (standing g) row
 
-  abbrev pub mustsOf : List (Place R) → List Bool
-  mustsOf row = map (λ (p : Place R). p.must) row
+  abbrev pub musts_of : List (Place R) → List Bool
+  musts_of row = map (λ (p : Place R). p.must) row
 
-  abbrev pub mostsOf : List (Place R) → List ℕ
-  mostsOf row = map (λ (p : Place R). p.most) row
+  abbrev pub mosts_of : List (Place R) → List ℕ
+  mosts_of row = map (λ (p : Place R). p.most) row
 
   abbrev pub taken : ℕ → ℕ → Read R → Step R
   taken i n (Good r) = On i n r
@@ -80,19 +80,19 @@ module _ {R : Type 0} where
 
   -- past a place that ends the report reading is past the row
   abbrev pub onward : List (Place R) → ℕ → ℕ
-  onward row i = cond (placeAt row i).ends (length row) i
+  onward row i = cond (place_at row i).ends (length row) i
 
   abbrev pub judged : List (Place R) → R → Group → Found → Step R
-  judged row acc g (Take i k) = taken (onward row i) (k + 1) ((placeAt row i).read k g acc)
-  judged row acc g Skips = Stop (refusalOf Skips)
-  judged row acc g Full = Stop (refusalOf Full)
-  judged row acc g Earlier = Stop (refusalOf Earlier)
-  judged row acc g Unknown = Stop (refusalOf Unknown)
+  judged row acc g (Take i k) = taken (onward row i) (k + 1) ((place_at row i).read k g acc)
+  judged row acc g Skips = Stop (refusal_of Skips)
+  judged row acc g Full = Stop (refusal_of Full)
+  judged row acc g Earlier = Stop (refusal_of Earlier)
+  judged row acc g Unknown = Stop (refusal_of Unknown)
 
   -- One group, read where k groups stand at place c. "a group .. after NIL or CNL, a stop word too" is refused 4; a stop word stops the reading.
   unfoldable pub step : List (Place R) → List Pattern → ℕ → ℕ → R → Group → Step R
   step row words c k acc g =
-      cond (leb (length row) c) (Stop refusal.Shape) (cond (hasAny words g) Halt (judged row acc g (findOf (standsOf row g) c k)))
+      cond (leb (length row) c) (Stop refusal.Shape) (cond (has_any words g) Halt (judged row acc g (find_of (stands_of row g) c k)))
 
   abbrev pub carry : Step R → ℕ → Outcome R → (ℕ → ℕ → R → Outcome R) → Outcome R
   carry (On c k acc) at halted f = f c k acc
@@ -105,7 +105,7 @@ module _ {R : Type 0} where
 
   -- reading ends at a position of the text: a required group is absent there, or the unread rest begins there
   abbrev pub closed : List (Place R) → ℕ → ℕ → ℕ → R → Outcome R
-  closed row at c k acc = finish (owed k (drop c (mustsOf row))) at acc
+  closed row at c k acc = finish (owed k (drop c (musts_of row))) at acc
 
   -- the groups are over: what follows the "=" is refused first, "an absence at the end last"
   abbrev pub over : List (Place R) → Tail → ℕ → ℕ → ℕ → R → Outcome R

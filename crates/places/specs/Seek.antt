@@ -25,16 +25,16 @@ unfoldable pub anywhere : List Stand → Bool
 anywhere [] = false
 anywhere (p ∷ ps) = p.has || anywhere ps
 
-abbrev pub orEarlier : Bool → Found → Found
-orEarlier here (Take i k) = Take i k
-orEarlier here Skips = Skips
-orEarlier here Full = Full
-orEarlier here Earlier = Earlier
-orEarlier here Unknown = cond here Earlier Unknown
+abbrev pub or_earlier : Bool → Found → Found
+or_earlier here (Take i k) = Take i k
+or_earlier here Skips = Skips
+or_earlier here Full = Full
+or_earlier here Earlier = Earlier
+or_earlier here Unknown = cond here Earlier Unknown
 
 -- where a group goes, reading standing at place c with k groups there
-unfoldable pub findOf : List Stand → ℕ → ℕ → Found
-findOf ps c k = orEarlier (anywhere ps) (seek c k false (drop c ps))
+unfoldable pub find_of : List Stand → ℕ → ℕ → Found
+find_of ps c k = or_earlier (anywhere ps) (seek c k false (drop c ps))
 
 -- ---- the same in the code's steps: the first place that may answer for the group, then what it answers
 
@@ -43,9 +43,9 @@ abbrev pub answers : Bool → ℕ → ℕ → Bool
 answers all k most = all || (ltb k most || ltb 1 most)
 
 -- the first such place from i on, where k groups stand, that has the group's shape; the row's length where none is
-unfoldable pub fitFrom : Bool → ℕ → ℕ → List Stand → ℕ
-fitFrom all i k [] = i
-fitFrom all i k (p ∷ ps) = cond (answers all k p.most && p.has) i (fitFrom all (i + 1) 0 ps)
+unfoldable pub fit_from : Bool → ℕ → ℕ → List Stand → ℕ
+fit_from all i k [] = i
+fit_from all i k (p ∷ ps) = cond (answers all k p.most && p.has) i (fit_from all (i + 1) 0 ps)
 
 -- "a required group is absent": is one left to come, where k groups stand at the first of these places
 unfoldable pub owed : ℕ → List Bool → Bool
@@ -53,16 +53,16 @@ owed k [] = false
 owed k (u ∷ us) = (u && eqb k 0) || owed 0 us
 
 -- the refusal of a group that no place takes; one that is taken has none, and Shape stands for it
-abbrev pub refusalOf : Found → Refusal
-refusalOf (Take i k) = refusal.Shape
+abbrev pub refusal_of : Found → Refusal
+refusal_of (Take i k) = refusal.Shape
 -- "a later place's group comes first"
-refusalOf Skips = refusal.Absence
+refusal_of Skips = refusal.Absence
 -- "more groups than the limit"
-refusalOf Full = refusal.Limit
+refusal_of Full = refusal.Limit
 -- "a group of an earlier place, or a second where one may stand"
-refusalOf Earlier = refusal.Order
+refusal_of Earlier = refusal.Order
 -- "a group with no shape known in this report"
-refusalOf Unknown = refusal.Shape
+refusal_of Unknown = refusal.Shape
 
 -- what a group comes to at place f, the first from c on that answers for it; how many may stand at each place, and which must have one
 unfoldable pub found_at : List ℕ → List Bool → ℕ → ℕ → ℕ → Found

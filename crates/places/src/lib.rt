@@ -3,10 +3,10 @@
 pub mod kinds;
 
 ghost use Rattle.std.specs.Prelude.{◌≡◌, ◌-◌, cond, eqb, length, get_or, take, drop};
-ghost use Rattle.text.specs.Text.{tailOf};
-ghost use Rattle.places.specs.Seek.{answers, found_at, owed, refusalOf};
-ghost use Rattle.places.specs.Turn.{turnBy, isUnknown, turnUnknown};
-ghost use Rattle.places.specs.Answer.{endVerdict};
+ghost use Rattle.text.specs.Text.{tail_of};
+ghost use Rattle.places.specs.Seek.{answers, found_at, owed, refusal_of};
+ghost use Rattle.places.specs.Turn.{turn_by, is_unknown, turn_unknown};
+ghost use Rattle.places.specs.Answer.{end_verdict};
 
 use kinds::{Found, Turn};
 use text::kinds::{Refusal, Tail, Verdict};
@@ -43,7 +43,7 @@ pub fn is_owed(must: &[bool], place: usize, count: usize) -> bool
 
 // The refusal of a group that no place takes.
 pub fn refusal_of(found: Found) -> Refusal
-    ensures { result ≡ refusalOf found }
+    ensures { result ≡ refusal_of found }
 {
     match found {
         Found::Take { place: _, count: _ } => Refusal::Shape,
@@ -93,7 +93,7 @@ pub fn found_at(most: &[u8], must: &[bool], place: usize, count: usize, fit: usi
 
 // Has no place the group's shape?
 pub fn is_unknown(found: Found) -> bool
-    ensures { result ≡ isUnknown found }
+    ensures { result ≡ is_unknown found }
 {
     match found {
         Found::Take { place: _, count: _ } => false,
@@ -106,7 +106,7 @@ pub fn is_unknown(found: Found) -> bool
 
 // The turn of a group whose shape no place has: a word that halts stops the reading.
 pub fn turn_unknown(halts: bool) -> Turn
-    ensures { result ≡ turnUnknown halts }
+    ensures { result ≡ turn_unknown halts }
 {
     if halts {
         Turn::Halt
@@ -117,7 +117,7 @@ pub fn turn_unknown(halts: bool) -> Turn
 
 // The turn of a group that is no stop word, by where it goes.
 pub fn turn_by(found: Found) -> Turn
-    ensures { result ≡ turnBy found }
+    ensures { result ≡ turn_by found }
 {
     match found {
         Found::Take { place, count } => Turn::At { place, count },
@@ -130,7 +130,7 @@ pub fn turn_by(found: Found) -> Turn
 
 // The verdict where the groups are over: what follows the "=" is refused first, an absence last.
 pub fn end_verdict(text: &[u8], lacking: bool) -> Verdict
-    ensures { result ≡ endVerdict (tailOf text.now) (length text.now) lacking }
+    ensures { result ≡ end_verdict (tail_of text.now) (length text.now) lacking }
 {
     let tail = text::tail(text);
     match tail {

@@ -16,26 +16,26 @@ use Rattle.record.specs.declared.values.Direction.{Direction}
 use Rattle.record.specs.declared.values.Direction.TheVariants as direction
 use Rattle.record.specs.declared.values.Speed.{Speed}
 use Rattle.record.specs.declared.values.Speed.TheVariants as speed
-use Rattle.record.specs.Missing.{isMissing, noTenths, noDirection, noSpeed, noLetters}
+use Rattle.record.specs.Missing.{is_missing, no_tenths, no_direction, no_speed, no_letters}
 
-pub number-blank : (n : Number) → isMissing n ≡ true → n ≡ number.Missing
+pub number-blank : (n : Number) → is_missing n ≡ true → n ≡ number.Missing
 number-blank number.Missing e = refl
 number-blank (number.Is n) e = absurd (false≢true e)
 
-pub tenths-blank : (t : Tenths) → noTenths t ≡ true → t ≡ tenths.Missing
+pub tenths-blank : (t : Tenths) → no_tenths t ≡ true → t ≡ tenths.Missing
 tenths-blank tenths.Missing e = refl
 tenths-blank (tenths.Is t) e = absurd (false≢true e)
 
-pub direction-blank : (d : Direction) → noDirection d ≡ true → d ≡ direction.Missing
+pub direction-blank : (d : Direction) → no_direction d ≡ true → d ≡ direction.Missing
 direction-blank direction.Missing e = refl
 direction-blank direction.Calm e = absurd (false≢true e)
 direction-blank direction.Variable e = absurd (false≢true e)
 direction-blank (direction.Degrees d) e = absurd (false≢true e)
 
-pub speed-blank : (s : Speed) → noSpeed s ≡ true → s ≡ speed.Missing
+pub speed-blank : (s : Speed) → no_speed s ≡ true → s ≡ speed.Missing
 speed-blank speed.Missing e = refl
 speed-blank (speed.Is s) e = absurd (false≢true e)
 speed-blank (speed.Above s) e = absurd (false≢true e)
 
-pub letters-blank : (l : List ℕ) → noLetters l ≡ true → l ≡ replicate (length l) 0
+pub letters-blank : (l : List ℕ) → no_letters l ≡ true → l ≡ replicate (length l) 0
 letters-blank l e = every-is (λ b. eqb b 0) 0 (λ b h. eqb-true b 0 h) l e

@@ -19,15 +19,15 @@ each_take P (suc n) [] a = tt
 each_take P (suc n) (x ∷ xs) a = (a.0, each_take P n xs a.1)
 
 -- what is blank, and what that means
-module _ {A : Type 0} (P : A → Type 0) (isBlank : A → Bool) (blank : A) (is : (x : A) → P x → isBlank x ≡ true → x ≡ blank) where
-  pub blank-each : (xs : List A) → Each P xs → every isBlank xs ≡ true → xs ≡ replicate (length xs) blank
+module _ {A : Type 0} (P : A → Type 0) (is_blank : A → Bool) (blank : A) (is : (x : A) → P x → is_blank x ≡ true → x ≡ blank) where
+  pub blank-each : (xs : List A) → Each P xs → every is_blank xs ≡ true → xs ≡ replicate (length xs) blank
   blank-each [] a e = refl
   blank-each (x ∷ xs) a e =
-      let t = both (isBlank x) (every isBlank xs) e in
+      let t = both (is_blank x) (every is_blank xs) e in
       rw (is x a.0 t.0, ← blank-each xs a.1 t.1)
 
   -- where the count ends they are blank
-  pub blank-past : (n : ℕ) (xs : List A) → Each P xs → every isBlank (drop n xs) ≡ true → drop n (replicate (length xs) blank) ≡ drop n xs
+  pub blank-past : (n : ℕ) (xs : List A) → Each P xs → every is_blank (drop n xs) ≡ true → drop n (replicate (length xs) blank) ≡ drop n xs
   blank-past zero xs a e = sym (blank-each xs a e)
   blank-past (suc n) [] a e = refl
   blank-past (suc n) (x ∷ xs) a e = blank-past n xs a.1 e
@@ -60,22 +60,22 @@ take-most most xs n all =
 -- ---- a counted list
 
 -- At most so many count, of each of them P holds, and past them all are blank.
-pub record Listed {A : Type 0} (P : A → Type 0) (isBlank : A → Bool) (blank : A) (most n : ℕ) (xs : List A) : Type 0 where
+pub record Listed {A : Type 0} (P : A → Type 0) (is_blank : A → Bool) (blank : A) (most n : ℕ) (xs : List A) : Type 0 where
   pub few : n ≤ most
   pub each : Each P (take n xs)
   pub many : length (take n xs) ≡ n
-  pub past : every isBlank (drop n xs) ≡ true
+  pub past : every is_blank (drop n xs) ≡ true
   pub rest : drop n (replicate most blank) ≡ drop n xs
 
-pub listed_of : {A : Type 0} {P Q : A → Type 0} {isBlank : A → Bool} {blank : A} {most n : ℕ} {xs : List A} → ((x : A) → Q x → isBlank x ≡ true → x ≡ blank)
-    → length xs ≡ most → Each Q xs → n ≤ most → Each P (take n xs) → every isBlank (drop n xs) ≡ true → Listed P isBlank blank most n xs
-listed_of {Q = Q} {isBlank} {blank} {n = n} {xs} is all arrays few each past =
+pub listed_of : {A : Type 0} {P Q : A → Type 0} {is_blank : A → Bool} {blank : A} {most n : ℕ} {xs : List A} → ((x : A) → Q x → is_blank x ≡ true → x ≡ blank)
+    → length xs ≡ most → Each Q xs → n ≤ most → Each P (take n xs) → every is_blank (drop n xs) ≡ true → Listed P is_blank blank most n xs
+listed_of {Q = Q} {is_blank} {blank} {n = n} {xs} is all arrays few each past =
     record {
       few = few;
       each = each;
       many = length-take-le n xs (omega (arith, all));
       past = past;
-      rest = rw all at (blank-past Q isBlank blank is n xs arrays past);
+      rest = rw all at (blank-past Q is_blank blank is n xs arrays past);
     }
 
 -- those that count, each by f, and the others after them

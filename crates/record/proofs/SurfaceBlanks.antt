@@ -32,63 +32,63 @@ use Rattle.record.specs.declared.surface.CloudLayers.{CloudLayers}
 use Rattle.record.specs.declared.surface.Section3.{Section3}
 use Rattle.record.specs.declared.surface.Synop.{Synop}
 use Rattle.record.specs.Arrays.{Each, SynopArrays}
-use Rattle.record.specs.Blank.{blankSign, blankPosition, blankTime, blankSite, blankSurface, blankLayer, blankLayers, blankSection3, blankSynop}
-use Rattle.record.specs.SilentSurface.{noSign, noPosition, noTime, noSight, noMoist, noLevel, noChange, noFall, noWeather, noClouds, noClock, no_site, noSurface, noHeight, isBlankLayer, noLayers, noSection3, isBlankSynop}
+use Rattle.record.specs.Blank.{blank_sign, blank_position, blank_time, blank_site, blank_surface, blank_layer, blank_layers, blank_section3, blank_synop}
+use Rattle.record.specs.SilentSurface.{no_sign, no_position, no_time, no_sight, no_moist, no_level, no_change, no_fall, no_weather, no_clouds, no_clock, no_site, no_surface, no_height, is_blank_layer, no_layers, no_section3, is_blank_synop}
 use Rattle.record.proofs.Blanks.{number-blank, tenths-blank, direction-blank, speed-blank, letters-blank}
 use Rattle.record.proofs.Counted.{blank-each}
 
 -- ---- the groups
 
-sight-blank : (v : Sight) → noSight v ≡ true → v ≡ sight.Missing
+sight-blank : (v : Sight) → no_sight v ≡ true → v ≡ sight.Missing
 sight-blank sight.Missing e = refl
 sight-blank (sight.Land m) e = absurd (false≢true e)
 sight-blank (sight.Sea m) e = absurd (false≢true e)
 
-moist-blank : (m : Moist) → noMoist m ≡ true → m ≡ moist.Missing
+moist-blank : (m : Moist) → no_moist m ≡ true → m ≡ moist.Missing
 moist-blank moist.Missing e = refl
 moist-blank (moist.DewPoint t) e = absurd (false≢true e)
 moist-blank (moist.Humidity u) e = absurd (false≢true e)
 
-level-blank : (h : AtLevel) → noLevel h ≡ true → h ≡ at_level.Missing
+level-blank : (h : AtLevel) → no_level h ≡ true → h ≡ at_level.Missing
 level-blank at_level.Missing e = refl
 level-blank (at_level.Pressure p) e = absurd (false≢true e)
 level-blank (at_level.Isobaric a h) e = absurd (false≢true e)
 
-change-blank : (c : PressureChange) → noChange c ≡ true → c ≡ change.Missing
+change-blank : (c : PressureChange) → no_change c ≡ true → c ≡ change.Missing
 change-blank change.Missing e = refl
 change-blank (change.Is a c) e = absurd (false≢true e)
 
-fall-blank : (f : Fall) → noFall f ≡ true → f ≡ fall.Missing
+fall-blank : (f : Fall) → no_fall f ≡ true → f ≡ fall.Missing
 fall-blank fall.Missing e = refl
 fall-blank (fall.Is r t) e = absurd (false≢true e)
 
-clock-blank : (o : Observed) → noClock o ≡ true → o ≡ observed.Missing
+clock-blank : (o : Observed) → no_clock o ≡ true → o ≡ observed.Missing
 clock-blank observed.Missing e = refl
 clock-blank (observed.At h m) e = absurd (false≢true e)
 
-pub sign-blank : (s : CallSign) → length s.letters ≡ 9 → noSign s ≡ true → s ≡ blankSign
+pub sign-blank : (s : CallSign) → length s.letters ≡ 9 → no_sign s ≡ true → s ≡ blank_sign
 sign-blank s nine e =
     let t = both _ _ e in
     λ i. record { letters = (rw nine at (letters-blank s.letters t.1)) i; length = eqb-true s.length 0 t.0 i }
 
-pub position-blank : (p : Position) → noPosition p ≡ true → p ≡ blankPosition
+pub position-blank : (p : Position) → no_position p ≡ true → p ≡ blank_position
 position-blank p e =
     let t = both _ _ e in
     λ i. record { latitude = tenths-blank p.latitude t.0 i; longitude = tenths-blank p.longitude t.1 i }
 
-time-blank : (t : Time) → noTime t ≡ true → t ≡ blankTime
+time-blank : (t : Time) → no_time t ≡ true → t ≡ blank_time
 time-blank t e =
     let u = both _ _ e in
     let h = both _ _ u.0 in
     λ i. record { day = number-blank t.day h.0 i; hour = number-blank t.hour h.1 i; unit = number-blank t.unit u.1 i }
 
-pub weather-blank : (w : Weather) → noWeather w ≡ true → w ≡ blankSurface.weather
+pub weather-blank : (w : Weather) → no_weather w ≡ true → w ≡ blank_surface.weather
 weather-blank w e =
     let t = both _ _ e in
     let s = both _ _ t.0 in
     λ i. record { present = number-blank w.present s.0 i; past = number-blank w.past s.1 i; past2 = number-blank w.past2 t.1 i }
 
-pub clouds-blank : (c : Clouds) → noClouds c ≡ true → c ≡ blankSurface.clouds
+pub clouds-blank : (c : Clouds) → no_clouds c ≡ true → c ≡ blank_surface.clouds
 clouds-blank c e =
     let t = both _ _ e in
     let s = both _ _ t.0 in
@@ -97,8 +97,8 @@ clouds-blank c e =
 
 -- ---- the report
 
-pub surface-blank : (s : Surface) → noSurface s ≡ true → s ≡ blankSurface
-unfolding noSurface
+pub surface-blank : (s : Surface) → no_surface s ≡ true → s ≡ blank_surface
+unfolding no_surface
 surface-blank s e =
     let clock = both _ _ e in
     let clouds = both _ _ clock.0 in
@@ -129,7 +129,7 @@ surface-blank s e =
       clock = record { is = clock-blank s.clock.is clock.1 i };
     }
 
-site-blank : (s : Site) → length s.sign.letters ≡ 9 → no_site s ≡ true → s ≡ blankSite
+site-blank : (s : Site) → length s.sign.letters ≡ 9 → no_site s ≡ true → s ≡ blank_site
 site-blank s nine e =
     let nil = both _ _ e in
     let time = both _ _ nil.0 in
@@ -139,12 +139,12 @@ site-blank s nine e =
 
 -- ---- section 3
 
-height-blank : (h : BaseHeight) → noHeight h ≡ true → h ≡ height.Missing
+height-blank : (h : BaseHeight) → no_height h ≡ true → h ≡ height.Missing
 height-blank height.Missing e = refl
 height-blank (height.Steps m) e = absurd (false≢true e)
 height-blank (height.Bands m) e = absurd (false≢true e)
 
-pub layer-blank : (l : CloudLayer) → isBlankLayer l ≡ true → l ≡ blankLayer
+pub layer-blank : (l : CloudLayer) → is_blank_layer l ≡ true → l ≡ blank_layer
 layer-blank l e =
     let t = both _ _ e in
     let s = both _ _ t.0 in
@@ -154,13 +154,13 @@ any : (ls : List CloudLayer) → Each (λ (l : CloudLayer). Unit {0}) ls
 any [] = tt
 any (l ∷ ls) = (tt, any ls)
 
-layers-blank : (ls : CloudLayers) → length ls.items ≡ 4 → noLayers ls ≡ true → ls ≡ blankLayers
+layers-blank : (ls : CloudLayers) → length ls.items ≡ 4 → no_layers ls ≡ true → ls ≡ blank_layers
 layers-blank ls four e =
     let t = both _ _ e in
-    let items = blank-each (λ (l : CloudLayer). Unit {0}) isBlankLayer blankLayer (λ l a h. layer-blank l h) ls.items (any ls.items) t.1 in
+    let items = blank-each (λ (l : CloudLayer). Unit {0}) is_blank_layer blank_layer (λ l a h. layer-blank l h) ls.items (any ls.items) t.1 in
     λ i. record { items = (rw four at items) i; count = eqb-true ls.count 0 t.0 i }
 
-pub section3-blank : (s : Section3) → length s.layers.items ≡ 4 → noSection3 s ≡ true → s ≡ blankSection3
+pub section3-blank : (s : Section3) → length s.layers.items ≡ 4 → no_section3 s ≡ true → s ≡ blank_section3
 section3-blank s four e =
     let layers = both _ _ e in
     let air = both _ _ layers.0 in
@@ -168,8 +168,8 @@ section3-blank s four e =
 
 -- ---- the whole
 
-pub synop-blank : (r : Synop) → SynopArrays r → isBlankSynop r ≡ true → r ≡ blankSynop
-unfolding isBlankSynop
+pub synop-blank : (r : Synop) → SynopArrays r → is_blank_synop r ≡ true → r ≡ blank_synop
+unfolding is_blank_synop
 synop-blank r arrays e =
     let third = both _ _ e in
     let surface = both _ _ third.0 in

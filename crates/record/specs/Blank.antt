@@ -22,17 +22,17 @@ use Rattle.record.specs.declared.surface.Surface.{Surface}
 use Rattle.record.specs.declared.surface.Site.{Site}
 use Rattle.record.specs.declared.surface.Synop.{Synop}
 
-abbrev pub blankSign : CallSign
-blankSign = record { letters = replicate 9 0; length = 0 }
+abbrev pub blank_sign : CallSign
+blank_sign = record { letters = replicate 9 0; length = 0 }
 
-abbrev pub blankPosition : Position
-blankPosition = record { latitude = tenths.Missing; longitude = tenths.Missing }
+abbrev pub blank_position : Position
+blank_position = record { latitude = tenths.Missing; longitude = tenths.Missing }
 
-abbrev pub blankTime : Time
-blankTime = record { day = number.Missing; hour = number.Missing; unit = number.Missing }
+abbrev pub blank_time : Time
+blank_time = record { day = number.Missing; hour = number.Missing; unit = number.Missing }
 
-abbrev pub blankSurface : Surface
-blankSurface =
+abbrev pub blank_surface : Surface
+blank_surface =
     record {
       indicators = record { rain = number.Missing; weather = number.Missing; base = number.Missing; sight = sight.Missing };
       wind = record { cover = number.Missing; direction = direction.Missing; speed = speed.Missing };
@@ -47,17 +47,17 @@ blankSurface =
       clock = record { is = observed.Missing };
     }
 
-abbrev pub blankLayer : CloudLayer
-blankLayer = record { amount = number.Missing; cloud = number.Missing; height = height.Missing }
+abbrev pub blank_layer : CloudLayer
+blank_layer = record { amount = number.Missing; cloud = number.Missing; height = height.Missing }
 
-abbrev pub blankLayers : CloudLayers
-blankLayers = record { items = replicate 4 blankLayer; count = 0 }
+abbrev pub blank_layers : CloudLayers
+blank_layers = record { items = replicate 4 blank_layer; count = 0 }
 
-abbrev pub blankSection3 : Section3
-blankSection3 = record { maximum = record { temperature = tenths.Missing }; minimum = record { temperature = tenths.Missing }; layers = blankLayers }
+abbrev pub blank_section3 : Section3
+blank_section3 = record { maximum = record { temperature = tenths.Missing }; minimum = record { temperature = tenths.Missing }; layers = blank_layers }
 
-abbrev pub blankSite : Site
-blankSite = record { station = number.Missing; sign = blankSign; position = blankPosition; time = blankTime; nil = false }
+abbrev pub blank_site : Site
+blank_site = record { station = number.Missing; sign = blank_sign; position = blank_position; time = blank_time; nil = false }
 
-abbrev pub blankSynop : Synop
-blankSynop = record { ship = false; site = blankSite; surface = blankSurface; section3 = blankSection3 }
+abbrev pub blank_synop : Synop
+blank_synop = record { ship = false; site = blank_site; surface = blank_surface; section3 = blank_section3 }

@@ -18,38 +18,38 @@ use Rattle.record.specs.declared.values.Number.TheVariants as number
 use Rattle.record.specs.declared.values.Direction.TheVariants as direction
 use Rattle.record.specs.declared.values.Speed.TheVariants as speed
 
-abbrev pub setWind : Wind → Body → Body
-setWind x r = record { wind = x; visibility = r.visibility; weathers = r.weathers; nsw = r.nsw; sky = r.sky }
+abbrev pub set_wind : Wind → Body → Body
+set_wind x r = record { wind = x; visibility = r.visibility; weathers = r.weathers; nsw = r.nsw; sky = r.sky }
 
-abbrev pub setVisibility : Visibility → Body → Body
-setVisibility x r = record { wind = r.wind; visibility = x; weathers = r.weathers; nsw = r.nsw; sky = r.sky }
+abbrev pub set_visibility : Visibility → Body → Body
+set_visibility x r = record { wind = r.wind; visibility = x; weathers = r.weathers; nsw = r.nsw; sky = r.sky }
 
-abbrev pub setWeathers : Weathers → Body → Body
-setWeathers x r = record { wind = r.wind; visibility = r.visibility; weathers = x; nsw = r.nsw; sky = r.sky }
+abbrev pub set_weathers : Weathers → Body → Body
+set_weathers x r = record { wind = r.wind; visibility = r.visibility; weathers = x; nsw = r.nsw; sky = r.sky }
 
-abbrev pub setNsw : Bool → Body → Body
-setNsw x r = record { wind = r.wind; visibility = r.visibility; weathers = r.weathers; nsw = x; sky = r.sky }
+abbrev pub set_nsw : Bool → Body → Body
+set_nsw x r = record { wind = r.wind; visibility = r.visibility; weathers = r.weathers; nsw = x; sky = r.sky }
 
-abbrev pub setSky : Sky → Body → Body
-setSky x r = record { wind = r.wind; visibility = r.visibility; weathers = r.weathers; nsw = r.nsw; sky = x }
+abbrev pub set_sky : Sky → Body → Body
+set_sky x r = record { wind = r.wind; visibility = r.visibility; weathers = r.weathers; nsw = r.nsw; sky = x }
 
-abbrev pub blankWind : Wind
-blankWind = record { direction = direction.Missing; speed = speed.Missing; gust = speed.Missing; unit = unit.Missing }
+abbrev pub blank_wind : Wind
+blank_wind = record { direction = direction.Missing; speed = speed.Missing; gust = speed.Missing; unit = unit.Missing }
 
-abbrev pub blankVisibility : Visibility
-blankVisibility = record { is = view.Missing }
+abbrev pub blank_visibility : Visibility
+blank_visibility = record { is = view.Missing }
 
-abbrev pub blankWeather : Weather
-blankWeather = record { is = phenomena.Missing }
+abbrev pub blank_weather : Weather
+blank_weather = record { is = phenomena.Missing }
 
-abbrev pub blankWeathers : Weathers
-blankWeathers = record { items = replicate 3 blankWeather; count = 0 }
+abbrev pub blank_weathers : Weathers
+blank_weathers = record { items = replicate 3 blank_weather; count = 0 }
 
-abbrev pub blankLayer : Layer
-blankLayer = record { amount = amount.None; height = number.Missing; convective = convective.None }
+abbrev pub blank_layer : Layer
+blank_layer = record { amount = amount.None; height = number.Missing; convective = convective.None }
 
-abbrev pub blankSky : Sky
-blankSky = record { cover = cover.Layers; layers = replicate 4 blankLayer; count = 0 }
+abbrev pub blank_sky : Sky
+blank_sky = record { cover = cover.Layers; layers = replicate 4 blank_layer; count = 0 }
 
-abbrev pub blankBody : Body
-blankBody = record { wind = blankWind; visibility = blankVisibility; weathers = blankWeathers; nsw = false; sky = blankSky }
+abbrev pub blank_body : Body
+blank_body = record { wind = blank_wind; visibility = blank_visibility; weathers = blank_weathers; nsw = false; sky = blank_sky }

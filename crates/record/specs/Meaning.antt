@@ -7,8 +7,8 @@ use Rattle.record.specs.declared.aerodrome.Unit.{Unit}
 use Rattle.record.specs.declared.aerodrome.Unit.TheVariants as unit
 
 -- "4ahhh with a 1, 2, 5, 7, 8 for 1000, 925, 500, 700, 850 hPa"
-abbrev pub surfaceOf : ℕ → Number
-surfaceOf a =
+abbrev pub surface_of : ℕ → Number
+surface_of a =
     cond (eqb a 1) (number.Is 1000)
     (cond (eqb a 2) (number.Is 925)
     (cond (eqb a 5) (number.Is 500) (cond (eqb a 7) (number.Is 700) (cond (eqb a 8) (number.Is 850) number.Missing))))

@@ -11,34 +11,34 @@ use Rattle.record.specs.declared.values.Direction.TheVariants as direction
 use Rattle.record.specs.declared.values.Speed.{Speed}
 use Rattle.record.specs.declared.values.Speed.TheVariants as speed
 
-abbrev pub isMissing : Number → Bool
-isMissing number.Missing = true
-isMissing (number.Is n) = false
+abbrev pub is_missing : Number → Bool
+is_missing number.Missing = true
+is_missing (number.Is n) = false
 
-abbrev pub noTenths : Tenths → Bool
-noTenths tenths.Missing = true
-noTenths (tenths.Is t) = false
+abbrev pub no_tenths : Tenths → Bool
+no_tenths tenths.Missing = true
+no_tenths (tenths.Is t) = false
 
-abbrev pub noDirection : Direction → Bool
-noDirection direction.Missing = true
-noDirection direction.Calm = false
-noDirection direction.Variable = false
-noDirection (direction.Degrees d) = false
+abbrev pub no_direction : Direction → Bool
+no_direction direction.Missing = true
+no_direction direction.Calm = false
+no_direction direction.Variable = false
+no_direction (direction.Degrees d) = false
 
-abbrev pub noSpeed : Speed → Bool
-noSpeed speed.Missing = true
-noSpeed (speed.Is s) = false
-noSpeed (speed.Above s) = false
+abbrev pub no_speed : Speed → Bool
+no_speed speed.Missing = true
+no_speed (speed.Is s) = false
+no_speed (speed.Above s) = false
 
 -- a speed of zero, which goes with calm
-abbrev pub isStill : Speed → Bool
-isStill speed.Missing = false
-isStill (speed.Is s) = eqb s 0
-isStill (speed.Above s) = false
+abbrev pub is_still : Speed → Bool
+is_still speed.Missing = false
+is_still (speed.Is s) = eqb s 0
+is_still (speed.Above s) = false
 
 -- a slot that holds no letter is 0
-abbrev pub noLetters : List ℕ → Bool
-noLetters l = every (λ b. eqb b 0) l
+abbrev pub no_letters : List ℕ → Bool
+no_letters l = every (λ b. eqb b 0) l
 
 -- ---- a number that has to be there, and one that may be missing
 

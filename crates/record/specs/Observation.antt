@@ -20,61 +20,61 @@ use Rattle.record.specs.declared.aerodrome.Depth.TheVariants as depth
 use Rattle.record.specs.declared.aerodrome.Condition.TheVariants as condition
 use Rattle.record.specs.declared.values.Number.TheVariants as number
 use Rattle.record.specs.declared.values.Tenths.TheVariants as tenths
-use Rattle.record.specs.Body.{blankWeathers, blankBody}
+use Rattle.record.specs.Body.{blank_weathers, blank_body}
 
-abbrev pub setSpecial : Bool → Observation → Observation
-setSpecial x r = record { special = x; corrected = r.corrected; station = r.station; time = r.time; nil = r.nil; automatic = r.automatic; body = r.body; variation = r.variation; runways = r.runways; temperatures = r.temperatures; qnh = r.qnh; recents = r.recents; states = r.states }
+abbrev pub set_special : Bool → Observation → Observation
+set_special x r = record { special = x; corrected = r.corrected; station = r.station; time = r.time; nil = r.nil; automatic = r.automatic; body = r.body; variation = r.variation; runways = r.runways; temperatures = r.temperatures; qnh = r.qnh; recents = r.recents; states = r.states }
 
-abbrev pub setCorrected : Bool → Observation → Observation
-setCorrected x r = record { special = r.special; corrected = x; station = r.station; time = r.time; nil = r.nil; automatic = r.automatic; body = r.body; variation = r.variation; runways = r.runways; temperatures = r.temperatures; qnh = r.qnh; recents = r.recents; states = r.states }
+abbrev pub set_corrected : Bool → Observation → Observation
+set_corrected x r = record { special = r.special; corrected = x; station = r.station; time = r.time; nil = r.nil; automatic = r.automatic; body = r.body; variation = r.variation; runways = r.runways; temperatures = r.temperatures; qnh = r.qnh; recents = r.recents; states = r.states }
 
-abbrev pub setStation : Station → Observation → Observation
-setStation x r = record { special = r.special; corrected = r.corrected; station = x; time = r.time; nil = r.nil; automatic = r.automatic; body = r.body; variation = r.variation; runways = r.runways; temperatures = r.temperatures; qnh = r.qnh; recents = r.recents; states = r.states }
+abbrev pub set_station : Station → Observation → Observation
+set_station x r = record { special = r.special; corrected = r.corrected; station = x; time = r.time; nil = r.nil; automatic = r.automatic; body = r.body; variation = r.variation; runways = r.runways; temperatures = r.temperatures; qnh = r.qnh; recents = r.recents; states = r.states }
 
-abbrev pub setTime : Instant → Observation → Observation
-setTime x r = record { special = r.special; corrected = r.corrected; station = r.station; time = x; nil = r.nil; automatic = r.automatic; body = r.body; variation = r.variation; runways = r.runways; temperatures = r.temperatures; qnh = r.qnh; recents = r.recents; states = r.states }
+abbrev pub set_time : Instant → Observation → Observation
+set_time x r = record { special = r.special; corrected = r.corrected; station = r.station; time = x; nil = r.nil; automatic = r.automatic; body = r.body; variation = r.variation; runways = r.runways; temperatures = r.temperatures; qnh = r.qnh; recents = r.recents; states = r.states }
 
-abbrev pub setNil : Bool → Observation → Observation
-setNil x r = record { special = r.special; corrected = r.corrected; station = r.station; time = r.time; nil = x; automatic = r.automatic; body = r.body; variation = r.variation; runways = r.runways; temperatures = r.temperatures; qnh = r.qnh; recents = r.recents; states = r.states }
+abbrev pub set_nil : Bool → Observation → Observation
+set_nil x r = record { special = r.special; corrected = r.corrected; station = r.station; time = r.time; nil = x; automatic = r.automatic; body = r.body; variation = r.variation; runways = r.runways; temperatures = r.temperatures; qnh = r.qnh; recents = r.recents; states = r.states }
 
-abbrev pub setAutomatic : Bool → Observation → Observation
-setAutomatic x r = record { special = r.special; corrected = r.corrected; station = r.station; time = r.time; nil = r.nil; automatic = x; body = r.body; variation = r.variation; runways = r.runways; temperatures = r.temperatures; qnh = r.qnh; recents = r.recents; states = r.states }
+abbrev pub set_automatic : Bool → Observation → Observation
+set_automatic x r = record { special = r.special; corrected = r.corrected; station = r.station; time = r.time; nil = r.nil; automatic = x; body = r.body; variation = r.variation; runways = r.runways; temperatures = r.temperatures; qnh = r.qnh; recents = r.recents; states = r.states }
 
-abbrev pub setBody : Body → Observation → Observation
-setBody x r = record { special = r.special; corrected = r.corrected; station = r.station; time = r.time; nil = r.nil; automatic = r.automatic; body = x; variation = r.variation; runways = r.runways; temperatures = r.temperatures; qnh = r.qnh; recents = r.recents; states = r.states }
+abbrev pub set_body : Body → Observation → Observation
+set_body x r = record { special = r.special; corrected = r.corrected; station = r.station; time = r.time; nil = r.nil; automatic = r.automatic; body = x; variation = r.variation; runways = r.runways; temperatures = r.temperatures; qnh = r.qnh; recents = r.recents; states = r.states }
 
-abbrev pub setVariation : Variation → Observation → Observation
-setVariation x r = record { special = r.special; corrected = r.corrected; station = r.station; time = r.time; nil = r.nil; automatic = r.automatic; body = r.body; variation = x; runways = r.runways; temperatures = r.temperatures; qnh = r.qnh; recents = r.recents; states = r.states }
+abbrev pub set_variation : Variation → Observation → Observation
+set_variation x r = record { special = r.special; corrected = r.corrected; station = r.station; time = r.time; nil = r.nil; automatic = r.automatic; body = r.body; variation = x; runways = r.runways; temperatures = r.temperatures; qnh = r.qnh; recents = r.recents; states = r.states }
 
-abbrev pub setRunways : Runways → Observation → Observation
-setRunways x r = record { special = r.special; corrected = r.corrected; station = r.station; time = r.time; nil = r.nil; automatic = r.automatic; body = r.body; variation = r.variation; runways = x; temperatures = r.temperatures; qnh = r.qnh; recents = r.recents; states = r.states }
+abbrev pub set_runways : Runways → Observation → Observation
+set_runways x r = record { special = r.special; corrected = r.corrected; station = r.station; time = r.time; nil = r.nil; automatic = r.automatic; body = r.body; variation = r.variation; runways = x; temperatures = r.temperatures; qnh = r.qnh; recents = r.recents; states = r.states }
 
-abbrev pub setTemperatures : Temperatures → Observation → Observation
-setTemperatures x r = record { special = r.special; corrected = r.corrected; station = r.station; time = r.time; nil = r.nil; automatic = r.automatic; body = r.body; variation = r.variation; runways = r.runways; temperatures = x; qnh = r.qnh; recents = r.recents; states = r.states }
+abbrev pub set_temperatures : Temperatures → Observation → Observation
+set_temperatures x r = record { special = r.special; corrected = r.corrected; station = r.station; time = r.time; nil = r.nil; automatic = r.automatic; body = r.body; variation = r.variation; runways = r.runways; temperatures = x; qnh = r.qnh; recents = r.recents; states = r.states }
 
-abbrev pub setQnh : Qnh → Observation → Observation
-setQnh x r = record { special = r.special; corrected = r.corrected; station = r.station; time = r.time; nil = r.nil; automatic = r.automatic; body = r.body; variation = r.variation; runways = r.runways; temperatures = r.temperatures; qnh = x; recents = r.recents; states = r.states }
+abbrev pub set_qnh : Qnh → Observation → Observation
+set_qnh x r = record { special = r.special; corrected = r.corrected; station = r.station; time = r.time; nil = r.nil; automatic = r.automatic; body = r.body; variation = r.variation; runways = r.runways; temperatures = r.temperatures; qnh = x; recents = r.recents; states = r.states }
 
-abbrev pub setRecents : Weathers → Observation → Observation
-setRecents x r = record { special = r.special; corrected = r.corrected; station = r.station; time = r.time; nil = r.nil; automatic = r.automatic; body = r.body; variation = r.variation; runways = r.runways; temperatures = r.temperatures; qnh = r.qnh; recents = x; states = r.states }
+abbrev pub set_recents : Weathers → Observation → Observation
+set_recents x r = record { special = r.special; corrected = r.corrected; station = r.station; time = r.time; nil = r.nil; automatic = r.automatic; body = r.body; variation = r.variation; runways = r.runways; temperatures = r.temperatures; qnh = r.qnh; recents = x; states = r.states }
 
-abbrev pub setStates : RunwayStates → Observation → Observation
-setStates x r = record { special = r.special; corrected = r.corrected; station = r.station; time = r.time; nil = r.nil; automatic = r.automatic; body = r.body; variation = r.variation; runways = r.runways; temperatures = r.temperatures; qnh = r.qnh; recents = r.recents; states = x }
+abbrev pub set_states : RunwayStates → Observation → Observation
+set_states x r = record { special = r.special; corrected = r.corrected; station = r.station; time = r.time; nil = r.nil; automatic = r.automatic; body = r.body; variation = r.variation; runways = r.runways; temperatures = r.temperatures; qnh = r.qnh; recents = r.recents; states = x }
 
-abbrev pub blankRunway : Runway
-blankRunway = record { number = number.Missing; side = side.None; range = number.Missing; course = course.None }
+abbrev pub blank_runway : Runway
+blank_runway = record { number = number.Missing; side = side.None; range = number.Missing; course = course.None }
 
-abbrev pub blankRunways : Runways
-blankRunways = record { items = replicate 4 blankRunway; count = 0 }
+abbrev pub blank_runways : Runways
+blank_runways = record { items = replicate 4 blank_runway; count = 0 }
 
-abbrev pub blankState : RunwayState
-blankState = record { runway = number.Missing; condition = condition.Covered number.Missing number.Missing depth.Missing number.Missing }
+abbrev pub blank_state : RunwayState
+blank_state = record { runway = number.Missing; condition = condition.Covered number.Missing number.Missing depth.Missing number.Missing }
 
-abbrev pub blankStates : RunwayStates
-blankStates = record { items = replicate 4 blankState; count = 0; snoclo = false }
+abbrev pub blank_states : RunwayStates
+blank_states = record { items = replicate 4 blank_state; count = 0; snoclo = false }
 
-abbrev pub blankObservation : Observation
-blankObservation =
+abbrev pub blank_observation : Observation
+blank_observation =
     record {
       special = false;
       corrected = false;
@@ -82,11 +82,11 @@ blankObservation =
       time = record { day = number.Missing; hour = number.Missing; minute = number.Missing };
       nil = false;
       automatic = false;
-      body = blankBody;
+      body = blank_body;
       variation = record { is = extremes.Missing };
-      runways = blankRunways;
+      runways = blank_runways;
       temperatures = record { air = tenths.Missing; dew = tenths.Missing };
       qnh = record { is = number.Missing };
-      recents = blankWeathers;
-      states = blankStates;
+      recents = blank_weathers;
+      states = blank_states;
     }

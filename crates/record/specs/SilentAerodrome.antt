@@ -57,191 +57,191 @@ use Rattle.record.specs.declared.aerodrome.Metar.{Metar}
 use Rattle.record.specs.declared.aerodrome.Edition.{Edition}
 use Rattle.record.specs.declared.aerodrome.Edition.TheVariants as edition
 use Rattle.record.specs.declared.aerodrome.Taf.{Taf}
-use Rattle.record.specs.Missing.{isMissing, noTenths, noDirection, noSpeed, noLetters}
+use Rattle.record.specs.Missing.{is_missing, no_tenths, no_direction, no_speed, no_letters}
 
 -- ---- wind, visibility, runways
 
-abbrev pub noUnit : Unit → Bool
-noUnit unit.Missing = true
-noUnit unit.Knots = false
-noUnit unit.MetresPerSecond = false
-noUnit unit.KilometresPerHour = false
+abbrev pub no_unit : Unit → Bool
+no_unit unit.Missing = true
+no_unit unit.Knots = false
+no_unit unit.MetresPerSecond = false
+no_unit unit.KilometresPerHour = false
 
 -- no wind at all: nothing of it is there, its unit neither
-abbrev pub isBlankWind : Wind → Bool
-isBlankWind w = noDirection w.direction && noSpeed w.speed && noSpeed w.gust && noUnit w.unit
+abbrev pub is_blank_wind : Wind → Bool
+is_blank_wind w = no_direction w.direction && no_speed w.speed && no_speed w.gust && no_unit w.unit
 
-abbrev pub noExtremes : Extremes → Bool
-noExtremes extremes.Missing = true
-noExtremes (extremes.Between a b) = false
+abbrev pub no_extremes : Extremes → Bool
+no_extremes extremes.Missing = true
+no_extremes (extremes.Between a b) = false
 
 abbrev pub no_view : View → Bool
 no_view view.Missing = true
 no_view view.Cavok = false
 no_view (view.Metres m) = false
 
-abbrev pub noSide : Side → Bool
-noSide side.None = true
-noSide side.Left = false
-noSide side.Centre = false
-noSide side.Right = false
+abbrev pub no_side : Side → Bool
+no_side side.None = true
+no_side side.Left = false
+no_side side.Centre = false
+no_side side.Right = false
 
-abbrev pub noCourse : Course → Bool
-noCourse course.None = true
-noCourse course.Up = false
-noCourse course.Down = false
-noCourse course.NoChange = false
+abbrev pub no_course : Course → Bool
+no_course course.None = true
+no_course course.Up = false
+no_course course.Down = false
+no_course course.NoChange = false
 
-abbrev pub isBlankRunway : Runway → Bool
-isBlankRunway w = isMissing w.number && noSide w.side && isMissing w.range && noCourse w.course
+abbrev pub is_blank_runway : Runway → Bool
+is_blank_runway w = is_missing w.number && no_side w.side && is_missing w.range && no_course w.course
 
-abbrev pub noRunways : Runways → Bool
-noRunways rs = eqb rs.count 0 && every isBlankRunway rs.items
+abbrev pub no_runways : Runways → Bool
+no_runways rs = eqb rs.count 0 && every is_blank_runway rs.items
 
 -- ---- runway states
 
-abbrev pub noDepth : Depth → Bool
-noDepth depth.Missing = true
-noDepth depth.Closed = false
-noDepth (depth.Millimetres m) = false
+abbrev pub no_depth : Depth → Bool
+no_depth depth.Missing = true
+no_depth depth.Closed = false
+no_depth (depth.Millimetres m) = false
 
 -- not cleared, and nothing is said of a deposit
-abbrev pub noCondition : Condition → Bool
-noCondition condition.Cleared = false
-noCondition (condition.Covered d e h b) = isMissing d && isMissing e && noDepth h && isMissing b
+abbrev pub no_condition : Condition → Bool
+no_condition condition.Cleared = false
+no_condition (condition.Covered d e h b) = is_missing d && is_missing e && no_depth h && is_missing b
 
-abbrev pub isBlankState : RunwayState → Bool
-isBlankState s = isMissing s.runway && noCondition s.condition
+abbrev pub is_blank_state : RunwayState → Bool
+is_blank_state s = is_missing s.runway && no_condition s.condition
 
-abbrev pub noStates : RunwayStates → Bool
-noStates ss = not ss.snoclo && eqb ss.count 0 && every isBlankState ss.items
+abbrev pub no_states : RunwayStates → Bool
+no_states ss = not ss.snoclo && eqb ss.count 0 && every is_blank_state ss.items
 
 -- ---- weather and sky
 
-abbrev pub noPhenomena : Phenomena → Bool
-noPhenomena phenomena.Missing = true
-noPhenomena (phenomena.Is i d a b c) = false
+abbrev pub no_phenomena : Phenomena → Bool
+no_phenomena phenomena.Missing = true
+no_phenomena (phenomena.Is i d a b c) = false
 
-abbrev pub isBlankWeather : Weather → Bool
-isBlankWeather w = noPhenomena w.is
+abbrev pub is_blank_weather : Weather → Bool
+is_blank_weather w = no_phenomena w.is
 
-abbrev pub noWeathers : Weathers → Bool
-noWeathers ws = eqb ws.count 0 && every isBlankWeather ws.items
+abbrev pub no_weathers : Weathers → Bool
+no_weathers ws = eqb ws.count 0 && every is_blank_weather ws.items
 
-abbrev pub noAmount : Amount → Bool
-noAmount amount.None = true
-noAmount amount.Few = false
-noAmount amount.Scattered = false
-noAmount amount.Broken = false
-noAmount amount.Overcast = false
+abbrev pub no_amount : Amount → Bool
+no_amount amount.None = true
+no_amount amount.Few = false
+no_amount amount.Scattered = false
+no_amount amount.Broken = false
+no_amount amount.Overcast = false
 
-abbrev pub noConvective : Convective → Bool
-noConvective convective.None = true
-noConvective convective.Cumulonimbus = false
-noConvective convective.ToweringCumulus = false
+abbrev pub no_convective : Convective → Bool
+no_convective convective.None = true
+no_convective convective.Cumulonimbus = false
+no_convective convective.ToweringCumulus = false
 
-abbrev pub isBlankLayer : Layer → Bool
-isBlankLayer l = noAmount l.amount && isMissing l.height && noConvective l.convective
+abbrev pub is_blank_layer : Layer → Bool
+is_blank_layer l = no_amount l.amount && is_missing l.height && no_convective l.convective
 
 -- the clouds are given as layers, and not as SKC, NSC, NCD or VVhhh
-abbrev pub isLayers : Cover → Bool
-isLayers cover.Layers = true
-isLayers cover.Clear = false
-isLayers cover.NoneSignificant = false
-isLayers cover.NoneDetected = false
-isLayers (cover.Vertical h) = false
+abbrev pub is_layers : Cover → Bool
+is_layers cover.Layers = true
+is_layers cover.Clear = false
+is_layers cover.NoneSignificant = false
+is_layers cover.NoneDetected = false
+is_layers (cover.Vertical h) = false
 
-abbrev pub noSky : Sky → Bool
-noSky s = isLayers s.cover && eqb s.count 0 && every isBlankLayer s.layers
+abbrev pub no_sky : Sky → Bool
+no_sky s = is_layers s.cover && eqb s.count 0 && every is_blank_layer s.layers
 
 -- ---- temperatures, station and times
 
-abbrev pub noTemperatures : Temperatures → Bool
-noTemperatures t = noTenths t.air && noTenths t.dew
+abbrev pub no_temperatures : Temperatures → Bool
+no_temperatures t = no_tenths t.air && no_tenths t.dew
 
-abbrev pub noStation : Station → Bool
-noStation s = noLetters s.letters
+abbrev pub no_station : Station → Bool
+no_station s = no_letters s.letters
 
-abbrev pub noInstant : Instant → Bool
-noInstant t = isMissing t.day && isMissing t.hour && isMissing t.minute
+abbrev pub no_instant : Instant → Bool
+no_instant t = is_missing t.day && is_missing t.hour && is_missing t.minute
 
-abbrev pub noPeriod : Period → Bool
-noPeriod p = noInstant p.from && noInstant p.to
+abbrev pub no_period : Period → Bool
+no_period p = no_instant p.from && no_instant p.to
 
-abbrev pub noCorrection : Correction → Bool
-noCorrection correction.None = true
-noCorrection correction.Amended = false
-noCorrection correction.Corrected = false
+abbrev pub no_correction : Correction → Bool
+no_correction correction.None = true
+no_correction correction.Amended = false
+no_correction correction.Corrected = false
 
-abbrev pub noOpening : Opening → Bool
-noOpening opening.None = true
-noOpening opening.Becoming = false
-noOpening opening.Temporary = false
-noOpening (opening.Probable n) = false
-noOpening (opening.ProbablyTemporary n) = false
-noOpening opening.From = false
+abbrev pub no_opening : Opening → Bool
+no_opening opening.None = true
+no_opening opening.Becoming = false
+no_opening opening.Temporary = false
+no_opening (opening.Probable n) = false
+no_opening (opening.ProbablyTemporary n) = false
+no_opening opening.From = false
 
 -- ---- the body
 
 -- nothing is said of wind, visibility, weather (or NSW) and sky
-unfoldable pub isBlankBody : Body → Bool
-isBlankBody b = isBlankWind b.wind && no_view b.visibility.is && noWeathers b.weathers && not b.nsw && noSky b.sky
+unfoldable pub is_blank_body : Body → Bool
+is_blank_body b = is_blank_wind b.wind && no_view b.visibility.is && no_weathers b.weathers && not b.nsw && no_sky b.sky
 
 -- ---- METAR and SPECI
 
 -- nothing stands after the time
-unfoldable pub noObservation : Observation → Bool
-noObservation r =
-    not r.automatic && isBlankBody r.body && noExtremes r.variation.is && noRunways r.runways
-    && noTemperatures r.temperatures && isMissing r.qnh.is && noWeathers r.recents && noStates r.states
+unfoldable pub no_observation : Observation → Bool
+no_observation r =
+    not r.automatic && is_blank_body r.body && no_extremes r.variation.is && no_runways r.runways
+    && no_temperatures r.temperatures && is_missing r.qnh.is && no_weathers r.recents && no_states r.states
 
-unfoldable pub isBlankObservation : Observation → Bool
-isBlankObservation r = not r.special && not r.corrected && noStation r.station && noInstant r.time && not r.nil && noObservation r
+unfoldable pub is_blank_observation : Observation → Bool
+is_blank_observation r = not r.special && not r.corrected && no_station r.station && no_instant r.time && not r.nil && no_observation r
 
 -- ---- the trend
 
-abbrev pub noHours : Hours → Bool
-noHours hours.None = true
-noHours (hours.From f) = false
-noHours (hours.Until u) = false
-noHours (hours.Between f u) = false
-noHours (hours.At t) = false
+abbrev pub no_hours : Hours → Bool
+no_hours hours.None = true
+no_hours (hours.From f) = false
+no_hours (hours.Until u) = false
+no_hours (hours.Between f u) = false
+no_hours (hours.At t) = false
 
-abbrev pub noTendency : Tendency → Bool
-noTendency tendency.None = true
-noTendency tendency.Becoming = false
-noTendency tendency.Temporary = false
+abbrev pub no_tendency : Tendency → Bool
+no_tendency tendency.None = true
+no_tendency tendency.Becoming = false
+no_tendency tendency.Temporary = false
 
-abbrev pub isBlankTrendChange : TrendChange → Bool
-isBlankTrendChange c = noTendency c.tendency && noHours c.times.is && isBlankBody c.body
+abbrev pub is_blank_trend_change : TrendChange → Bool
+is_blank_trend_change c = no_tendency c.tendency && no_hours c.times.is && is_blank_body c.body
 
-abbrev pub noTrend : Trend → Bool
-noTrend t = not t.nosig && eqb t.count 0 && every isBlankTrendChange t.items
+abbrev pub no_trend : Trend → Bool
+no_trend t = not t.nosig && eqb t.count 0 && every is_blank_trend_change t.items
 
-unfoldable pub isBlankMetar : Metar → Bool
-isBlankMetar r = isBlankObservation r.observation && noTrend r.trend
+unfoldable pub is_blank_metar : Metar → Bool
+is_blank_metar r = is_blank_observation r.observation && no_trend r.trend
 
 -- ---- TAF
 
 -- the edition that a blank record names, in every other kind's report too
-abbrev pub isPresent : Edition → Bool
-isPresent edition.Present = true
-isPresent edition.Of2005 = false
+abbrev pub is_present : Edition → Bool
+is_present edition.Present = true
+is_present edition.Of2005 = false
 
-abbrev pub isSameEdition : Edition → Edition → Bool
-isSameEdition edition.Present edition.Present = true
-isSameEdition edition.Present edition.Of2005 = false
-isSameEdition edition.Of2005 edition.Present = false
-isSameEdition edition.Of2005 edition.Of2005 = true
+abbrev pub is_same_edition : Edition → Edition → Bool
+is_same_edition edition.Present edition.Present = true
+is_same_edition edition.Present edition.Of2005 = false
+is_same_edition edition.Of2005 edition.Present = false
+is_same_edition edition.Of2005 edition.Of2005 = true
 
-abbrev pub noHead : Leg → Bool
-noHead r = noCorrection r.correction && noStation r.station && noInstant r.time && not r.nil && noPeriod r.period && not r.cancelled
+abbrev pub no_head : Leg → Bool
+no_head r = no_correction r.correction && no_station r.station && no_instant r.time && not r.nil && no_period r.period && not r.cancelled
 
-abbrev pub isBlankChange : Change → Bool
-isBlankChange c = noOpening c.opening && noPeriod c.period && isBlankBody c.body
+abbrev pub is_blank_change : Change → Bool
+is_blank_change c = no_opening c.opening && no_period c.period && is_blank_body c.body
 
-abbrev pub noChanges : Changes → Bool
-noChanges cs = eqb cs.count 0 && every isBlankChange cs.items
+abbrev pub no_changes : Changes → Bool
+no_changes cs = eqb cs.count 0 && every is_blank_change cs.items
 
-unfoldable pub isBlankTaf : Taf → Bool
-isBlankTaf t = isPresent t.edition && noHead t.leg && isBlankBody t.leg.body && noChanges t.changes
+unfoldable pub is_blank_taf : Taf → Bool
+is_blank_taf t = is_present t.edition && no_head t.leg && is_blank_body t.leg.body && no_changes t.changes

@@ -29,85 +29,85 @@ use Rattle.record.specs.declared.surface.Section3.{Section3}
 use Rattle.record.specs.declared.surface.Surface.{Surface}
 use Rattle.record.specs.declared.surface.Site.{Site}
 use Rattle.record.specs.declared.surface.Synop.{Synop}
-use Rattle.record.specs.Missing.{isMissing, noTenths, noDirection, noSpeed, noLetters}
+use Rattle.record.specs.Missing.{is_missing, no_tenths, no_direction, no_speed, no_letters}
 
 -- ---- the groups, in written order
 
-abbrev pub noSign : CallSign → Bool
-noSign s = eqb s.length 0 && noLetters s.letters
+abbrev pub no_sign : CallSign → Bool
+no_sign s = eqb s.length 0 && no_letters s.letters
 
-abbrev pub noPosition : Position → Bool
-noPosition p = noTenths p.latitude && noTenths p.longitude
+abbrev pub no_position : Position → Bool
+no_position p = no_tenths p.latitude && no_tenths p.longitude
 
-abbrev pub noTime : Time → Bool
-noTime t = isMissing t.day && isMissing t.hour && isMissing t.unit
+abbrev pub no_time : Time → Bool
+no_time t = is_missing t.day && is_missing t.hour && is_missing t.unit
 
-abbrev pub noSight : Sight → Bool
-noSight sight.Missing = true
-noSight (sight.Land m) = false
-noSight (sight.Sea m) = false
+abbrev pub no_sight : Sight → Bool
+no_sight sight.Missing = true
+no_sight (sight.Land m) = false
+no_sight (sight.Sea m) = false
 
-abbrev pub noIndicators : Indicators → Bool
-noIndicators i = isMissing i.rain && isMissing i.weather && isMissing i.base && noSight i.sight
+abbrev pub no_indicators : Indicators → Bool
+no_indicators i = is_missing i.rain && is_missing i.weather && is_missing i.base && no_sight i.sight
 
-abbrev pub noWind : Wind → Bool
-noWind w = isMissing w.cover && noDirection w.direction && noSpeed w.speed
+abbrev pub no_wind : Wind → Bool
+no_wind w = is_missing w.cover && no_direction w.direction && no_speed w.speed
 
-abbrev pub noMoist : Moist → Bool
-noMoist moist.Missing = true
-noMoist (moist.DewPoint t) = false
-noMoist (moist.Humidity u) = false
+abbrev pub no_moist : Moist → Bool
+no_moist moist.Missing = true
+no_moist (moist.DewPoint t) = false
+no_moist (moist.Humidity u) = false
 
-abbrev pub noLevel : AtLevel → Bool
-noLevel at_level.Missing = true
-noLevel (at_level.Pressure p) = false
-noLevel (at_level.Isobaric a h) = false
+abbrev pub no_level : AtLevel → Bool
+no_level at_level.Missing = true
+no_level (at_level.Pressure p) = false
+no_level (at_level.Isobaric a h) = false
 
-abbrev pub noChange : PressureChange → Bool
-noChange change.Missing = true
-noChange (change.Is a c) = false
+abbrev pub no_change : PressureChange → Bool
+no_change change.Missing = true
+no_change (change.Is a c) = false
 
-abbrev pub noFall : Fall → Bool
-noFall fall.Missing = true
-noFall (fall.Is r t) = false
+abbrev pub no_fall : Fall → Bool
+no_fall fall.Missing = true
+no_fall (fall.Is r t) = false
 
-abbrev pub noWeather : Weather → Bool
-noWeather w = isMissing w.present && isMissing w.past && isMissing w.past2
+abbrev pub no_weather : Weather → Bool
+no_weather w = is_missing w.present && is_missing w.past && is_missing w.past2
 
-abbrev pub noClouds : Clouds → Bool
-noClouds c = isMissing c.amount && isMissing c.low && isMissing c.middle && isMissing c.high
+abbrev pub no_clouds : Clouds → Bool
+no_clouds c = is_missing c.amount && is_missing c.low && is_missing c.middle && is_missing c.high
 
-abbrev pub noClock : Observed → Bool
-noClock observed.Missing = true
-noClock (observed.At h m) = false
+abbrev pub no_clock : Observed → Bool
+no_clock observed.Missing = true
+no_clock (observed.At h m) = false
 
 -- ---- section 3
 
-abbrev pub noHeight : BaseHeight → Bool
-noHeight height.Missing = true
-noHeight (height.Steps m) = false
-noHeight (height.Bands m) = false
+abbrev pub no_height : BaseHeight → Bool
+no_height height.Missing = true
+no_height (height.Steps m) = false
+no_height (height.Bands m) = false
 
-abbrev pub isBlankLayer : CloudLayer → Bool
-isBlankLayer l = isMissing l.amount && isMissing l.cloud && noHeight l.height
+abbrev pub is_blank_layer : CloudLayer → Bool
+is_blank_layer l = is_missing l.amount && is_missing l.cloud && no_height l.height
 
-abbrev pub noLayers : CloudLayers → Bool
-noLayers ls = eqb ls.count 0 && every isBlankLayer ls.items
+abbrev pub no_layers : CloudLayers → Bool
+no_layers ls = eqb ls.count 0 && every is_blank_layer ls.items
 
-abbrev pub noSection3 : Section3 → Bool
-noSection3 s = noTenths s.maximum.temperature && noTenths s.minimum.temperature && noLayers s.layers
+abbrev pub no_section3 : Section3 → Bool
+no_section3 s = no_tenths s.maximum.temperature && no_tenths s.minimum.temperature && no_layers s.layers
 
 -- ---- the report
 
 abbrev pub no_site : Site → Bool
-no_site s = isMissing s.station && noSign s.sign && noPosition s.position && noTime s.time && not s.nil
+no_site s = is_missing s.station && no_sign s.sign && no_position s.position && no_time s.time && not s.nil
 
 -- nothing stands after the station or position
-unfoldable pub noSurface : Surface → Bool
-noSurface s =
-    noIndicators s.indicators && noWind s.wind && noTenths s.air.temperature && noMoist s.moisture.is && isMissing s.pressure.station
-    && noLevel s.level.is && noChange s.tendency.is && noFall s.rainfall.is && noWeather s.weather && noClouds s.clouds
-    && noClock s.clock.is
+unfoldable pub no_surface : Surface → Bool
+no_surface s =
+    no_indicators s.indicators && no_wind s.wind && no_tenths s.air.temperature && no_moist s.moisture.is && is_missing s.pressure.station
+    && no_level s.level.is && no_change s.tendency.is && no_fall s.rainfall.is && no_weather s.weather && no_clouds s.clouds
+    && no_clock s.clock.is
 
-unfoldable pub isBlankSynop : Synop → Bool
-isBlankSynop r = not r.ship && no_site r.site && noSurface r.surface && noSection3 r.section3
+unfoldable pub is_blank_synop : Synop → Bool
+is_blank_synop r = not r.ship && no_site r.site && no_surface r.surface && no_section3 r.section3

@@ -14,49 +14,49 @@ use Rattle.record.specs.declared.aerodrome.Correction.TheVariants as correction
 use Rattle.record.specs.declared.aerodrome.Opening.TheVariants as opening
 use Rattle.record.specs.declared.aerodrome.Edition.TheVariants as edition
 use Rattle.record.specs.declared.values.Number.TheVariants as number
-use Rattle.record.specs.Body.{blankBody}
+use Rattle.record.specs.Body.{blank_body}
 
-abbrev pub setCorrection : Correction → Leg → Leg
-setCorrection x r = record { correction = x; station = r.station; time = r.time; nil = r.nil; period = r.period; cancelled = r.cancelled; body = r.body }
+abbrev pub set_correction : Correction → Leg → Leg
+set_correction x r = record { correction = x; station = r.station; time = r.time; nil = r.nil; period = r.period; cancelled = r.cancelled; body = r.body }
 
-abbrev pub setStation : Station → Leg → Leg
-setStation x r = record { correction = r.correction; station = x; time = r.time; nil = r.nil; period = r.period; cancelled = r.cancelled; body = r.body }
+abbrev pub set_station : Station → Leg → Leg
+set_station x r = record { correction = r.correction; station = x; time = r.time; nil = r.nil; period = r.period; cancelled = r.cancelled; body = r.body }
 
-abbrev pub setTime : Instant → Leg → Leg
-setTime x r = record { correction = r.correction; station = r.station; time = x; nil = r.nil; period = r.period; cancelled = r.cancelled; body = r.body }
+abbrev pub set_time : Instant → Leg → Leg
+set_time x r = record { correction = r.correction; station = r.station; time = x; nil = r.nil; period = r.period; cancelled = r.cancelled; body = r.body }
 
-abbrev pub setNil : Bool → Leg → Leg
-setNil x r = record { correction = r.correction; station = r.station; time = r.time; nil = x; period = r.period; cancelled = r.cancelled; body = r.body }
+abbrev pub set_nil : Bool → Leg → Leg
+set_nil x r = record { correction = r.correction; station = r.station; time = r.time; nil = x; period = r.period; cancelled = r.cancelled; body = r.body }
 
-abbrev pub setPeriod : Period → Leg → Leg
-setPeriod x r = record { correction = r.correction; station = r.station; time = r.time; nil = r.nil; period = x; cancelled = r.cancelled; body = r.body }
+abbrev pub set_period : Period → Leg → Leg
+set_period x r = record { correction = r.correction; station = r.station; time = r.time; nil = r.nil; period = x; cancelled = r.cancelled; body = r.body }
 
-abbrev pub setCancelled : Bool → Leg → Leg
-setCancelled x r = record { correction = r.correction; station = r.station; time = r.time; nil = r.nil; period = r.period; cancelled = x; body = r.body }
+abbrev pub set_cancelled : Bool → Leg → Leg
+set_cancelled x r = record { correction = r.correction; station = r.station; time = r.time; nil = r.nil; period = r.period; cancelled = x; body = r.body }
 
-abbrev pub setBody : Body → Leg → Leg
-setBody x r = record { correction = r.correction; station = r.station; time = r.time; nil = r.nil; period = r.period; cancelled = r.cancelled; body = x }
+abbrev pub set_body : Body → Leg → Leg
+set_body x r = record { correction = r.correction; station = r.station; time = r.time; nil = r.nil; period = r.period; cancelled = r.cancelled; body = x }
 
-abbrev pub blankInstant : Instant
-blankInstant = record { day = number.Missing; hour = number.Missing; minute = number.Missing }
+abbrev pub blank_instant : Instant
+blank_instant = record { day = number.Missing; hour = number.Missing; minute = number.Missing }
 
-abbrev pub blankPeriod : Period
-blankPeriod = record { from = blankInstant; to = blankInstant }
+abbrev pub blank_period : Period
+blank_period = record { from = blank_instant; to = blank_instant }
 
-abbrev pub blankLeg : Leg
-blankLeg =
+abbrev pub blank_leg : Leg
+blank_leg =
     record {
       correction = correction.None;
       station = record { letters = replicate 4 0 };
-      time = blankInstant;
+      time = blank_instant;
       nil = false;
-      period = blankPeriod;
+      period = blank_period;
       cancelled = false;
-      body = blankBody;
+      body = blank_body;
     }
 
-abbrev pub blankChange : Change
-blankChange = record { opening = opening.None; period = blankPeriod; body = blankBody }
+abbrev pub blank_change : Change
+blank_change = record { opening = opening.None; period = blank_period; body = blank_body }
 
-abbrev pub blankTaf : Taf
-blankTaf = record { edition = edition.Present; leg = blankLeg; changes = record { items = replicate 16 blankChange; count = 0 } }
+abbrev pub blank_taf : Taf
+blank_taf = record { edition = edition.Present; leg = blank_leg; changes = record { items = replicate 16 blank_change; count = 0 } }

@@ -1,9 +1,9 @@
 // The blank records of a METAR or SPECI and of a TAF.
 ghost use Rattle.std.specs.Prelude.{◌≡◌};
-ghost use Rattle.record.specs.Body.{blankWind, blankWeathers, blankSky, blankBody};
-ghost use Rattle.record.specs.Observation.{blankRunways, blankStates, blankObservation};
-ghost use Rattle.record.specs.Trend.{blankTrendChange, blankTrend, blankMetar};
-ghost use Rattle.record.specs.Taf.{blankInstant, blankPeriod, blankLeg, blankChange, blankTaf};
+ghost use Rattle.record.specs.Body.{blank_wind, blank_weathers, blank_sky, blank_body};
+ghost use Rattle.record.specs.Observation.{blank_runways, blank_states, blank_observation};
+ghost use Rattle.record.specs.Trend.{blank_trend_change, blank_trend, blank_metar};
+ghost use Rattle.record.specs.Taf.{blank_instant, blank_period, blank_leg, blank_change, blank_taf};
 
 use crate::aerodrome::{
     Amount, Body, Change, Changes, Condition, Convective, Correction, Course, Cover, Depth,
@@ -15,14 +15,14 @@ use crate::aerodrome::{
 use crate::values::{Direction, Number, Speed, Tenths};
 
 pub fn blank_station() -> Station
-    ensures { result ≡ blankObservation.station }
+    ensures { result ≡ blank_observation.station }
 {
     let letters = [0u8; 4];
     Station { letters }
 }
 
 pub fn blank_instant() -> Instant
-    ensures { result ≡ blankInstant }
+    ensures { result ≡ blank_instant }
 {
     Instant {
         day: Number::Missing,
@@ -32,7 +32,7 @@ pub fn blank_instant() -> Instant
 }
 
 fn blank_period() -> Period
-    ensures { result ≡ blankPeriod }
+    ensures { result ≡ blank_period }
 {
     let blank = Instant {
         day: Number::Missing,
@@ -46,7 +46,7 @@ fn blank_period() -> Period
 }
 
 fn blank_wind() -> Wind
-    ensures { result ≡ blankWind }
+    ensures { result ≡ blank_wind }
 {
     Wind {
         direction: Direction::Missing,
@@ -57,7 +57,7 @@ fn blank_wind() -> Wind
 }
 
 fn blank_runways() -> Runways
-    ensures { result ≡ blankRunways }
+    ensures { result ≡ blank_runways }
 {
     let blank = Runway {
         number: Number::Missing,
@@ -70,7 +70,7 @@ fn blank_runways() -> Runways
 }
 
 fn blank_states() -> RunwayStates
-    ensures { result ≡ blankStates }
+    ensures { result ≡ blank_states }
 {
     let condition = Condition::Covered {
         deposit: Number::Missing,
@@ -91,7 +91,7 @@ fn blank_states() -> RunwayStates
 }
 
 fn blank_weathers() -> Weathers
-    ensures { result ≡ blankWeathers }
+    ensures { result ≡ blank_weathers }
 {
     let blank = Weather {
         is: Phenomena::Missing,
@@ -101,7 +101,7 @@ fn blank_weathers() -> Weathers
 }
 
 fn blank_sky() -> Sky
-    ensures { result ≡ blankSky }
+    ensures { result ≡ blank_sky }
 {
     let blank = Layer {
         amount: Amount::None,
@@ -117,7 +117,7 @@ fn blank_sky() -> Sky
 }
 
 fn blank_body() -> Body
-    ensures { result ≡ blankBody }
+    ensures { result ≡ blank_body }
 {
     let wind = blank_wind();
     let weathers = blank_weathers();
@@ -132,7 +132,7 @@ fn blank_body() -> Body
 }
 
 pub fn blank_observation() -> Observation
-    ensures { result ≡ blankObservation }
+    ensures { result ≡ blank_observation }
 {
     let station = blank_station();
     let time = blank_instant();
@@ -165,7 +165,7 @@ pub fn blank_observation() -> Observation
 }
 
 pub fn blank_trend_change() -> TrendChange
-    ensures { result ≡ blankTrendChange }
+    ensures { result ≡ blank_trend_change }
 {
     let body = blank_body();
     TrendChange {
@@ -176,7 +176,7 @@ pub fn blank_trend_change() -> TrendChange
 }
 
 pub fn blank_trend() -> Trend
-    ensures { result ≡ blankTrend }
+    ensures { result ≡ blank_trend }
 {
     let blank = blank_trend_change();
     let items = [blank; 3];
@@ -188,7 +188,7 @@ pub fn blank_trend() -> Trend
 }
 
 pub fn blank_metar() -> Metar
-    ensures { result ≡ blankMetar }
+    ensures { result ≡ blank_metar }
 {
     let observation = blank_observation();
     let trend = blank_trend();
@@ -196,7 +196,7 @@ pub fn blank_metar() -> Metar
 }
 
 pub fn blank_leg() -> Leg
-    ensures { result ≡ blankLeg }
+    ensures { result ≡ blank_leg }
 {
     let station = blank_station();
     let time = blank_instant();
@@ -214,7 +214,7 @@ pub fn blank_leg() -> Leg
 }
 
 fn blank_change() -> Change
-    ensures { result ≡ blankChange }
+    ensures { result ≡ blank_change }
 {
     let period = blank_period();
     let body = blank_body();
@@ -226,7 +226,7 @@ fn blank_change() -> Change
 }
 
 pub fn blank_taf() -> Taf
-    ensures { result ≡ blankTaf }
+    ensures { result ≡ blank_taf }
 {
     let leg = blank_leg();
     let change = blank_change();

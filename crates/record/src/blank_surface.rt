@@ -1,6 +1,6 @@
 // The blank record of a SYNOP or SHIP.
 ghost use Rattle.std.specs.Prelude.{◌≡◌};
-ghost use Rattle.record.specs.Blank.{blankSite, blankSurface, blankSection3, blankSynop};
+ghost use Rattle.record.specs.Blank.{blank_site, blank_surface, blank_section3, blank_synop};
 
 use crate::surface::{
     Air, AtLevel, BaseHeight, CallSign, Clock, CloudLayer, CloudLayers, Clouds, Fall, Indicators,
@@ -10,7 +10,7 @@ use crate::surface::{
 use crate::values::{Direction, Number, Speed, Tenths};
 
 pub fn blank_site() -> Site
-    ensures { result ≡ blankSite }
+    ensures { result ≡ blank_site }
 {
     let station = Number::Missing;
     let letters = [0u8; 9];
@@ -31,7 +31,7 @@ pub fn blank_site() -> Site
 }
 
 fn blank_indicators() -> Indicators
-    ensures { result ≡ blankSurface.indicators }
+    ensures { result ≡ blank_surface.indicators }
 {
     Indicators {
         rain: Number::Missing,
@@ -42,7 +42,7 @@ fn blank_indicators() -> Indicators
 }
 
 fn blank_clouds() -> Clouds
-    ensures { result ≡ blankSurface.clouds }
+    ensures { result ≡ blank_surface.clouds }
 {
     Clouds {
         amount: Number::Missing,
@@ -53,7 +53,7 @@ fn blank_clouds() -> Clouds
 }
 
 pub fn blank_surface() -> Surface
-    ensures { result ≡ blankSurface }
+    ensures { result ≡ blank_surface }
 {
     let indicators = blank_indicators();
     let clouds = blank_clouds();
@@ -91,7 +91,7 @@ pub fn blank_surface() -> Surface
 }
 
 pub fn blank_section3() -> Section3
-    ensures { result ≡ blankSection3 }
+    ensures { result ≡ blank_section3 }
 {
     let blank = CloudLayer {
         amount: Number::Missing,
@@ -111,7 +111,7 @@ pub fn blank_section3() -> Section3
 }
 
 pub fn blank_synop() -> Synop
-    ensures { result ≡ blankSynop }
+    ensures { result ≡ blank_synop }
 {
     let site = blank_site();
     let surface = blank_surface();

@@ -1,13 +1,13 @@
 // What some figures of SYNOP and SHIP stand for, for whoever reads a table of records.
 ghost use Rattle.std.specs.Prelude.{◌≡◌};
-ghost use Rattle.record.specs.Meaning.{surfaceOf, unit_of};
+ghost use Rattle.record.specs.Meaning.{surface_of, unit_of};
 
 use crate::aerodrome::Unit;
 use crate::values::Number;
 
 // The pressure in hPa of the isobaric surface that the figure a of 4ahhh names; missing where it names none.
 pub fn isobaric_surface(a: u32) -> Number
-    ensures { result ≡ surfaceOf a }
+    ensures { result ≡ surface_of a }
 {
     if a == 1 {
         return Number::Is(1000);

@@ -2,10 +2,10 @@
 // Two to four tests of single values are joined by `&&`, nested to the right: such a method is proved with no file.
 ghost use Rattle.std.specs.Prelude.{◌≡◌, drop};
 ghost use Rattle.figures.specs.Figures.{every};
-ghost use Rattle.record.specs.SilentAerodrome.{noUnit, isBlankWind, noExtremes, no_view, noSide, noCourse, isBlankRunway, noRunways, noDepth, noCondition, isBlankState, noStates};
-ghost use Rattle.record.specs.SilentAerodrome.{noPhenomena, isBlankWeather, noWeathers};
-ghost use Rattle.record.specs.SilentAerodrome.{noAmount, noConvective, isBlankLayer, isLayers, noSky, noTemperatures, noStation, noInstant, noPeriod, noCorrection, noOpening};
-ghost use Rattle.record.specs.SilentAerodrome.{isBlankBody, isBlankChange, noChanges, noObservation, isBlankObservation, noHours, noTendency, isBlankTrendChange, noTrend, isBlankMetar, isPresent, isSameEdition, noHead, isBlankTaf};
+ghost use Rattle.record.specs.SilentAerodrome.{no_unit, is_blank_wind, no_extremes, no_view, no_side, no_course, is_blank_runway, no_runways, no_depth, no_condition, is_blank_state, no_states};
+ghost use Rattle.record.specs.SilentAerodrome.{no_phenomena, is_blank_weather, no_weathers};
+ghost use Rattle.record.specs.SilentAerodrome.{no_amount, no_convective, is_blank_layer, is_layers, no_sky, no_temperatures, no_station, no_instant, no_period, no_correction, no_opening};
+ghost use Rattle.record.specs.SilentAerodrome.{is_blank_body, is_blank_change, no_changes, no_observation, is_blank_observation, no_hours, no_tendency, is_blank_trend_change, no_trend, is_blank_metar, is_present, is_same_edition, no_head, is_blank_taf};
 
 use crate::aerodrome::{
     Amount, Body, Change, Changes, Condition, Convective, Correction, Course, Cover, Depth,
@@ -19,7 +19,7 @@ use crate::letters::are_blank_from;
 
 impl Unit {
     pub fn is_missing(self) -> bool
-        ensures { result ≡ noUnit self }
+        ensures { result ≡ no_unit self }
     {
         match self {
             Unit::Missing => true,
@@ -32,7 +32,7 @@ impl Unit {
 
 impl Wind {
     pub fn is_blank(self) -> bool
-        ensures { result ≡ isBlankWind self }
+        ensures { result ≡ is_blank_wind self }
     {
         let direction = self.direction;
         let speed = self.speed;
@@ -44,7 +44,7 @@ impl Wind {
 
 impl Extremes {
     pub fn is_missing(self) -> bool
-        ensures { result ≡ noExtremes self }
+        ensures { result ≡ no_extremes self }
     {
         match self {
             Extremes::Missing => true,
@@ -67,7 +67,7 @@ impl View {
 
 impl Side {
     pub fn is_none(self) -> bool
-        ensures { result ≡ noSide self }
+        ensures { result ≡ no_side self }
     {
         match self {
             Side::None => true,
@@ -80,7 +80,7 @@ impl Side {
 
 impl Course {
     pub fn is_none(self) -> bool
-        ensures { result ≡ noCourse self }
+        ensures { result ≡ no_course self }
     {
         match self {
             Course::None => true,
@@ -93,7 +93,7 @@ impl Course {
 
 impl Runway {
     pub fn is_blank(self) -> bool
-        ensures { result ≡ isBlankRunway self }
+        ensures { result ≡ is_blank_runway self }
     {
         let number = self.number;
         let side = self.side;
@@ -106,7 +106,7 @@ impl Runway {
 impl Runways {
     // The runways from number `from` on are blank.
     pub fn is_blank_from(self, from: usize) -> bool
-        ensures { result ≡ every isBlankRunway (drop from self.items) }
+        ensures { result ≡ every is_blank_runway (drop from self.items) }
     {
         let items = self.items;
         let mut i = from;
@@ -122,7 +122,7 @@ impl Runways {
     }
 
     pub fn is_blank(self) -> bool
-        ensures { result ≡ noRunways self }
+        ensures { result ≡ no_runways self }
     {
         (self.count == 0) & self.is_blank_from(0)
     }
@@ -132,7 +132,7 @@ impl Runways {
 
 impl Depth {
     pub fn is_missing(self) -> bool
-        ensures { result ≡ noDepth self }
+        ensures { result ≡ no_depth self }
     {
         match self {
             Depth::Missing => true,
@@ -145,7 +145,7 @@ impl Depth {
 impl Condition {
     // Not cleared, and nothing is said of a deposit.
     pub fn is_blank(self) -> bool
-        ensures { result ≡ noCondition self }
+        ensures { result ≡ no_condition self }
     {
         match self {
             Condition::Cleared => false,
@@ -164,7 +164,7 @@ impl Condition {
 
 impl RunwayState {
     pub fn is_blank(self) -> bool
-        ensures { result ≡ isBlankState self }
+        ensures { result ≡ is_blank_state self }
     {
         let runway = self.runway;
         let condition = self.condition;
@@ -175,7 +175,7 @@ impl RunwayState {
 impl RunwayStates {
     // The states from number `from` on are blank.
     pub fn is_blank_from(self, from: usize) -> bool
-        ensures { result ≡ every isBlankState (drop from self.items) }
+        ensures { result ≡ every is_blank_state (drop from self.items) }
     {
         let items = self.items;
         let mut i = from;
@@ -191,7 +191,7 @@ impl RunwayStates {
     }
 
     pub fn is_blank(self) -> bool
-        ensures { result ≡ noStates self }
+        ensures { result ≡ no_states self }
     {
         !self.snoclo & (self.count == 0) & self.is_blank_from(0)
     }
@@ -201,7 +201,7 @@ impl RunwayStates {
 
 impl Phenomena {
     pub fn is_missing(self) -> bool
-        ensures { result ≡ noPhenomena self }
+        ensures { result ≡ no_phenomena self }
     {
         match self {
             Phenomena::Missing => true,
@@ -212,7 +212,7 @@ impl Phenomena {
 
 impl Weather {
     pub fn is_blank(self) -> bool
-        ensures { result ≡ isBlankWeather self }
+        ensures { result ≡ is_blank_weather self }
     {
         let is = self.is;
         is.is_missing()
@@ -222,7 +222,7 @@ impl Weather {
 impl Weathers {
     // The weathers from number `from` on are blank.
     pub fn is_blank_from(self, from: usize) -> bool
-        ensures { result ≡ every isBlankWeather (drop from self.items) }
+        ensures { result ≡ every is_blank_weather (drop from self.items) }
     {
         let items = self.items;
         let mut i = from;
@@ -238,7 +238,7 @@ impl Weathers {
     }
 
     pub fn is_blank(self) -> bool
-        ensures { result ≡ noWeathers self }
+        ensures { result ≡ no_weathers self }
     {
         (self.count == 0) & self.is_blank_from(0)
     }
@@ -246,7 +246,7 @@ impl Weathers {
 
 impl Amount {
     pub fn is_none(self) -> bool
-        ensures { result ≡ noAmount self }
+        ensures { result ≡ no_amount self }
     {
         match self {
             Amount::None => true,
@@ -260,7 +260,7 @@ impl Amount {
 
 impl Convective {
     pub fn is_none(self) -> bool
-        ensures { result ≡ noConvective self }
+        ensures { result ≡ no_convective self }
     {
         match self {
             Convective::None => true,
@@ -272,7 +272,7 @@ impl Convective {
 
 impl Layer {
     pub fn is_blank(self) -> bool
-        ensures { result ≡ isBlankLayer self }
+        ensures { result ≡ is_blank_layer self }
     {
         let amount = self.amount;
         let height = self.height;
@@ -283,7 +283,7 @@ impl Layer {
 
 impl Cover {
     pub fn is_layers(self) -> bool
-        ensures { result ≡ isLayers self }
+        ensures { result ≡ is_layers self }
     {
         match self {
             Cover::Layers => true,
@@ -298,7 +298,7 @@ impl Cover {
 impl Sky {
     // The layers from number `from` on are blank.
     pub fn is_blank_from(self, from: usize) -> bool
-        ensures { result ≡ every isBlankLayer (drop from self.layers) }
+        ensures { result ≡ every is_blank_layer (drop from self.layers) }
     {
         let layers = self.layers;
         let mut i = from;
@@ -314,7 +314,7 @@ impl Sky {
     }
 
     pub fn is_blank(self) -> bool
-        ensures { result ≡ noSky self }
+        ensures { result ≡ no_sky self }
     {
         let cover = self.cover;
         let count = self.count;
@@ -326,7 +326,7 @@ impl Sky {
 
 impl Temperatures {
     pub fn is_blank(self) -> bool
-        ensures { result ≡ noTemperatures self }
+        ensures { result ≡ no_temperatures self }
     {
         let air = self.air;
         let dew = self.dew;
@@ -336,7 +336,7 @@ impl Temperatures {
 
 impl Station {
     pub fn is_blank(self) -> bool
-        ensures { result ≡ noStation self }
+        ensures { result ≡ no_station self }
     {
         let letters = self.letters;
         are_blank_from(&letters, 0)
@@ -345,7 +345,7 @@ impl Station {
 
 impl Instant {
     pub fn is_blank(self) -> bool
-        ensures { result ≡ noInstant self }
+        ensures { result ≡ no_instant self }
     {
         let day = self.day;
         let hour = self.hour;
@@ -356,7 +356,7 @@ impl Instant {
 
 impl Period {
     pub fn is_blank(self) -> bool
-        ensures { result ≡ noPeriod self }
+        ensures { result ≡ no_period self }
     {
         let from = self.from;
         let to = self.to;
@@ -366,7 +366,7 @@ impl Period {
 
 impl Correction {
     pub fn is_none(self) -> bool
-        ensures { result ≡ noCorrection self }
+        ensures { result ≡ no_correction self }
     {
         match self {
             Correction::None => true,
@@ -378,7 +378,7 @@ impl Correction {
 
 impl Opening {
     pub fn is_none(self) -> bool
-        ensures { result ≡ noOpening self }
+        ensures { result ≡ no_opening self }
     {
         match self {
             Opening::None => true,
@@ -395,7 +395,7 @@ impl Opening {
 
 impl Body {
     pub fn is_blank(self) -> bool
-        ensures { result ≡ isBlankBody self }
+        ensures { result ≡ is_blank_body self }
     {
         let wind = self.wind;
         let visibility = self.visibility;
@@ -409,7 +409,7 @@ impl Body {
 
 impl Change {
     pub fn is_blank(self) -> bool
-        ensures { result ≡ isBlankChange self }
+        ensures { result ≡ is_blank_change self }
     {
         let opening = self.opening;
         let period = self.period;
@@ -421,7 +421,7 @@ impl Change {
 impl Changes {
     // The changes from number `from` on are blank.
     pub fn is_blank_from(self, from: usize) -> bool
-        ensures { result ≡ every isBlankChange (drop from self.items) }
+        ensures { result ≡ every is_blank_change (drop from self.items) }
     {
         let items = self.items;
         let mut i = from;
@@ -437,7 +437,7 @@ impl Changes {
     }
 
     pub fn is_blank(self) -> bool
-        ensures { result ≡ noChanges self }
+        ensures { result ≡ no_changes self }
     {
         (self.count == 0) & self.is_blank_from(0)
     }
@@ -446,7 +446,7 @@ impl Changes {
 impl Observation {
     // Nothing stands after the time.
     pub fn has_no_observation(self) -> bool
-        ensures { result ≡ noObservation self }
+        ensures { result ≡ no_observation self }
     {
         let body = self.body;
         let variation = self.variation;
@@ -464,7 +464,7 @@ impl Observation {
     }
 
     pub fn is_blank(self) -> bool
-        ensures { result ≡ isBlankObservation self }
+        ensures { result ≡ is_blank_observation self }
     {
         let station = self.station;
         let time = self.time;
@@ -478,7 +478,7 @@ impl Observation {
 
 impl Hours {
     pub fn is_none(self) -> bool
-        ensures { result ≡ noHours self }
+        ensures { result ≡ no_hours self }
     {
         match self {
             Hours::None => true,
@@ -492,7 +492,7 @@ impl Hours {
 
 impl Tendency {
     pub fn is_none(self) -> bool
-        ensures { result ≡ noTendency self }
+        ensures { result ≡ no_tendency self }
     {
         match self {
             Tendency::None => true,
@@ -504,7 +504,7 @@ impl Tendency {
 
 impl TrendChange {
     pub fn is_blank(self) -> bool
-        ensures { result ≡ isBlankTrendChange self }
+        ensures { result ≡ is_blank_trend_change self }
     {
         let tendency = self.tendency;
         let times = self.times;
@@ -517,7 +517,7 @@ impl TrendChange {
 impl Trend {
     // The changes from number `from` on are blank.
     pub fn is_blank_from(self, from: usize) -> bool
-        ensures { result ≡ every isBlankTrendChange (drop from self.items) }
+        ensures { result ≡ every is_blank_trend_change (drop from self.items) }
     {
         let items = self.items;
         let mut i = from;
@@ -533,7 +533,7 @@ impl Trend {
     }
 
     pub fn is_blank(self) -> bool
-        ensures { result ≡ noTrend self }
+        ensures { result ≡ no_trend self }
     {
         !self.nosig & (self.count == 0) & self.is_blank_from(0)
     }
@@ -541,7 +541,7 @@ impl Trend {
 
 impl Metar {
     pub fn is_blank(self) -> bool
-        ensures { result ≡ isBlankMetar self }
+        ensures { result ≡ is_blank_metar self }
     {
         let observation = self.observation;
         let trend = self.trend;
@@ -552,7 +552,7 @@ impl Metar {
 impl Leg {
     // Nothing is said through the period.
     fn has_no_head(self) -> bool
-        ensures { result ≡ noHead self }
+        ensures { result ≡ no_head self }
     {
         let correction = self.correction;
         let station = self.station;
@@ -567,7 +567,7 @@ impl Leg {
 
 impl Edition {
     fn is_present(self) -> bool
-        ensures { result ≡ isPresent self }
+        ensures { result ≡ is_present self }
     {
         match self {
             Edition::Present => true,
@@ -576,7 +576,7 @@ impl Edition {
     }
 
     pub fn is_same(self, other: Edition) -> bool
-        ensures { result ≡ isSameEdition self other }
+        ensures { result ≡ is_same_edition self other }
     {
         match self {
             Edition::Present => match other {
@@ -593,7 +593,7 @@ impl Edition {
 
 impl Taf {
     pub fn is_blank(self) -> bool
-        ensures { result ≡ isBlankTaf self }
+        ensures { result ≡ is_blank_taf self }
     {
         let edition = self.edition;
         let leg = self.leg;

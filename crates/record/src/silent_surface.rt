@@ -2,9 +2,9 @@
 // Two to four tests of single values are joined by `&&`, nested to the right: such a method is proved with no file.
 ghost use Rattle.std.specs.Prelude.{◌≡◌, drop};
 ghost use Rattle.figures.specs.Figures.{every};
-ghost use Rattle.record.specs.Missing.{noLetters};
-ghost use Rattle.record.specs.SilentSurface.{noSign, noPosition, noTime, noSight, noIndicators, noWind, noMoist, noLevel, noChange, noFall, noWeather, noClouds, noClock};
-ghost use Rattle.record.specs.SilentSurface.{noHeight, isBlankLayer, noLayers, no_site, noSurface, noSection3, isBlankSynop};
+ghost use Rattle.record.specs.Missing.{no_letters};
+ghost use Rattle.record.specs.SilentSurface.{no_sign, no_position, no_time, no_sight, no_indicators, no_wind, no_moist, no_level, no_change, no_fall, no_weather, no_clouds, no_clock};
+ghost use Rattle.record.specs.SilentSurface.{no_height, is_blank_layer, no_layers, no_site, no_surface, no_section3, is_blank_synop};
 
 use crate::letters::are_blank_from;
 use crate::surface::{
@@ -15,14 +15,14 @@ use crate::surface::{
 impl CallSign {
     // The slots from number `from` on are blank.
     pub fn is_blank_from(self, from: usize) -> bool
-        ensures { result ≡ noLetters (drop from self.letters) }
+        ensures { result ≡ no_letters (drop from self.letters) }
     {
         let letters = self.letters;
         are_blank_from(&letters, from)
     }
 
     pub fn is_blank(self) -> bool
-        ensures { result ≡ noSign self }
+        ensures { result ≡ no_sign self }
     {
         (self.length == 0) & self.is_blank_from(0)
     }
@@ -30,7 +30,7 @@ impl CallSign {
 
 impl Position {
     pub fn is_blank(self) -> bool
-        ensures { result ≡ noPosition self }
+        ensures { result ≡ no_position self }
     {
         let latitude = self.latitude;
         let longitude = self.longitude;
@@ -40,7 +40,7 @@ impl Position {
 
 impl Time {
     pub fn is_blank(self) -> bool
-        ensures { result ≡ noTime self }
+        ensures { result ≡ no_time self }
     {
         let day = self.day;
         let hour = self.hour;
@@ -51,7 +51,7 @@ impl Time {
 
 impl Sight {
     pub fn is_missing(self) -> bool
-        ensures { result ≡ noSight self }
+        ensures { result ≡ no_sight self }
     {
         match self {
             Sight::Missing => true,
@@ -63,7 +63,7 @@ impl Sight {
 
 impl Indicators {
     pub fn is_blank(self) -> bool
-        ensures { result ≡ noIndicators self }
+        ensures { result ≡ no_indicators self }
     {
         let rain = self.rain;
         let weather = self.weather;
@@ -75,7 +75,7 @@ impl Indicators {
 
 impl Wind {
     pub fn is_blank(self) -> bool
-        ensures { result ≡ noWind self }
+        ensures { result ≡ no_wind self }
     {
         let cover = self.cover;
         let direction = self.direction;
@@ -86,7 +86,7 @@ impl Wind {
 
 impl Moist {
     pub fn is_missing(self) -> bool
-        ensures { result ≡ noMoist self }
+        ensures { result ≡ no_moist self }
     {
         match self {
             Moist::Missing => true,
@@ -98,7 +98,7 @@ impl Moist {
 
 impl AtLevel {
     pub fn is_missing(self) -> bool
-        ensures { result ≡ noLevel self }
+        ensures { result ≡ no_level self }
     {
         match self {
             AtLevel::Missing => true,
@@ -110,7 +110,7 @@ impl AtLevel {
 
 impl PressureChange {
     pub fn is_missing(self) -> bool
-        ensures { result ≡ noChange self }
+        ensures { result ≡ no_change self }
     {
         match self {
             PressureChange::Missing => true,
@@ -121,7 +121,7 @@ impl PressureChange {
 
 impl Fall {
     pub fn is_missing(self) -> bool
-        ensures { result ≡ noFall self }
+        ensures { result ≡ no_fall self }
     {
         match self {
             Fall::Missing => true,
@@ -132,7 +132,7 @@ impl Fall {
 
 impl Weather {
     pub fn is_blank(self) -> bool
-        ensures { result ≡ noWeather self }
+        ensures { result ≡ no_weather self }
     {
         let present = self.present;
         let past = self.past;
@@ -143,7 +143,7 @@ impl Weather {
 
 impl Clouds {
     pub fn is_blank(self) -> bool
-        ensures { result ≡ noClouds self }
+        ensures { result ≡ no_clouds self }
     {
         let amount = self.amount;
         let low = self.low;
@@ -155,7 +155,7 @@ impl Clouds {
 
 impl Observed {
     pub fn is_missing(self) -> bool
-        ensures { result ≡ noClock self }
+        ensures { result ≡ no_clock self }
     {
         match self {
             Observed::Missing => true,
@@ -166,7 +166,7 @@ impl Observed {
 
 impl BaseHeight {
     pub fn is_missing(self) -> bool
-        ensures { result ≡ noHeight self }
+        ensures { result ≡ no_height self }
     {
         match self {
             BaseHeight::Missing => true,
@@ -178,7 +178,7 @@ impl BaseHeight {
 
 impl CloudLayer {
     pub fn is_blank(self) -> bool
-        ensures { result ≡ isBlankLayer self }
+        ensures { result ≡ is_blank_layer self }
     {
         let amount = self.amount;
         let cloud = self.cloud;
@@ -190,7 +190,7 @@ impl CloudLayer {
 impl CloudLayers {
     // The layers from number `from` on are blank.
     pub fn is_blank_from(self, from: usize) -> bool
-        ensures { result ≡ every isBlankLayer (drop from self.items) }
+        ensures { result ≡ every is_blank_layer (drop from self.items) }
     {
         let items = self.items;
         let mut i = from;
@@ -206,7 +206,7 @@ impl CloudLayers {
     }
 
     pub fn is_blank(self) -> bool
-        ensures { result ≡ noLayers self }
+        ensures { result ≡ no_layers self }
     {
         (self.count == 0) & self.is_blank_from(0)
     }
@@ -214,7 +214,7 @@ impl CloudLayers {
 
 impl Section3 {
     pub fn is_blank(self) -> bool
-        ensures { result ≡ noSection3 self }
+        ensures { result ≡ no_section3 self }
     {
         let maximum = self.maximum;
         let highest = maximum.temperature;
@@ -227,7 +227,7 @@ impl Section3 {
 
 impl Surface {
     pub fn is_blank(self) -> bool
-        ensures { result ≡ noSurface self }
+        ensures { result ≡ no_surface self }
     {
         let indicators = self.indicators;
         let wind = self.wind;
@@ -269,7 +269,7 @@ impl Site {
 
 impl Synop {
     pub fn is_blank(self) -> bool
-        ensures { result ≡ isBlankSynop self }
+        ensures { result ≡ is_blank_synop self }
     {
         let site = self.site;
         let surface = self.surface;

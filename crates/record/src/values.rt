@@ -1,6 +1,6 @@
 // Values that may be missing.
 ghost use Rattle.std.specs.Prelude.{◌≡◌, leb};
-ghost use Rattle.record.specs.Missing.{isMissing, between, present, optional, noTenths, noDirection, noSpeed, isStill};
+ghost use Rattle.record.specs.Missing.{is_missing, between, present, optional, no_tenths, no_direction, no_speed, is_still};
 
 // A whole number.
 #[derive(Drop)]
@@ -35,7 +35,7 @@ pub enum Speed {
 
 impl Number {
     pub fn is_missing(self) -> bool
-        ensures { result ≡ isMissing self }
+        ensures { result ≡ is_missing self }
     {
         match self {
             Number::Missing => true,
@@ -76,7 +76,7 @@ impl Number {
 
 impl Tenths {
     pub fn is_missing(self) -> bool
-        ensures { result ≡ noTenths self }
+        ensures { result ≡ no_tenths self }
     {
         match self {
             Tenths::Missing => true,
@@ -87,7 +87,7 @@ impl Tenths {
 
 impl Direction {
     pub fn is_missing(self) -> bool
-        ensures { result ≡ noDirection self }
+        ensures { result ≡ no_direction self }
     {
         match self {
             Direction::Missing => true,
@@ -100,7 +100,7 @@ impl Direction {
 
 impl Speed {
     pub fn is_missing(self) -> bool
-        ensures { result ≡ noSpeed self }
+        ensures { result ≡ no_speed self }
     {
         match self {
             Speed::Missing => true,
@@ -111,7 +111,7 @@ impl Speed {
 
     // A speed of zero, which goes with calm.
     pub fn is_still(self) -> bool
-        ensures { result ≡ isStill self }
+        ensures { result ≡ is_still self }
     {
         match self {
             Speed::Missing => false,

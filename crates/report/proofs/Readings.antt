@@ -6,8 +6,8 @@ use mathlib.Core.Bool.{Bool}
 use mathlib.Core.List.{List}
 use lib.ListN.{length}
 use Rattle.text.specs.declared.kinds.Refusal.{Refusal}
-use Rattle.text.specs.Groups.{groupsFrom}
-use Rattle.text.specs.Text.{tailOf}
+use Rattle.text.specs.Groups.{groups_from}
+use Rattle.text.specs.Text.{tail_of}
 use Rattle.places.specs.Engine.{Outcome, Done, Fault}
 use Rattle.record.specs.declared.surface.Synop.{Synop}
 use Rattle.record.specs.declared.aerodrome.Metar.{Metar}
@@ -24,21 +24,21 @@ use Rattle.taf.proofs.Turns as taf-turns
 use Rattle.record.specs.declared.aerodrome.Edition.{Edition}
 use Rattle.report_record.specs.declared.kinds.Name.{Name}
 use Rattle.report_record.specs.declared.kinds.Name.TheVariants as name
-use Rattle.report_record.specs.Record.{surfaceReport, observedReport, forecastReport, ofSurface, ofObserved, ofForecast, refused}
-use Rattle.report.specs.Read.{answered, readAs, name_of, readIn}
+use Rattle.report_record.specs.Record.{surface_report, observed_report, forecast_report, of_surface, of_observed, of_forecast, refused}
+use Rattle.report.specs.Read.{answered, read_as, name_of, read_in}
 use Rattle.report.proofs.Names.{Says, name-says}
 
 -- ---- a kind's answer as that of a report: the record of a refused text is blank already
 
-surface-answer : (o : Outcome Synop) → ofSurface (surface.answer o).verdict (surface.answer o).report ≡ answered surfaceReport o
+surface-answer : (o : Outcome Synop) → of_surface (surface.answer o).verdict (surface.answer o).report ≡ answered surface_report o
 surface-answer (Done rest r) = refl
 surface-answer (Fault f at) = refl
 
-observed-answer : (o : Outcome Metar) → ofObserved (metar.answer o).verdict (metar.answer o).report ≡ answered observedReport o
+observed-answer : (o : Outcome Metar) → of_observed (metar.answer o).verdict (metar.answer o).report ≡ answered observed_report o
 observed-answer (Done rest r) = refl
 observed-answer (Fault f at) = refl
 
-forecast-answer : (o : Outcome Taf) → ofForecast (taf.answer o).verdict (taf.answer o).report ≡ answered forecastReport o
+forecast-answer : (o : Outcome Taf) → of_forecast (taf.answer o).verdict (taf.answer o).report ≡ answered forecast_report o
 forecast-answer (Done rest r) = refl
 forecast-answer (Fault f at) = refl
 
@@ -50,37 +50,37 @@ module _ (e : Edition) (t : List ℕ) where
 
   -- behind METAR or SPECI, behind TAF
   past-observed : (special : Bool) (at : ℕ) → name_of t ≡ name.Observed special at
-      → metar.groupsRead (tailOf t) (length t) (groupsFrom t 0) ≡ metar.behindName special (tailOf t) (length t) (groupsFrom t at)
+      → metar.groups_read (tail_of t) (length t) (groups_from t 0) ≡ metar.behind_name special (tail_of t) (length t) (groups_from t at)
   past-observed special at is =
       let (n, behind) = says (name.Observed special at) is in
-      rw (n.groups, behind) (metar-steps.past-name special (tailOf t) (length t) n.first n.others n.named)
+      rw (n.groups, behind) (metar-steps.past-name special (tail_of t) (length t) n.first n.others n.named)
 
   past-forecast : (at : ℕ) → name_of t ≡ name.Forecast at
-      → taf.groupsRead e (tailOf t) (length t) (groupsFrom t 0) ≡ taf.behindName e (tailOf t) (length t) (groupsFrom t at)
+      → taf.groups_read e (tail_of t) (length t) (groups_from t 0) ≡ taf.behind_name e (tail_of t) (length t) (groups_from t at)
   past-forecast at is =
       let (n, behind) = says (name.Forecast at) is in
-      rw (n.groups, behind) (taf-turns.past-name e (tailOf t) (length t) n.first n.others n.named)
+      rw (n.groups, behind) (taf-turns.past-name e (tail_of t) (length t) n.first n.others n.named)
 
-  by_name : (n : Name) → name_of t ≡ n → readAs e t n ≡ readIn e t
-  unfolding readIn
+  by_name : (n : Name) → name_of t ≡ n → read_as e t n ≡ read_in e t
+  unfolding read_in
   by_name n is = rw is
 
   -- WHAT A KIND'S READER ANSWERS, from behind the name on, the text is read as.
   pub as-surface : (ship : Bool) (at : ℕ) → name_of t ≡ name.Surface ship at → {a : SynopReading}
-      → a ≡ surface.answer (synop.groupsRead ship (tailOf t) (length t) (groupsFrom t at))
-      → ofSurface a.verdict a.report ≡ readIn e t
-  as-surface ship at is said = rw said (surface-answer (synop.groupsRead ship (tailOf t) (length t) (groupsFrom t at)) ∙ by_name (name.Surface ship at) is)
+      → a ≡ surface.answer (synop.groups_read ship (tail_of t) (length t) (groups_from t at))
+      → of_surface a.verdict a.report ≡ read_in e t
+  as-surface ship at is said = rw said (surface-answer (synop.groups_read ship (tail_of t) (length t) (groups_from t at)) ∙ by_name (name.Surface ship at) is)
 
   pub as-observed : (special : Bool) (at : ℕ) → name_of t ≡ name.Observed special at → {a : MetarReading}
-      → a ≡ metar.answer (metar.behindName special (tailOf t) (length t) (groupsFrom t at))
-      → ofObserved a.verdict a.report ≡ readIn e t
+      → a ≡ metar.answer (metar.behind_name special (tail_of t) (length t) (groups_from t at))
+      → of_observed a.verdict a.report ≡ read_in e t
   as-observed special at is said =
-      rw (said, ← past-observed special at is) (observed-answer (metar.groupsRead (tailOf t) (length t) (groupsFrom t 0)) ∙ by_name (name.Observed special at) is)
+      rw (said, ← past-observed special at is) (observed-answer (metar.groups_read (tail_of t) (length t) (groups_from t 0)) ∙ by_name (name.Observed special at) is)
 
   pub as-forecast : (at : ℕ) → name_of t ≡ name.Forecast at → {a : TafReading}
-      → a ≡ taf.answer (taf.behindName e (tailOf t) (length t) (groupsFrom t at))
-      → ofForecast a.verdict a.report ≡ readIn e t
-  as-forecast at is said = rw (said, ← past-forecast at is) (forecast-answer (taf.groupsRead e (tailOf t) (length t) (groupsFrom t 0)) ∙ by_name (name.Forecast at) is)
+      → a ≡ taf.answer (taf.behind_name e (tail_of t) (length t) (groups_from t at))
+      → of_forecast a.verdict a.report ≡ read_in e t
+  as-forecast at is said = rw (said, ← past-forecast at is) (forecast-answer (taf.groups_read e (tail_of t) (length t) (groups_from t 0)) ∙ by_name (name.Forecast at) is)
 
-  pub as-refused : (f : Refusal) (at : ℕ) → name_of t ≡ name.Refused f at → refused f at ≡ readIn e t
+  pub as-refused : (f : Refusal) (at : ℕ) → name_of t ≡ name.Refused f at → refused f at ≡ read_in e t
   as-refused f at is = by_name (name.Refused f at) is

@@ -9,28 +9,28 @@ use Rattle.text.specs.declared.kinds.Refusal.TheVariants as refusal
 use Rattle.text.specs.declared.kinds.Judged.{Judged}
 use Rattle.text.specs.declared.kinds.Written.{Written}
 use Rattle.text.specs.declared.kinds.Written.TheVariants as answer
-use Rattle.text.specs.Write.{answerBy, bufferBy}
+use Rattle.text.specs.Write.{answer_by, buffer_by}
 use Rattle.record.specs.declared.aerodrome.Edition.{Edition}
 use Rattle.report_record.specs.declared.kinds.Kind.{Kind}
 use Rattle.report_record.specs.declared.kinds.Kind.TheVariants as kind
 use Rattle.report_record.specs.declared.kinds.Report.{Report}
-use Rattle.report.specs.Write.{afterForeign, written_by, bufferAfter, writtenIn, bufferIn}
+use Rattle.report.specs.Write.{after_foreign, written_by, buffer_after, written_in, buffer_in}
 
 module _ (own : Judged) (text b : List ℕ) {x y : Bool} (m n : Bool) (p : x ≡ m) (q : y ≡ n) where
-  pub own-written : (x && y) ≡ true → {w : Written} {e : List ℕ} → (w ≡ answerBy own text (length b)) × (e ≡ bufferBy own text b)
-      → (w ≡ answerBy (afterForeign (m && n) own) text (length b)) × (e ≡ bufferBy (afterForeign (m && n) own) text b)
+  pub own-written : (x && y) ≡ true → {w : Written} {e : List ℕ} → (w ≡ answer_by own text (length b)) × (e ≡ buffer_by own text b)
+      → (w ≡ answer_by (after_foreign (m && n) own) text (length b)) × (e ≡ buffer_by (after_foreign (m && n) own) text b)
   own-written t d = rw (← p, ← q, t) d
 
   pub foreign-refused : (x && y) ≡ false
-      → (answer.Refused refusal.Value ≡ answerBy (afterForeign (m && n) own) text (length b)) × (b ≡ bufferBy (afterForeign (m && n) own) text b)
+      → (answer.Refused refusal.Value ≡ answer_by (after_foreign (m && n) own) text (length b)) × (b ≡ buffer_by (after_foreign (m && n) own) text b)
   foreign-refused t = rw (← p, ← q, t) (refl, refl)
 
 -- a record is written by its kind; without one it is refused
 module _ (e : Edition) (r : Report) (b : List ℕ) where
-  pub by_kind : (k : Kind) → r.kind ≡ k → {w : Written} {l : List ℕ} → (w ≡ written_by e k r (length b)) × (l ≡ bufferAfter e k r b)
-      → (w ≡ writtenIn e r (length b)) × (l ≡ bufferIn e r b)
-  unfolding writtenIn bufferIn
-  by_kind k is (p, q) = (p ∙ ap (λ (j : Kind). written_by e j r (length b)) (sym is), q ∙ ap (λ (j : Kind). bufferAfter e j r b) (sym is))
+  pub by_kind : (k : Kind) → r.kind ≡ k → {w : Written} {l : List ℕ} → (w ≡ written_by e k r (length b)) × (l ≡ buffer_after e k r b)
+      → (w ≡ written_in e r (length b)) × (l ≡ buffer_in e r b)
+  unfolding written_in buffer_in
+  by_kind k is (p, q) = (p ∙ ap (λ (j : Kind). written_by e j r (length b)) (sym is), q ∙ ap (λ (j : Kind). buffer_after e j r b) (sym is))
 
-  pub no_kind : r.kind ≡ kind.Missing → (answer.Refused refusal.Value ≡ writtenIn e r (length b)) × (b ≡ bufferIn e r b)
+  pub no_kind : r.kind ≡ kind.Missing → (answer.Refused refusal.Value ≡ written_in e r (length b)) × (b ≡ buffer_in e r b)
   no_kind is = by_kind kind.Missing is (refl, refl)

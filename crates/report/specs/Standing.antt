@@ -7,11 +7,11 @@ use Rattle.text.specs.Part.{PartAt}
 use Rattle.text.specs.Text.{TrimmedPart}
 use Rattle.report_record.specs.declared.kinds.Stands.{Stands}
 use Rattle.report_record.specs.declared.kinds.Stands.TheVariants as stands
-use Rattle.report_record.specs.Kinship.{judgeStanding}
+use Rattle.report_record.specs.Kinship.{judge_standing}
 use Rattle.report.specs.Read.{read_of}
 
-unfoldable pub standsOf : List ℕ → List ℕ → Stands
-standsOf first second = judgeStanding (read_of first).report (read_of second).report
+unfoldable pub stands_of : List ℕ → List ℕ → Stands
+stands_of first second = judge_standing (read_of first).report (read_of second).report
 
 -- "It runs from the first group's first byte through the first "=" or, without one, the last group, and is a part of whichever text it stands in."
 -- Where neither stands it is the empty part at the first one's end. Two texts with the same bytes are told apart: r lies in the one that stands.

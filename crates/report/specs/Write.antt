@@ -6,75 +6,75 @@ use Rattle.text.specs.declared.kinds.Judged.{Judged}
 use Rattle.text.specs.declared.kinds.Judged.TheVariants as judged
 use Rattle.text.specs.declared.kinds.Written.{Written}
 use Rattle.text.specs.Judge.{judge, and_then}
-use Rattle.text.specs.Write.{answerBy, bufferBy}
+use Rattle.text.specs.Write.{answer_by, buffer_by}
 use Rattle.record.specs.declared.aerodrome.Edition.{Edition}
 use Rattle.record.specs.declared.aerodrome.Edition.TheVariants as edition
 use Rattle.report_record.specs.declared.kinds.Kind.{Kind}
 use Rattle.report_record.specs.declared.kinds.Kind.TheVariants as kind
 use Rattle.report_record.specs.declared.kinds.Report.{Report}
-use Rattle.record.specs.SilentSurface.{isBlankSynop}
-use Rattle.record.specs.SilentAerodrome.{isBlankMetar, isBlankTaf}
+use Rattle.record.specs.SilentSurface.{is_blank_synop}
+use Rattle.record.specs.SilentAerodrome.{is_blank_metar, is_blank_taf}
 use Rattle.synop.specs.Write as synop
 use Rattle.metar.specs.Write as metar
 use Rattle.taf.specs.Write as taf
 
 -- WHAT THE WRITER JUDGES: "foreign fields first", the parts of the other kinds, then the kind's own part; of no kind, "a required one missing"
-abbrev pub afterForeign : Bool → Judged → Judged
-afterForeign blank own = and_then (judge blank true) own
+abbrev pub after_foreign : Bool → Judged → Judged
+after_foreign blank own = and_then (judge blank true) own
 
-abbrev pub judgeBy : Edition → Kind → Report → Judged
-judgeBy e kind.Missing r = judged.Refused refusal.Value
-judgeBy e kind.Surface r = afterForeign (isBlankMetar r.observed && isBlankTaf r.forecast) (synop.judgeOf r.surface)
-judgeBy e kind.Observed r = afterForeign (isBlankSynop r.surface && isBlankTaf r.forecast) (metar.judgeOf r.observed)
-judgeBy e kind.Forecast r = afterForeign (isBlankSynop r.surface && isBlankMetar r.observed) (taf.judgeIn e r.forecast)
+abbrev pub judge_by : Edition → Kind → Report → Judged
+judge_by e kind.Missing r = judged.Refused refusal.Value
+judge_by e kind.Surface r = after_foreign (is_blank_metar r.observed && is_blank_taf r.forecast) (synop.judge_of r.surface)
+judge_by e kind.Observed r = after_foreign (is_blank_synop r.surface && is_blank_taf r.forecast) (metar.judge_of r.observed)
+judge_by e kind.Forecast r = after_foreign (is_blank_synop r.surface && is_blank_metar r.observed) (taf.judge_in e r.forecast)
 
 -- a TAF in the edition "chosen by the caller (the present one if none is named)"
-unfoldable pub judgeIn : Edition → Report → Judged
-judgeIn e r = judgeBy e r.kind r
+unfoldable pub judge_in : Edition → Report → Judged
+judge_in e r = judge_by e r.kind r
 
-abbrev pub judgeOf : Report → Judged
-judgeOf r = judgeIn edition.Present r
+abbrev pub judge_of : Report → Judged
+judge_of r = judge_in edition.Present r
 
 -- THE CANONICAL TEXT, a TAF's in the edition that its record names
-abbrev pub canonicalBy : Kind → Report → List ℕ
-canonicalBy kind.Missing r = []
-canonicalBy kind.Surface r = synop.canonicalOf r.surface
-canonicalBy kind.Observed r = metar.canonicalOf r.observed
-canonicalBy kind.Forecast r = taf.canonicalOf r.forecast
+abbrev pub canonical_by : Kind → Report → List ℕ
+canonical_by kind.Missing r = []
+canonical_by kind.Surface r = synop.canonical_of r.surface
+canonical_by kind.Observed r = metar.canonical_of r.observed
+canonical_by kind.Forecast r = taf.canonical_of r.forecast
 
-unfoldable pub canonicalOf : Report → List ℕ
-canonicalOf r = canonicalBy r.kind r
+unfoldable pub canonical_of : Report → List ℕ
+canonical_of r = canonical_by r.kind r
 
 -- the record that it is read back as: each rounded number the reading of its class, all else as it is
-abbrev pub classedBy : Kind → Report → Report
-classedBy kind.Missing r = r
-classedBy kind.Surface r = record { kind = kind.Surface; surface = synop.classedOf r.surface; observed = r.observed; forecast = r.forecast }
-classedBy kind.Observed r = record { kind = kind.Observed; surface = r.surface; observed = metar.classedOf r.observed; forecast = r.forecast }
-classedBy kind.Forecast r = record { kind = kind.Forecast; surface = r.surface; observed = r.observed; forecast = taf.classedOf r.forecast }
+abbrev pub classed_by : Kind → Report → Report
+classed_by kind.Missing r = r
+classed_by kind.Surface r = record { kind = kind.Surface; surface = synop.classed_of r.surface; observed = r.observed; forecast = r.forecast }
+classed_by kind.Observed r = record { kind = kind.Observed; surface = r.surface; observed = metar.classed_of r.observed; forecast = r.forecast }
+classed_by kind.Forecast r = record { kind = kind.Forecast; surface = r.surface; observed = r.observed; forecast = taf.classed_of r.forecast }
 
-unfoldable pub classedOf : Report → Report
-classedOf r = classedBy r.kind r
+unfoldable pub classed_of : Report → Report
+classed_of r = classed_by r.kind r
 
 -- ---- the writer's answer, and the lent buffer afterwards
 
 abbrev pub written_by : Edition → Kind → Report → ℕ → Written
-written_by e k r room = answerBy (judgeBy e k r) (canonicalBy k r) room
+written_by e k r room = answer_by (judge_by e k r) (canonical_by k r) room
 
-abbrev pub bufferAfter : Edition → Kind → Report → List ℕ → List ℕ
-bufferAfter e k r b = bufferBy (judgeBy e k r) (canonicalBy k r) b
+abbrev pub buffer_after : Edition → Kind → Report → List ℕ → List ℕ
+buffer_after e k r b = buffer_by (judge_by e k r) (canonical_by k r) b
 
 -- of a kind that has one edition, whatever edition is named: the answer w, and the buffer b afterwards, l
 abbrev pub WrittenAnyway : Kind → Report → List ℕ → Written → List ℕ → Type 0
-WrittenAnyway k r b w l = (e : Edition) → (w ≡ written_by e k r (length b)) × (l ≡ bufferAfter e k r b)
+WrittenAnyway k r b w l = (e : Edition) → (w ≡ written_by e k r (length b)) × (l ≡ buffer_after e k r b)
 
-unfoldable pub writtenIn : Edition → Report → ℕ → Written
-writtenIn e r room = written_by e r.kind r room
+unfoldable pub written_in : Edition → Report → ℕ → Written
+written_in e r room = written_by e r.kind r room
 
-unfoldable pub bufferIn : Edition → Report → List ℕ → List ℕ
-bufferIn e r b = bufferAfter e r.kind r b
+unfoldable pub buffer_in : Edition → Report → List ℕ → List ℕ
+buffer_in e r b = buffer_after e r.kind r b
 
 abbrev pub written_of : Report → ℕ → Written
-written_of r room = writtenIn edition.Present r room
+written_of r room = written_in edition.Present r room
 
-abbrev pub bufferOf : Report → List ℕ → List ℕ
-bufferOf r b = bufferIn edition.Present r b
+abbrev pub buffer_of : Report → List ℕ → List ℕ
+buffer_of r b = buffer_in edition.Present r b

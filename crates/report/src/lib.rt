@@ -2,11 +2,11 @@
 // a record into a lent buffer, `standing` hands back the one of two texts that stands.
 ghost use Rattle.std.specs.Prelude.{◌≡◌, length};
 ghost use Rattle.report_record.specs.declared.kinds.Kind.TheVariants as kind;
-ghost use Rattle.text.specs.Groups.{groupsFrom};
+ghost use Rattle.text.specs.Groups.{groups_from};
 ghost use Rattle.text.specs.Part.{PartAt};
-ghost use Rattle.report.specs.Read.{nameBy, firstName, name_of, readIn, read_of, restPlaceIn, restPlace};
-ghost use Rattle.report.specs.Write.{written_by, bufferAfter, WrittenAnyway, writtenIn, bufferIn, written_of, bufferOf};
-ghost use Rattle.report.specs.Standing.{standsOf, PartStanding};
+ghost use Rattle.report.specs.Read.{name_by, first_name, name_of, read_in, read_of, rest_place_in, rest_place};
+ghost use Rattle.report.specs.Write.{written_by, buffer_after, WrittenAnyway, written_in, buffer_in, written_of, buffer_of};
+ghost use Rattle.report.specs.Standing.{stands_of, PartStanding};
 
 use record::aerodrome::Edition;
 use report_record::kinds::{Kind, Name, Reading, Report, Stands};
@@ -18,7 +18,7 @@ use text::kinds::{Bytes, Cut, Refusal, Verdict, Written};
 
 // What the first group names; it stands at `place`, and `at` is where it ends.
 fn name_group(g: &[u8], place: usize, at: usize) -> Name
-    ensures { result ≡ nameBy g.now place at }
+    ensures { result ≡ name_by g.now place at }
 {
     if has_pattern(g, b"AAXX") {
         return Name::Surface { ship: false, at };
@@ -42,7 +42,7 @@ fn name_group(g: &[u8], place: usize, at: usize) -> Name
 }
 
 fn name_first(text: &[u8]) -> Name
-    ensures { result ≡ firstName (groupsFrom text.now 0) }
+    ensures { result ≡ first_name (groups_from text.now 0) }
 {
     let first = text::next_group(text, 0);
     match first {
@@ -75,7 +75,7 @@ pub fn name(text: &[u8]) -> Name
 
 // What a text says, a TAF in the edition that is named, or the first fault and its place with a blank record.
 pub fn read_in(edition: Edition, text: &[u8]) -> Reading
-    ensures { result ≡ readIn edition text.now }
+    ensures { result ≡ read_in edition text.now }
 {
     let named = name(text);
     match named {
@@ -107,7 +107,7 @@ pub fn read(text: &[u8]) -> Reading
 
 // Whether a text is accepted, and where its unread rest begins, or its refusal and place: what `read_in` answers, without the record.
 pub fn verdict_in(edition: Edition, text: &[u8]) -> Verdict
-    ensures { result ≡ (readIn edition text.now).verdict }
+    ensures { result ≡ (read_in edition text.now).verdict }
 {
     let named = name(text);
     match named {
@@ -135,7 +135,7 @@ pub fn verdict_of(text: &[u8]) -> Verdict
 
 // Where the unread rest begins: at the text's end where there is none, or the text is refused.
 pub fn rest_place_in(edition: Edition, text: &[u8]) -> usize
-    ensures { result ≡ restPlaceIn edition text.now }
+    ensures { result ≡ rest_place_in edition text.now }
 {
     let verdict = verdict_in(edition, text);
     match verdict {
@@ -148,14 +148,14 @@ pub fn rest_place_in(edition: Edition, text: &[u8]) -> usize
 }
 
 pub fn rest_place(text: &[u8]) -> usize
-    ensures { result ≡ restPlace text.now }
+    ensures { result ≡ rest_place text.now }
 {
     rest_place_in(Edition::Present, text)
 }
 
 // The unread rest, where it lies in the caller's text: from its place to the text's end.
 pub fn rest_in(edition: Edition, text: &[u8]) -> &[u8]
-    ensures { PartAt text.entry result (restPlaceIn edition text.now) (length text.now) }
+    ensures { PartAt text.entry result (rest_place_in edition text.now) (length text.now) }
 {
     let place = rest_place_in(edition, text);
     let end = text.len();
@@ -163,7 +163,7 @@ pub fn rest_in(edition: Edition, text: &[u8]) -> &[u8]
 }
 
 pub fn rest(text: &[u8]) -> &[u8]
-    ensures { PartAt text.entry result (restPlace text.now) (length text.now) }
+    ensures { PartAt text.entry result (rest_place text.now) (length text.now) }
 {
     rest_in(Edition::Present, text)
 }
@@ -189,7 +189,7 @@ fn write_observed(report: Report, out: &mut [u8]) -> Written
 }
 
 fn write_forecast(edition: Edition, report: Report, out: &mut [u8]) -> Written
-    ensures { (result ≡ written_by edition kind.Forecast report (length out.old)) × (out.new ≡ bufferAfter edition kind.Forecast report out.old) }
+    ensures { (result ≡ written_by edition kind.Forecast report (length out.old)) × (out.new ≡ buffer_after edition kind.Forecast report out.old) }
 {
     if report.surface.is_blank() & report.observed.is_blank() {
         return taf_write::write::write_in(edition, report.forecast, out);
@@ -199,7 +199,7 @@ fn write_forecast(edition: Edition, report: Report, out: &mut [u8]) -> Written
 
 // The record's canonical text goes into the lent buffer, or the buffer stays as it came. A TAF of another edition than the one that is named is refused.
 pub fn write_in(edition: Edition, report: Report, out: &mut [u8]) -> Written
-    ensures { (result ≡ writtenIn edition report (length out.old)) × (out.new ≡ bufferIn edition report out.old) }
+    ensures { (result ≡ written_in edition report (length out.old)) × (out.new ≡ buffer_in edition report out.old) }
 {
     let kind = report.kind;
     match kind {
@@ -211,7 +211,7 @@ pub fn write_in(edition: Edition, report: Report, out: &mut [u8]) -> Written
 }
 
 pub fn write(report: Report, out: &mut [u8]) -> Written
-    ensures { (result ≡ written_of report (length out.old)) × (out.new ≡ bufferOf report out.old) }
+    ensures { (result ≡ written_of report (length out.old)) × (out.new ≡ buffer_of report out.old) }
 {
     write_in(Edition::Present, report, out)
 }
@@ -220,7 +220,7 @@ pub fn write(report: Report, out: &mut [u8]) -> Written
 
 // Which of the two it is.
 pub fn which_stands(first: &[u8], second: &[u8]) -> Stands
-    ensures { result ≡ standsOf first.now second.now }
+    ensures { result ≡ stands_of first.now second.now }
 {
     let before = read(first);
     let after = read(second);
@@ -229,7 +229,7 @@ pub fn which_stands(first: &[u8], second: &[u8]) -> Stands
 
 // The standing text's trimmed part, a part of whichever it stands in; where neither stands, the empty part at the first one's end.
 pub fn standing<'a>(first: &'a [u8], second: &'a [u8]) -> &'a [u8]
-    ensures { PartStanding (standsOf first.now second.now) first.entry second.entry result }
+    ensures { PartStanding (stands_of first.now second.now) first.entry second.entry result }
 {
     let stands = which_stands(first, second);
     match stands {

@@ -4,8 +4,8 @@ use mathlib.Core.Path.{◌≡◌, refl}
 use mathlib.Core.Bool.{true, false, cond}
 use mathlib.Core.List.{List, [], ◌∷◌, map}
 use lib.IntN.{pos}
-use Rattle.scales.specs.Scale.{run, classIn}
-use Rattle.scales.specs.Layers.{layerSteps}
+use Rattle.scales.specs.Scale.{run, class_in}
+use Rattle.scales.specs.Layers.{layer_steps}
 use Rattle.record.specs.declared.values.Number.TheVariants as number
 use Rattle.record.specs.declared.values.Tenths.TheVariants as tenths
 use Rattle.record.specs.declared.values.Direction.TheVariants as direction
@@ -18,12 +18,12 @@ use Rattle.record.specs.declared.aerodrome.Leg.{Leg}
 use Rattle.record.specs.declared.aerodrome.Edition.{Edition}
 use Rattle.record.specs.declared.aerodrome.Edition.TheVariants as edition
 use Rattle.record.specs.declared.aerodrome.Taf.{Taf}
-use Rattle.record.specs.Blank.{blankLayer, blankSynop}
-use Rattle.record.specs.Trend.{blankMetar}
-use Rattle.record.specs.Taf.{blankTaf, setNil, setPeriod, setCancelled}
-use Rattle.record.specs.SilentAerodrome.{isBlankBody}
-use Rattle.synop_row.specs.Row.{needsOf}
-use Rattle.report_record.specs.Record.{blankReport}
+use Rattle.record.specs.Blank.{blank_layer, blank_synop}
+use Rattle.record.specs.Trend.{blank_metar}
+use Rattle.record.specs.Taf.{blank_taf, set_nil, set_period, set_cancelled}
+use Rattle.record.specs.SilentAerodrome.{is_blank_body}
+use Rattle.synop_row.specs.Row.{needs_of}
+use Rattle.report_record.specs.Record.{blank_report}
 use Rattle.report_laws.proofs.Listed.{ListedCause, outside-its-range, required-missing, slot-past-its-count, foreign, disagreeing, Asked, asked}
 use Rattle.report_laws.proofs.SurfaceCauses as surface
 use Rattle.report_laws.proofs.AerodromeCauses as shared
@@ -39,46 +39,46 @@ holding [] = []
 holding (asked c h ∷ qs) = cond h (c ∷ holding qs) (holding qs)
 
 -- a record without a kind, in either edition; a SYNOP, a METAR and a TAF of which nothing is said
-pub blank-causes : (e : Edition) → holding (report.causesIn e blankReport) ≡ required-missing report.kind-of-report ∷ []
+pub blank-causes : (e : Edition) → holding (report.causes_in e blank_report) ≡ required-missing report.kind-of-report ∷ []
 blank-causes e = refl
 
-pub blank-surface : holding (surface.causesOf blankSynop)
+pub blank-surface : holding (surface.causes_of blank_synop)
     ≡ required-missing surface.day ∷ required-missing surface.hour ∷ required-missing surface.speed-unit ∷ required-missing surface.station
     ∷ required-missing surface.rain-indicator ∷ required-missing surface.weather-indicator ∷ []
-unfolding needsOf
+unfolding needs_of
 blank-surface = refl
 
-pub blank-observed : holding (observed.causesOf blankMetar)
+pub blank-observed : holding (observed.causes_of blank_metar)
     ≡ required-missing observed.station ∷ required-missing (observed.time shared.day) ∷ required-missing (observed.time shared.hour) ∷ required-missing (observed.time shared.minute)
     ∷ required-missing (observed.observed-body shared.wind-unit) ∷ []
-unfolding isBlankBody
+unfolding is_blank_body
 blank-observed = refl
 
-pub blank-forecast : holding (forecast.causesIn edition.Present blankTaf)
+pub blank-forecast : holding (forecast.causes_in edition.Present blank_taf)
     ≡ required-missing forecast.station ∷ required-missing (forecast.time shared.day) ∷ required-missing (forecast.time shared.hour) ∷ required-missing (forecast.time shared.minute)
     ∷ required-missing (forecast.main (forecast.from shared.day)) ∷ required-missing (forecast.main (forecast.from shared.hour))
     ∷ required-missing (forecast.main (forecast.to shared.day)) ∷ required-missing (forecast.main (forecast.to shared.hour))
     ∷ required-missing (forecast.main (forecast.of-body shared.wind-unit)) ∷ required-missing (forecast.main (forecast.of-body shared.wind))
     ∷ required-missing (forecast.main (forecast.of-body shared.visibility)) ∷ []
-unfolding isBlankBody
+unfolding is_blank_body
 blank-forecast = refl
 
 -- a wind of METAR, calm with 200 knots: out of range, and calm with a speed
 abbrev blowing : Wind
 blowing = record { direction = direction.Calm; speed = speed.Is 200; gust = speed.Missing; unit = unit.Knots }
 
-pub wind-causes : holding (shared.windCauses {F = shared.BodyField} (λ f. f) false blowing) ≡ outside-its-range shared.wind-speed ∷ disagreeing shared.wind ∷ []
+pub wind-causes : holding (shared.wind_causes {F = shared.BodyField} (λ f. f) false blowing) ≡ outside-its-range shared.wind-speed ∷ disagreeing shared.wind ∷ []
 wind-causes = refl
 
 -- a TAF of 2005: in the present edition, its own fields being right; in its own one, a day at its end, G2 50, and a change's day, behind the calm with a speed
 abbrev of2005 : Leg → Taf
-of2005 r = record { edition = edition.Of2005; leg = r; changes = blankTaf.changes }
+of2005 r = record { edition = edition.Of2005; leg = r; changes = blank_taf.changes }
 
-pub edition-causes : map (λ (x : Edition × Taf). holding (forecast.causesIn x.0 x.1))
-    ((edition.Present, of2005 (setNil true headed))
-    ∷ (edition.Of2005, of2005 (setNil true headed))
-    ∷ (edition.Of2005, of2005 (setCancelled true (setPeriod (until (number.Is 1) 5) headed)))
-    ∷ (edition.Of2005, of2005 (setCancelled true (setPeriod (until number.Missing 50) headed)))
+pub edition-causes : map (λ (x : Edition × Taf). holding (forecast.causes_in x.0 x.1))
+    ((edition.Present, of2005 (set_nil true headed))
+    ∷ (edition.Of2005, of2005 (set_nil true headed))
+    ∷ (edition.Of2005, of2005 (set_cancelled true (set_period (until (number.Is 1) 5) headed)))
+    ∷ (edition.Of2005, of2005 (set_cancelled true (set_period (until number.Missing 50) headed)))
     ∷ (edition.Of2005, changing)
     ∷ [])
     ≡ (foreign forecast.edition-named ∷ [])
@@ -87,7 +87,7 @@ pub edition-causes : map (λ (x : Edition × Taf). holding (forecast.causesIn x.
     ∷ (outside-its-range (forecast.main (forecast.to shared.hour)) ∷ [])
     ∷ (disagreeing (forecast.main (forecast.of-body shared.wind)) ∷ foreign (forecast.change 0 (forecast.from shared.day)) ∷ [])
     ∷ []
-unfolding isBlankBody
+unfolding is_blank_body
 edition-causes = refl
 
 -- section 3: a maximum of 100 degrees, a layer at 300 m after one at 3,000 m, one all missing, one past the count
@@ -96,10 +96,10 @@ third =
     record {
       maximum = record { temperature = tenths.Is (pos 1000) };
       minimum = record { temperature = tenths.Missing };
-      layers = record { items = at (number.Is 4) (height.Steps 3000) ∷ at (number.Is 4) (height.Steps 300) ∷ blankLayer ∷ at (number.Is 4) height.Missing ∷ []; count = 3 };
+      layers = record { items = at (number.Is 4) (height.Steps 3000) ∷ at (number.Is 4) (height.Steps 300) ∷ blank_layer ∷ at (number.Is 4) height.Missing ∷ []; count = 3 };
     }
 
-pub section3-causes : holding (surface.section3Causes third)
+pub section3-causes : holding (surface.section3_causes third)
     ≡ outside-its-range surface.maximum ∷ slot-past-its-count surface.layers ∷ disagreeing (surface.layer 1) ∷ required-missing (surface.layer 2) ∷ []
-unfolding layerSteps run classIn
+unfolding layer_steps run class_in
 section3-causes = refl

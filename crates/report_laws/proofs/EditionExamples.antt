@@ -24,10 +24,10 @@ use Rattle.record.specs.declared.aerodrome.Opening.TheVariants as opening
 use Rattle.record.specs.declared.aerodrome.Change.{Change}
 use Rattle.record.specs.declared.aerodrome.Leg.{Leg}
 use Rattle.record.specs.declared.aerodrome.Taf.{Taf}
-use Rattle.record.specs.Body.{blankBody}
+use Rattle.record.specs.Body.{blank_body}
 use Rattle.record.specs.Observation as observation
-use Rattle.record.specs.Trend.{blankTrend}
-use Rattle.record.specs.Taf.{blankLeg, blankChange, blankTaf, setStation, setTime, setNil, setPeriod, setCancelled, setBody}
+use Rattle.record.specs.Trend.{blank_trend}
+use Rattle.record.specs.Taf.{blank_leg, blank_change, blank_taf, set_station, set_time, set_nil, set_period, set_cancelled, set_body}
 use Rattle.record.specs.SilentSurface as silent-surface
 use Rattle.record.specs.SilentAerodrome as silent-aerodrome
 use Rattle.elements.specs.Wind as wind
@@ -40,18 +40,18 @@ use Rattle.metar.specs.Write as metar
 use Rattle.taf.specs.Write as taf
 use Rattle.report_record.specs.declared.kinds.Report.{Report}
 use Rattle.report_record.specs.declared.kinds.Kind.TheVariants as kind
-use Rattle.report_record.specs.Record.{blankReport, forecastReport}
-use Rattle.report.specs.Write.{judgeIn}
+use Rattle.report_record.specs.Record.{blank_report, forecast_report}
+use Rattle.report.specs.Write.{judge_in}
 
 abbrev instant : Number → ℕ → Number → Instant
 instant d h m = record { day = d; hour = number.Is h; minute = m }
 
 -- LEMD 010101Z
 abbrev pub headed : Leg
-headed = setTime (instant (number.Is 1) 1 (number.Is 1)) (setStation (record { letters = bytes "LEMD" }) blankLeg)
+headed = set_time (instant (number.Is 1) 1 (number.Is 1)) (set_station (record { letters = bytes "LEMD" }) blank_leg)
 
 abbrev of : Edition → Leg → Report
-of e r = forecastReport (record { edition = e; leg = r; changes = blankTaf.changes })
+of e r = forecast_report (record { edition = e; leg = r; changes = blank_taf.changes })
 
 -- from the 1st at 01 to an hour, with a day or without
 abbrev pub until : Number → ℕ → Period
@@ -63,49 +63,49 @@ calm =
     record {
       wind = record { direction = direction.Calm; speed = speed.Is 5; gust = speed.Missing; unit = unit.Knots };
       visibility = record { is = view.Metres 5000 };
-      weathers = blankBody.weathers;
+      weathers = blank_body.weathers;
       nsw = false;
-      sky = blankBody.sky;
+      sky = blank_body.sky;
     }
 
 abbrev becoming : Change
-becoming = record { opening = opening.Becoming; period = until number.Missing 2; body = record { wind = blankBody.wind; visibility = blankBody.visibility; weathers = blankBody.weathers; nsw = true; sky = blankBody.sky } }
+becoming = record { opening = opening.Becoming; period = until number.Missing 2; body = record { wind = blank_body.wind; visibility = blank_body.visibility; weathers = blank_body.weathers; nsw = true; sky = blank_body.sky } }
 
 abbrev pub changing : Taf
-changing = record { edition = edition.Of2005; leg = setBody calm (setPeriod (until number.Missing 2) headed); changes = record { items = becoming ∷ replicate 15 blankChange; count = 1 } }
+changing = record { edition = edition.Of2005; leg = set_body calm (set_period (until number.Missing 2) headed); changes = record { items = becoming ∷ replicate 15 blank_change; count = 1 } }
 
 -- METAR LEMD 010101Z NIL whose part for TAF names 2005
 abbrev observed : Report
 observed =
     record {
       kind = kind.Observed;
-      surface = blankReport.surface;
+      surface = blank_report.surface;
       observed =
           record {
             observation =
-                observation.setNil true
-                (observation.setTime (instant (number.Is 1) 1 (number.Is 1)) (observation.setStation (record { letters = bytes "LEMD" }) observation.blankObservation));
-            trend = blankTrend;
+                observation.set_nil true
+                (observation.set_time (instant (number.Is 1) 1 (number.Is 1)) (observation.set_station (record { letters = bytes "LEMD" }) observation.blank_observation));
+            trend = blank_trend;
           };
-      forecast = record { edition = edition.Of2005; leg = blankLeg; changes = blankTaf.changes };
+      forecast = record { edition = edition.Of2005; leg = blank_leg; changes = blank_taf.changes };
     }
 
-pub editions-judged : map (λ (x : Edition × Report). judgeIn x.0 x.1)
-    ((edition.Present, of edition.Of2005 (setNil true headed))
-    ∷ (edition.Of2005, of edition.Present (setNil true headed))
-    ∷ (edition.Of2005, of edition.Of2005 (setNil true headed))
+pub editions-judged : map (λ (x : Edition × Report). judge_in x.0 x.1)
+    ((edition.Present, of edition.Of2005 (set_nil true headed))
+    ∷ (edition.Of2005, of edition.Present (set_nil true headed))
+    ∷ (edition.Of2005, of edition.Of2005 (set_nil true headed))
     ∷ (edition.Present, observed)
-    ∷ (edition.Of2005, of edition.Of2005 (setCancelled true (setPeriod (until (number.Is 1) 5) headed)))
-    ∷ (edition.Of2005, of edition.Of2005 (setCancelled true (setPeriod (until number.Missing 50) headed)))
-    ∷ (edition.Of2005, of edition.Of2005 (setCancelled true (setPeriod (until number.Missing 62) headed)))
-    ∷ (edition.Of2005, forecastReport changing)
+    ∷ (edition.Of2005, of edition.Of2005 (set_cancelled true (set_period (until (number.Is 1) 5) headed)))
+    ∷ (edition.Of2005, of edition.Of2005 (set_cancelled true (set_period (until number.Missing 50) headed)))
+    ∷ (edition.Of2005, of edition.Of2005 (set_cancelled true (set_period (until number.Missing 62) headed)))
+    ∷ (edition.Of2005, forecast_report changing)
     ∷ [])
     ≡ judged.Refused refusal.Value ∷ judged.Refused refusal.Value ∷ judged.Fine ∷ judged.Refused refusal.Value ∷ judged.Refused refusal.Value ∷ judged.Refused refusal.Value ∷ judged.Fine
     ∷ judged.Refused refusal.Disagreement ∷ []
-unfolding judgeIn
-    silent-surface.noSurface silent-surface.isBlankSynop
-    silent-aerodrome.isBlankBody silent-aerodrome.noObservation silent-aerodrome.isBlankObservation silent-aerodrome.isBlankMetar silent-aerodrome.isBlankTaf
-    head.judgeStation head.judgeTime
-    wind.judgeWind visibility.judgeVisibility weather.judgeWeathers sky.judgeSky body.judgeBody
-    taf.judgePart taf.judgeChange taf.judgeChanges taf.foreignBlank taf.judgeOf taf.judgeIn
+unfolding judge_in
+    silent-surface.no_surface silent-surface.is_blank_synop
+    silent-aerodrome.is_blank_body silent-aerodrome.no_observation silent-aerodrome.is_blank_observation silent-aerodrome.is_blank_metar silent-aerodrome.is_blank_taf
+    head.judge_station head.judge_time
+    wind.judge_wind visibility.judge_visibility weather.judge_weathers sky.judge_sky body.judge_body
+    taf.judge_part taf.judge_change taf.judge_changes taf.foreign_blank taf.judge_of taf.judge_in
 editions-judged = refl

@@ -5,8 +5,8 @@ use Prim.Native.Nat.{ℕ}
 use mathlib.Core.Path.{◌≡◌, refl}
 use mathlib.Core.Bool.{false}
 use mathlib.Core.List.{List, [], ◌∷◌, ◌++◌, map}
-use Rattle.text.specs.Numbers.{verdictNumbers, writtenNumbers}
-use Rattle.text.specs.Example.{Example, reads, refuses, answerTo}
+use Rattle.text.specs.Numbers.{verdict_numbers, written_numbers}
+use Rattle.text.specs.Example.{Example, reads, refuses, answer_to}
 use Rattle.text.specs.declared.kinds.Refusal.TheVariants as refusal
 use Rattle.text.specs.declared.kinds.Judged.{Judged}
 use Rattle.text.specs.declared.kinds.Judged.TheVariants as judged
@@ -71,58 +71,58 @@ use Rattle.report.specs.Write as report-write
 
 -- what is answered to a text, where there is room for the longest
 abbrev answered : Edition → Reading → List ℕ
-answered e r = answerTo (verdictNumbers r.verdict) (writtenNumbers (report-write.writtenIn e r.report 2048)) (report-write.canonicalOf r.report)
+answered e r = answer_to (verdict_numbers r.verdict) (written_numbers (report-write.written_in e r.report 2048)) (report-write.canonical_of r.report)
 
 -- The same, with all that it computes with: who unfolds `answer_in` has every definition unfolded by which a text is read and its record written.
 unfoldable pub answer_in : Edition → List ℕ → List ℕ
-unfolding figures.figures figures.scan figures.field_at figures.numberText figures.slashes figures.fieldText
+unfolding figures.figures figures.scan figures.field_at figures.number_text figures.slashes figures.field_text
     signed.signed_of
     bytes.lead
-    groups.groupsIn groups.groupsFrom groups.pastParting groups.spaced groups.parted groups.join
-    text.equalsAt text.bytes_of text.junkFrom text.tailOf
-    pattern.low pattern.high pattern.fits pattern.hasPattern pattern.hasAny
-    shape.leading shape.split shape.parts_of shape.begins shape.value_of shape.pick_of shape.scanParts shape.answered shape.scanOf shape.hasShape shape.filled shape.printParts shape.printOf shape.spellings
-    parts.runTo parts.further parts.reportOf
-    seek.seek seek.anywhere seek.findOf seek.owed
-    degrees.signedReading degrees.wholeDegrees degrees.degreesOf degrees.degreesReading
+    groups.groups_in groups.groups_from groups.past_parting groups.spaced groups.parted groups.join
+    text.equals_at text.bytes_of text.junk_from text.tail_of
+    pattern.low pattern.high pattern.fits pattern.has_pattern pattern.has_any
+    shape.leading shape.split shape.parts_of shape.begins shape.value_of shape.pick_of shape.scan_parts shape.answered shape.scan_of shape.has_shape shape.filled shape.print_parts shape.print_of shape.spellings
+    parts.run_to parts.further parts.report_of
+    seek.seek seek.anywhere seek.find_of seek.owed
+    degrees.signed_reading degrees.whole_degrees degrees.degrees_of degrees.degrees_reading
     deposit.depth
-    layered.layerSteps layered.layerBands
-    metres.land metres.sea metres.base metres.metresFigure metres.metresReading metres.visibility metres.runway metres.cloud metres.sameRange metres.rangeFigure metres.rangeReading
-    rounded.rainFigure rounded.rainReading rounded.directionFigure rounded.directionReading rounded.pressureFigure rounded.pressureReading
-    scale.classIn scale.readIn scale.run
-    silent-surface.noSurface silent-surface.isBlankSynop
-    silent-aerodrome.isBlankBody silent-aerodrome.noObservation silent-aerodrome.isBlankObservation silent-aerodrome.isBlankMetar silent-aerodrome.isBlankTaf
-    surface-judge.judgeTime surface-judge.judgeStation surface-judge.judgeSign surface-judge.judgePosition surface-judge.judgeIndicators surface-judge.judgeWind surface-judge.judgeAir surface-judge.judgeMoisture surface-judge.judgePressure surface-judge.judgeLevel surface-judge.judgeTendency surface-judge.judgeRainfall surface-judge.judgeWeather surface-judge.judgeClouds surface-judge.judgeClock surface-judge.layerFits
-    surface-reads.timeOf surface-reads.saidTime surface-reads.saidStation surface-reads.latitudeIs surface-reads.saidLatitude surface-reads.position_of surface-reads.saidLongitude surface-reads.indicatorsOf surface-reads.saidIndicators surface-reads.windBy surface-reads.saidWind surface-reads.speedIs surface-reads.saidSpeed surface-reads.airIs surface-reads.saidAir surface-reads.moistureIs surface-reads.saidMoisture surface-reads.saidPressure surface-reads.levelIs surface-reads.saidLevel surface-reads.tendencyIs surface-reads.saidTendency surface-reads.saidRainfall surface-reads.saidWeather surface-reads.saidClouds surface-reads.clockIs surface-reads.saidClock surface-reads.saidLayer
-    surface-shows.showTime surface-shows.showStation surface-shows.showSign surface-shows.showLatitude surface-shows.showLongitude surface-shows.showIndicators surface-shows.showWind surface-shows.showSpeed surface-shows.showAir surface-shows.showMoisture surface-shows.showPressure surface-shows.showLevel surface-shows.showTendency surface-shows.showRainfall surface-shows.weatherText surface-shows.showWeather surface-shows.cloudsText surface-shows.showClouds surface-shows.showClock surface-shows.showMinimum surface-shows.showLayer
-    synop-row.needsOf synop-row.withSaid synop-row.row synop-row.stopWords
-    section3.row section3.ownShapes section3.halts section3.layerAt section3.showLayers
-    section3-write.judgeLayers section3-write.judgeSection3 section3-write.showSection3
+    layered.layer_steps layered.layer_bands
+    metres.land metres.sea metres.base metres.metres_figure metres.metres_reading metres.visibility metres.runway metres.cloud metres.same_range metres.range_figure metres.range_reading
+    rounded.rain_figure rounded.rain_reading rounded.direction_figure rounded.direction_reading rounded.pressure_figure rounded.pressure_reading
+    scale.class_in scale.read_in scale.run
+    silent-surface.no_surface silent-surface.is_blank_synop
+    silent-aerodrome.is_blank_body silent-aerodrome.no_observation silent-aerodrome.is_blank_observation silent-aerodrome.is_blank_metar silent-aerodrome.is_blank_taf
+    surface-judge.judge_time surface-judge.judge_station surface-judge.judge_sign surface-judge.judge_position surface-judge.judge_indicators surface-judge.judge_wind surface-judge.judge_air surface-judge.judge_moisture surface-judge.judge_pressure surface-judge.judge_level surface-judge.judge_tendency surface-judge.judge_rainfall surface-judge.judge_weather surface-judge.judge_clouds surface-judge.judge_clock surface-judge.layer_fits
+    surface-reads.time_of surface-reads.said_time surface-reads.said_station surface-reads.latitude_is surface-reads.said_latitude surface-reads.position_of surface-reads.said_longitude surface-reads.indicators_of surface-reads.said_indicators surface-reads.wind_by surface-reads.said_wind surface-reads.speed_is surface-reads.said_speed surface-reads.air_is surface-reads.said_air surface-reads.moisture_is surface-reads.said_moisture surface-reads.said_pressure surface-reads.level_is surface-reads.said_level surface-reads.tendency_is surface-reads.said_tendency surface-reads.said_rainfall surface-reads.said_weather surface-reads.said_clouds surface-reads.clock_is surface-reads.said_clock surface-reads.said_layer
+    surface-shows.show_time surface-shows.show_station surface-shows.show_sign surface-shows.show_latitude surface-shows.show_longitude surface-shows.show_indicators surface-shows.show_wind surface-shows.show_speed surface-shows.show_air surface-shows.show_moisture surface-shows.show_pressure surface-shows.show_level surface-shows.show_tendency surface-shows.show_rainfall surface-shows.weather_text surface-shows.show_weather surface-shows.clouds_text surface-shows.show_clouds surface-shows.show_clock surface-shows.show_minimum surface-shows.show_layer
+    synop-row.needs_of synop-row.with_said synop-row.row synop-row.stop_words
+    section3.row section3.own_shapes section3.halts section3.layer_at section3.show_layers
+    section3-write.judge_layers section3-write.judge_section3 section3-write.show_section3
     section.section
-    synop-read.with_head synop-read.sign_of synop-read.posts synop-read.walk synop-read.groupsRead
-    synop-write.foreignBlank synop-write.judgeSite synop-write.judgeSection synop-write.judgeSurface synop-write.judgeOf synop-write.siteGroups synop-write.surfaceGroups synop-write.groups_of synop-write.canonicalOf
-    body.readWeatherOrNsw body.judgeBody
-    sky.readLayer sky.readAlone sky.readSky sky.showLayer sky.showSky sky.judgeSky
-    visibility.readVisibility visibility.showVisibility visibility.judgeVisibility
-    weather.codes_of weather.areCodes weather.signedCodes weather.hasWeather weather.hasRecent weather.saidWeather weather.readWeather weather.readRecent weather.showWeather weather.showRecent weather.showWeathers weather.showRecents weather.judgeWeather weather.judgeRecent weather.judgeWeathers
-    wind.windBy wind.readWind wind.readVariation wind.showWind wind.showVariation wind.judgeWind wind.judgeVariation
-    head.stationOf head.readTime head.showTime head.judgeStation head.judgeTime
-    runway.readRunway runway.showRunway runway.showRunways runway.judgeRunways
-    temperatures.readTemperatures temperatures.readQnh temperatures.showTemperatures temperatures.showQnh temperatures.judgeTemperatures temperatures.judgeQnh
-    state.readState state.showState state.showStates state.judgeStates
-    metar-row.row metar-row.isKnown metar-row.words
-    trend-times.readMoment
+    synop-read.with_head synop-read.sign_of synop-read.posts synop-read.walk synop-read.groups_read
+    synop-write.foreign_blank synop-write.judge_site synop-write.judge_section synop-write.judge_surface synop-write.judge_of synop-write.site_groups synop-write.surface_groups synop-write.groups_of synop-write.canonical_of
+    body.read_weather_or_nsw body.judge_body
+    sky.read_layer sky.read_alone sky.read_sky sky.show_layer sky.show_sky sky.judge_sky
+    visibility.read_visibility visibility.show_visibility visibility.judge_visibility
+    weather.codes_of weather.are_codes weather.signed_codes weather.has_weather weather.has_recent weather.said_weather weather.read_weather weather.read_recent weather.show_weather weather.show_recent weather.show_weathers weather.show_recents weather.judge_weather weather.judge_recent weather.judge_weathers
+    wind.wind_by wind.read_wind wind.read_variation wind.show_wind wind.show_variation wind.judge_wind wind.judge_variation
+    head.station_of head.read_time head.show_time head.judge_station head.judge_time
+    runway.read_runway runway.show_runway runway.show_runways runway.judge_runways
+    temperatures.read_temperatures temperatures.read_qnh temperatures.show_temperatures temperatures.show_qnh temperatures.judge_temperatures temperatures.judge_qnh
+    state.read_state state.show_state state.show_states state.judge_states
+    metar-row.row metar-row.is_known metar-row.words
+    trend-times.read_moment
     trend-row.row
-    trend-read.comesTo
-    trend-write.judgeChange trend-write.judgeTrend trend-write.showChange trend-write.showTrend
-    metar-read.groupsRead
-    metar-write.judgeHead metar-write.judgeObservation metar-write.judgeOf metar-write.groups_of metar-write.canonicalOf
-    taf-row.readPeriod taf-row.showPeriod taf-row.row taf-row.changeWords
-    taf-read.openedBy taf-read.groupsRead
-    taf-write.judgePart taf-write.judgeChange taf-write.judgeChanges taf-write.foreignBlank taf-write.judgeOf taf-write.judgeIn taf-write.showChange taf-write.groups_of taf-write.canonicalOf
-    report-read.name_of report-read.readIn
-    report-write.judgeIn report-write.canonicalOf report-write.writtenIn
-answer_in e t = answered e (report-read.readIn e t)
+    trend-read.comes_to
+    trend-write.judge_change trend-write.judge_trend trend-write.show_change trend-write.show_trend
+    metar-read.groups_read
+    metar-write.judge_head metar-write.judge_observation metar-write.judge_of metar-write.groups_of metar-write.canonical_of
+    taf-row.read_period taf-row.show_period taf-row.row taf-row.change_words
+    taf-read.opened_by taf-read.groups_read
+    taf-write.judge_part taf-write.judge_change taf-write.judge_changes taf-write.foreign_blank taf-write.judge_of taf-write.judge_in taf-write.show_change taf-write.groups_of taf-write.canonical_of
+    report-read.name_of report-read.read_in
+    report-write.judge_in report-write.canonical_of report-write.written_in
+answer_in e t = answered e (report-read.read_in e t)
 
 abbrev pub examples : List Example
 examples =
@@ -209,10 +209,10 @@ examples2005 =
     ∷ refuses "TAF LEMD 011100Z 011206 27010KT 9999 FM2400" 5 37
     ∷ []
 
-abbrev inEditions : List (Edition × Example)
-inEditions = map (λ (x : Example). (edition.Present, x)) examples ++ map (λ (x : Example). (edition.Of2005, x)) examples2005
+abbrev in_editions : List (Edition × Example)
+in_editions = map (λ (x : Example). (edition.Present, x)) examples ++ map (λ (x : Example). (edition.Of2005, x)) examples2005
 
-pub worked : map (λ (x : Edition × Example). answer_in x.0 x.1.text) inEditions ≡ map (λ (x : Edition × Example). x.1.answer) inEditions
+pub worked : map (λ (x : Edition × Example). answer_in x.0 x.1.text) in_editions ≡ map (λ (x : Edition × Example). x.1.answer) in_editions
 unfolding answer_in
 worked = refl
 
@@ -241,11 +241,11 @@ winds =
     ∷ blows (direction.Degrees 270) (speed.Is 200) speed.Missing unit.Knots (judged.Refused refusal.Value)
     ∷ []
 
-pub worked-winds : map (λ (e : WindExample). wind.judgeWind false e.wind) winds ≡ map (λ (e : WindExample). e.answer) winds
-unfolding wind.judgeWind
+pub worked-winds : map (λ (e : WindExample). wind.judge_wind false e.wind) winds ≡ map (λ (e : WindExample). e.answer) winds
+unfolding wind.judge_wind
 worked-winds = refl
 
 -- "any "above" in a SYNOP or SHIP"
-pub no_above : surface-judge.judgeWind (record { cover = number.Missing; direction = direction.Calm; speed = speed.Above 99 }) ≡ judged.Refused refusal.Value
-unfolding surface-judge.judgeWind
+pub no_above : surface-judge.judge_wind (record { cover = number.Missing; direction = direction.Calm; speed = speed.Above 99 }) ≡ judged.Refused refusal.Value
+unfolding surface-judge.judge_wind
 no_above = refl

@@ -17,7 +17,7 @@ use Rattle.text.specs.declared.kinds.Tail.{Tail}
 use Rattle.text.specs.declared.kinds.Tail.TheVariants.{Clear, Junk}
 use Rattle.text.specs.declared.kinds.Bytes.{Bytes}
 use Rattle.text.specs.declared.kinds.Bytes.TheVariants as judgement
-use Rattle.text.specs.Groups.{Piece, groupsFrom}
+use Rattle.text.specs.Groups.{Piece, groups_from}
 use Rattle.text.specs.Text.{bytes_of}
 use Rattle.scales.specs.declared.kinds.Reading.{Reading}
 use Rattle.scales.specs.declared.kinds.Reading.TheVariants as reading
@@ -27,7 +27,7 @@ use Rattle.scales.specs.declared.kinds.Rain.{Rain}
 use Rattle.scales.specs.declared.kinds.RainReading.{RainReading}
 use Rattle.scales.specs.declared.kinds.RainReading.TheVariants as amount
 use Rattle.shapes.specs.declared.kinds.Value.{Value}
-use Rattle.shapes.specs.Pattern.{hasPattern}
+use Rattle.shapes.specs.Pattern.{has_pattern}
 use Rattle.places.specs.Engine.{Group, Read, Bad, then, Outcome}
 use Rattle.places.specs.Parts.{Word, Bars}
 use Rattle.record.specs.declared.values.Number.{Number}
@@ -40,20 +40,20 @@ use Rattle.record.specs.declared.aerodrome.Leg.{Leg}
 use Rattle.record.specs.declared.aerodrome.Edition.{Edition}
 use Rattle.record.specs.declared.aerodrome.Edition.TheVariants as edition
 use Rattle.record.specs.declared.aerodrome.Taf.{Taf}
-use Rattle.record.specs.Taf.{blankLeg}
+use Rattle.record.specs.Taf.{blank_leg}
 use Rattle.record.specs.Set.{set_site}
-use Rattle.record.specs.Observation.{blankObservation}
+use Rattle.record.specs.Observation.{blank_observation}
 use Rattle.record.specs.declared.surface.Position.{Position}
 use Rattle.record.specs.declared.surface.Surface.{Surface}
 use Rattle.record.specs.declared.surface.Synop.{Synop}
 use Rattle.record.specs.declared.surface.CloudLayers.{CloudLayers}
 use Rattle.record.specs.declared.surface.Section3.{Section3}
-use Rattle.record.specs.Blank.{blankSurface}
+use Rattle.record.specs.Blank.{blank_surface}
 use Rattle.synop_groups.specs.declared.kinds.Said.{Said}
 use Rattle.synop_groups.specs.declared.kinds.Said.TheVariants as said
 use Rattle.synop_groups.specs.Reads as surface
 use Rattle.synop_row.specs.declared.kinds.Needs.{Needs}
-use Rattle.synop_row.specs.Row.{withSaid}
+use Rattle.synop_row.specs.Row.{with_said}
 use Rattle.synop_row.specs.Row as synop-row
 use Rattle.synop_section.specs.Answer as section
 use Rattle.synop_section.specs.Answer.{begun}
@@ -61,7 +61,7 @@ use Rattle.section3.specs.declared.kinds.Told.{Told}
 use Rattle.section3.specs.declared.kinds.Told.TheVariants as third
 use Rattle.section3.specs.Row as section3
 use Rattle.synop.specs.Read as synop
-use Rattle.elements.specs.Parts.{figured, mayMiss, used}
+use Rattle.elements.specs.Parts.{figured, may_miss, used}
 use Rattle.elements.specs.Wind as wind
 use Rattle.elements.specs.Visibility as visibility
 use Rattle.elements.specs.Weather as weather
@@ -84,7 +84,7 @@ use Rattle.taf_row.specs.Row as taf-row
 use Rattle.taf.specs.Read as taf
 use Rattle.report_record.specs.declared.kinds.Name.{Name}
 use Rattle.report_record.specs.declared.kinds.Name.TheVariants as name
-use Rattle.report.specs.Read.{word, nameBy, firstName, afterBytes, name_of}
+use Rattle.report.specs.Read.{word, name_by, first_name, after_bytes, name_of}
 use Rattle.report_laws.proofs.Placed.{Each, ◌&◌, Fair, Fairly, good, bad, Placed, done, fault, Within, TailWithin, groups-within, BytesWithin, bytes-within, FairPlace, FairRow, FairWord, ends, opens, bars, FairPart, report-placed}
 
 -- ---- what a group says, put together
@@ -108,7 +108,7 @@ module _ {A : Type 0} where
   number field.Mixed k p = five
   number field.Other k p = five
 
-  number-or : (f : Field) (x : Read A) (k : ℕ → Read A) → Fairly x → ((n : ℕ) → Fairly (k n)) → Fairly (mayMiss f x k)
+  number-or : (f : Field) (x : Read A) (k : ℕ → Read A) → Fairly x → ((n : ℕ) → Fairly (k n)) → Fairly (may_miss f x k)
   number-or (field.Number n) x k q p = p n
   number-or field.Missing x k q p = q
   number-or field.Mixed x k q p = five
@@ -127,110 +127,110 @@ ruleset told = (good, five, seven, either, number, number-or, figure, after)
 
 -- ---- wind, visibility, weather, sky
 
-direction-fair : (v : Value) → Fairly (wind.directionOf v)
+direction-fair : (v : Value) → Fairly (wind.direction_of v)
 direction-fair v = search told
 
 module _ (u : speed-unit.Unit) (v : Value) where
-  speed-fair : Fairly (wind.speedOf u v)
+  speed-fair : Fairly (wind.speed_of u v)
   speed-fair = search told depth 8
 
-  gust-fair : Fairly (wind.gustOf u v)
+  gust-fair : Fairly (wind.gust_of u v)
   gust-fair = search (told, speed-fair)
 
-wind-fair : (forecast : Bool) (g : Group) → Fairly (wind.readWind forecast g)
-unfolding wind.readWind wind.windBy
+wind-fair : (forecast : Bool) (g : Group) → Fairly (wind.read_wind forecast g)
+unfolding wind.read_wind wind.wind_by
 wind-fair forecast g = search (told, direction-fair, speed-fair, gust-fair) depth 8
 
-variation-fair : (g : Group) → Fairly (wind.readVariation g)
-unfolding wind.readVariation
+variation-fair : (g : Group) → Fairly (wind.read_variation g)
+unfolding wind.read_variation
 variation-fair g = search told depth 8
 
-visibility-fair : (forecast : Bool) (g : Group) → Fairly (visibility.readVisibility forecast g)
-unfolding visibility.readVisibility
+visibility-fair : (forecast : Bool) (g : Group) → Fairly (visibility.read_visibility forecast g)
+unfolding visibility.read_visibility
 visibility-fair forecast g = search told depth 8
 
 unsigned-fair : (cs : List (List ℕ)) → Fairly (weather.unsigned cs)
 unsigned-fair [] = five
 unsigned-fair (c ∷ cs) = search told
 
-said-fair : (g : Group) → Fairly (weather.saidWeather g)
-unfolding weather.saidWeather
+said-fair : (g : Group) → Fairly (weather.said_weather g)
+unfolding weather.said_weather
 said-fair [] = five
 said-fair (b ∷ g) = search (told, unsigned-fair)
 
-unknown-fair : (automatic : Bool) (x : Read Weather) → Fairly x → Fairly (weather.unlessUnknown automatic x)
+unknown-fair : (automatic : Bool) (x : Read Weather) → Fairly x → Fairly (weather.unless_unknown automatic x)
 unknown-fair automatic _ (good w) = search told
 unknown-fair automatic _ (bad f h) = bad f h
 
-plain-fair : (x : Read Weather) → Fairly x → Fairly (weather.onlyPlain x)
+plain-fair : (x : Read Weather) → Fairly x → Fairly (weather.only_plain x)
 plain-fair _ (good w) = search told
 plain-fair _ (bad f h) = bad f h
 
-weather-fair : (forecast automatic : Bool) (g : Group) → Fairly (weather.readWeather forecast automatic g)
-unfolding weather.readWeather
-weather-fair forecast automatic g = let said = unknown-fair automatic (weather.saidWeather g) (said-fair g) in search told
+weather-fair : (forecast automatic : Bool) (g : Group) → Fairly (weather.read_weather forecast automatic g)
+unfolding weather.read_weather
+weather-fair forecast automatic g = let said = unknown-fair automatic (weather.said_weather g) (said-fair g) in search told
 
-recent-fair : (automatic : Bool) (g : Group) → Fairly (weather.readRecent automatic g)
-unfolding weather.readRecent
+recent-fair : (automatic : Bool) (g : Group) → Fairly (weather.read_recent automatic g)
+unfolding weather.read_recent
 recent-fair automatic [] = five
 recent-fair automatic (r ∷ []) = five
 recent-fair automatic (r ∷ e ∷ g) =
-    unknown-fair automatic (weather.onlyPlain (weather.saidWeather g)) (plain-fair (weather.saidWeather g) (said-fair g))
+    unknown-fair automatic (weather.only_plain (weather.said_weather g)) (plain-fair (weather.said_weather g) (said-fair g))
 
-sky-fair : (forecast cavok : Bool) (k : ℕ) (g : Group) (s : Sky) → Fairly (sky.readSky forecast cavok k g s)
-unfolding sky.readSky sky.readLayer sky.readAlone
+sky-fair : (forecast cavok : Bool) (k : ℕ) (g : Group) (s : Sky) → Fairly (sky.read_sky forecast cavok k g s)
+unfolding sky.read_sky sky.read_layer sky.read_alone
 sky-fair forecast cavok k g s = search told depth 12
 
 -- ---- the places of the body, in any terms, and the time
 
 module _ (t : body.Terms) where
-  wind-place : FairPlace (body.windPlace t)
+  wind-place : FairPlace (body.wind_place t)
   wind-place k g b = let x = wind-fair t.forecast g in search told
 
-  visibility-place : FairPlace (body.visibilityPlace t)
+  visibility-place : FairPlace (body.visibility_place t)
   visibility-place k g b = let x = visibility-fair t.forecast g in search told
 
-  beside-fair : (b : Body) (x : Read Weather) → Fairly x → Fairly (body.besideOthers b x)
+  beside-fair : (b : Body) (x : Read Weather) → Fairly x → Fairly (body.beside_others b x)
   beside-fair b _ (good w) = search told
   beside-fair b _ (bad f h) = bad f h
 
-  weather-place : FairPlace (body.weatherPlace t)
-  unfolding body.readWeatherOrNsw
+  weather-place : FairPlace (body.weather_place t)
+  unfolding body.read_weather_or_nsw
   weather-place k g b =
-      let x = weather.readWeather t.forecast t.automatic g in
+      let x = weather.read_weather t.forecast t.automatic g in
       let y = beside-fair b x (weather-fair t.forecast t.automatic g) in
       search told
 
-  sky-place : FairPlace (body.skyPlace t)
-  sky-place k g b = let x = sky-fair t.forecast (visibility.isCavok b.visibility) k g b.sky in search told
+  sky-place : FairPlace (body.sky_place t)
+  sky-place k g b = let x = sky-fair t.forecast (visibility.is_cavok b.visibility) k g b.sky in search told
 
-time-fair : (g : Group) → Fairly (head.readTime g)
-unfolding head.readTime
+time-fair : (g : Group) → Fairly (head.read_time g)
+unfolding head.read_time
 time-fair g = search told depth 8
 
 -- ---- METAR and SPECI
 
-runway-fair : (g : Group) → Fairly (runway.readRunway g)
-unfolding runway.readRunway
+runway-fair : (g : Group) → Fairly (runway.read_runway g)
+unfolding runway.read_runway
 runway-fair g = search told depth 10
 
-degrees-fair : (x : Tenths) → Fairly (temperatures.degreesIs x)
+degrees-fair : (x : Tenths) → Fairly (temperatures.degrees_is x)
 degrees-fair (tenths.Is t) = good _
 degrees-fair tenths.Unused = five
 
-temperatures-fair : (g : Group) → Fairly (temperatures.readTemperatures g)
-unfolding temperatures.readTemperatures
+temperatures-fair : (g : Group) → Fairly (temperatures.read_temperatures g)
+unfolding temperatures.read_temperatures
 temperatures-fair g = search (told, degrees-fair) depth 10
 
-qnh-fair : (g : Group) → Fairly (temperatures.readQnh g)
-unfolding temperatures.readQnh
+qnh-fair : (g : Group) → Fairly (temperatures.read_qnh g)
+unfolding temperatures.read_qnh
 qnh-fair g = search told
 
-depth-fair : (f : Field) → Fairly (state.readDepth f)
+depth-fair : (f : Field) → Fairly (state.read_depth f)
 depth-fair f = search told depth 8
 
-state-fair : (g : Group) → Fairly (state.readState g)
-unfolding state.readState
+state-fair : (g : Group) → Fairly (state.read_state g)
+unfolding state.read_state
 state-fair g = search (told, depth-fair) depth 10
 
 observation-row : FairRow metar-row.row
@@ -261,7 +261,7 @@ observation-row =
 
 module _ (free : Bool) where
   trend-row-fair : FairRow (trend-row.row free)
-  unfolding trend-row.row times.readMoment
+  unfolding trend-row.row times.read_moment
   trend-row-fair =
       (λ k g r. six)
       & (λ k g r. search told depth 9)
@@ -285,22 +285,22 @@ module _ {W P : Type 0} where
   beside : FairWord {W = W} {P = P} (Bars refusal.Disagreement)
   beside = bars refusal.Disagreement refl
 
-comes-fair : (t : Trend) (g : Group) → FairWord (trend.comesTo t g)
-unfolding trend.comesTo
+comes-fair : (t : Trend) (g : Group) → FairWord (trend.comes_to t g)
+unfolding trend.comes_to
 comes-fair t g = search (ends, opens, good, out_of_order, beside, word-either) depth 8
 
 module _ (n : ℕ) (tail : Tail) (end : ℕ) (w : TailWithin n tail) (h : end ≤ n) (gs : List Piece) (v : Within n gs) where
-  pub observed-placed : Placed n (metar.groupsRead tail end gs)
-  unfolding metar.groupsRead
+  pub observed-placed : Placed n (metar.groups_read tail end gs)
+  unfolding metar.groups_read
   observed-placed =
       report-placed n tail end w h trend.parts
-      (λ r o. record { row = trend-row-fair (trend-row.isChange o); word = λ t g. comes-fair t.trend g }) 3 metar.mainPart
-      (record { row = observation-row; word = λ t g. comes-fair t.trend g }) blankObservation gs v
+      (λ r o. record { row = trend-row-fair (trend-row.is_change o); word = λ t g. comes-fair t.trend g }) 3 metar.main_part
+      (record { row = observation-row; word = λ t g. comes-fair t.trend g }) blank_observation gs v
 
 -- ---- TAF
 
-period-fair : (f : Form) (g : Group) → Fairly (taf-row.readPeriod f g)
-unfolding taf-row.readPeriod
+period-fair : (f : Form) (g : Group) → Fairly (taf-row.read_period f g)
+unfolding taf-row.read_period
 period-fair form.BothDays g = search told depth 10
 period-fair form.FirstDay g = search told depth 10
 period-fair form.NoDay g = search told depth 10
@@ -314,40 +314,40 @@ module _ (e : Edition) (p : Part) where
       & (λ k g r. search told)
       & (λ k g r. let x = time-fair g in search told)
       & (λ k g r. search told)
-      & (λ k g r. let x = period-fair (taf-row.ownForm e) g in search told)
-      & (λ k g r. let x = period-fair (taf-row.changeForm e) g in search told)
+      & (λ k g r. let x = period-fair (taf-row.own_form e) g in search told)
+      & (λ k g r. let x = period-fair (taf-row.change_form e) g in search told)
       & (λ k g r. search told)
-      & (λ k g r. let x = wind-place (taf-row.forecastIn p) k g r.body in search told)
-      & (λ k g r. let x = visibility-place (taf-row.forecastIn p) k g r.body in search told)
-      & (λ k g r. let x = weather-place (taf-row.forecastIn p) k g r.body in search told)
-      & (λ k g r. let x = sky-place (taf-row.forecastIn p) k g r.body in search told)
+      & (λ k g r. let x = wind-place (taf-row.forecast_in p) k g r.body in search told)
+      & (λ k g r. let x = visibility-place (taf-row.forecast_in p) k g r.body in search told)
+      & (λ k g r. let x = weather-place (taf-row.forecast_in p) k g r.body in search told)
+      & (λ k g r. let x = sky-place (taf-row.forecast_in p) k g r.body in search told)
       & tt
 
-opened-fair : (e : Edition) (g : Group) → Fairly (taf.openedBy e g)
-unfolding taf.openedBy
+opened-fair : (e : Edition) (g : Group) → Fairly (taf.opened_by e g)
+unfolding taf.opened_by
 opened-fair edition.Present g = search told depth 10
 opened-fair edition.Of2005 g = search told depth 10
 
-leg-fair : (e : Edition) (p : Part) (takes : Leg → Taf) → FairPart (taf.partIn e p takes)
-leg-fair e p takes = record { row = part-row-fair e p; word = λ t g. opens (taf.openedBy e g) (opened-fair e g) }
+leg-fair : (e : Edition) (p : Part) (takes : Leg → Taf) → FairPart (taf.part_in e p takes)
+leg-fair e p takes = record { row = part-row-fair e p; word = λ t g. opens (taf.opened_by e g) (opened-fair e g) }
 
 module _ (n : ℕ) (tail : Tail) (end : ℕ) (w : TailWithin n tail) (h : end ≤ n) (gs : List Piece) (v : Within n gs) where
-  pub forecast-placed : (e : Edition) → Placed n (taf.groupsRead e tail end gs)
-  unfolding taf.groupsRead
-  forecast-placed e = report-placed n tail end w h (taf.changes e) (λ t o. leg-fair e (taf.part_of o) _) 16 (taf.mainPart e) (leg-fair e part.Main _) blankLeg gs v
+  pub forecast-placed : (e : Edition) → Placed n (taf.groups_read e tail end gs)
+  unfolding taf.groups_read
+  forecast-placed e = report-placed n tail end w h (taf.changes e) (λ t o. leg-fair e (taf.part_of o) _) 16 (taf.main_part e) (leg-fair e part.Main _) blank_leg gs v
 
 -- ---- SYNOP and SHIP: what a group says, added to the surface
 
 module _ (s : Surface) where
   abbrev Adds : Said → Type 0
-  Adds x = Fairly (withSaid x s)
+  Adds x = Fairly (with_said x s)
 
   adds-wrong : Adds surface.wrong
-  unfolding withSaid
+  unfolding with_said
   adds-wrong = five
 
   adds-disagrees : Adds surface.disagrees
-  unfolding withSaid
+  unfolding with_said
   adds-disagrees = seven
 
   adds-either : (b : Bool) (x y : Said) → Adds x → Adds y → Adds (cond b x y)
@@ -364,7 +364,7 @@ module _ (s : Surface) where
   adds-number field.Mixed k p = adds-wrong
   adds-number field.Other k p = adds-wrong
 
-  adds-number-or : (f : Field) (x : Said) (k : ℕ → Said) → Adds x → ((n : ℕ) → Adds (k n)) → Adds (surface.mayMiss f x k)
+  adds-number-or : (f : Field) (x : Said) (k : ℕ → Said) → Adds x → ((n : ℕ) → Adds (k n)) → Adds (surface.may_miss f x k)
   adds-number-or (field.Number n) x k q p = p n
   adds-number-or field.Missing x k q p = q
   adds-number-or field.Mixed x k q p = adds-wrong
@@ -380,45 +380,45 @@ module _ (s : Surface) where
   adds-figure (reading.Is n) k p = p n
   adds-figure reading.Unused k p = adds-wrong
 
-  adds-tenths : (x : Tenths) (k : ℤ → Said) → ((n : ℤ) → Adds (k n)) → Adds (surface.usedTenths x k)
+  adds-tenths : (x : Tenths) (k : ℤ → Said) → ((n : ℤ) → Adds (k n)) → Adds (surface.used_tenths x k)
   adds-tenths (tenths.Is n) k p = p n
   adds-tenths tenths.Unused k p = adds-wrong
 
-  adds-rain : (x : RainReading) (k : Rain → Said) → ((r : Rain) → Adds (k r)) → Adds (surface.usedRain x k)
+  adds-rain : (x : RainReading) (k : Rain → Said) → ((r : Rain) → Adds (k r)) → Adds (surface.used_rain x k)
   adds-rain (amount.Is r) k p = p r
   adds-rain amount.Unused k p = adds-wrong
 
 ruleset added = (good, adds-wrong, adds-disagrees, adds-either, adds-unless, adds-number, adds-number-or, adds-missing, adds-figure, adds-tenths, adds-rain)
 
 module _ (s : Surface) (g : Group) where
-  time-adds : Adds s (surface.saidTime g)
-  unfolding withSaid surface.saidTime surface.timeOf
+  time-adds : Adds s (surface.said_time g)
+  unfolding with_said surface.said_time surface.time_of
   time-adds = search added depth 8
 
-  station-adds : Adds s (surface.saidStation g)
-  unfolding withSaid surface.saidStation
+  station-adds : Adds s (surface.said_station g)
+  unfolding with_said surface.said_station
   station-adds = search added
 
-  latitude-adds : Adds s (surface.saidLatitude g)
-  unfolding withSaid surface.saidLatitude surface.latitudeIs
+  latitude-adds : Adds s (surface.said_latitude g)
+  unfolding with_said surface.said_latitude surface.latitude_is
   latitude-adds = search added
 
-  longitude-adds : (p : Position) → Adds s (surface.saidLongitude p g)
-  unfolding withSaid surface.saidLongitude surface.position_of
+  longitude-adds : (p : Position) → Adds s (surface.said_longitude p g)
+  unfolding with_said surface.said_longitude surface.position_of
   longitude-adds p = search added depth 8
 
-  indicators-adds : Adds s (surface.saidIndicators g)
-  unfolding withSaid surface.saidIndicators surface.indicatorsOf
+  indicators-adds : Adds s (surface.said_indicators g)
+  unfolding with_said surface.said_indicators surface.indicators_of
   indicators-adds = search added depth 12
 
-  wind-adds : Adds s (surface.saidWind g)
-  unfolding withSaid surface.saidWind surface.windBy
+  wind-adds : Adds s (surface.said_wind g)
+  unfolding with_said surface.said_wind surface.wind_by
   wind-adds = search added depth 10
 
 section-row : (n : Needs) → FairRow (synop-row.row n)
-unfolding synop-row.row withSaid surface.saidSpeed surface.speedIs surface.saidAir surface.airIs surface.saidMoisture surface.moistureIs surface.saidPressure
-    surface.saidLevel surface.levelIs surface.saidTendency surface.tendencyIs surface.saidRainfall surface.saidWeather surface.saidClouds surface.saidClock
-    surface.clockIs
+unfolding synop-row.row with_said surface.said_speed surface.speed_is surface.said_air surface.air_is surface.said_moisture surface.moisture_is surface.said_pressure
+    surface.said_level surface.level_is surface.said_tendency surface.tendency_is surface.said_rainfall surface.said_weather surface.said_clouds surface.said_clock
+    surface.clock_is
 section-row n =
     (λ k g s. search added depth 8)
     & (λ k g s. search added depth 8)
@@ -442,8 +442,8 @@ FairTold (third.Maximum a) = Unit {0}
 FairTold (third.Minimum a) = Unit {0}
 FairTold (third.Layer l) = Unit {0}
 
-told-fair : (s : Surface) (b : Bool) (x : Said) → Adds s x → FairTold (section3.toldBy (section3.airBy b) x)
-unfolding withSaid
+told-fair : (s : Surface) (b : Bool) (x : Said) → Adds s x → FairTold (section3.told_by (section3.air_by b) x)
+unfolding with_said
 told-fair s b (said.Refused f) p = refused p
   where
     refused : Fairly {R = Surface} (Bad f) → Fair f
@@ -477,7 +477,7 @@ risen-fair ls (third.Maximum a) p = tt
 risen-fair ls (third.Minimum a) p = tt
 risen-fair ls (third.Layer l) p = told-either (section3.rises (take ls.count ls.items) l) (third.Layer l) (third.Refused refusal.Disagreement) tt refl
 
-tells : (x : Told) → FairTold x → (s : Section3) → Fairly (section3.withTold x s)
+tells : (x : Told) → FairTold x → (s : Section3) → Fairly (section3.with_told x s)
 tells third.Nothing p s = good _
 tells (third.Refused f) p s = bad f p
 tells (third.Maximum a) p s = good _
@@ -485,36 +485,36 @@ tells (third.Minimum a) p s = good _
 tells (third.Layer l) p s = good _
 
 module _ (s : Surface) (g : Group) where
-  air-adds : Adds s (surface.saidAir g)
-  unfolding withSaid surface.saidAir surface.airIs
+  air-adds : Adds s (surface.said_air g)
+  unfolding with_said surface.said_air surface.air_is
   air-adds = search added depth 8
 
-  layer-adds : Adds s (surface.saidLayer g)
-  unfolding withSaid surface.saidLayer
+  layer-adds : Adds s (surface.said_layer g)
+  unfolding with_said surface.said_layer
   layer-adds = search added depth 12
 
-air-told : (b : Bool) (g : Group) → FairTold (section3.toldBy (section3.airBy b) (surface.saidAir g))
-air-told b g = told-fair blankSurface b (surface.saidAir g) (air-adds blankSurface g)
+air-told : (b : Bool) (g : Group) → FairTold (section3.told_by (section3.air_by b) (surface.said_air g))
+air-told b g = told-fair blank_surface b (surface.said_air g) (air-adds blank_surface g)
 
-layer-told : (ls : CloudLayers) (g : Group) → FairTold (section3.layerAt ls g)
-unfolding section3.layerAt
+layer-told : (ls : CloudLayers) (g : Group) → FairTold (section3.layer_at ls g)
+unfolding section3.layer_at
 layer-told ls g =
-    let said = section3.toldBy (section3.airBy false) (surface.saidLayer g) in
+    let said = section3.told_by (section3.air_by false) (surface.said_layer g) in
     let after = section3.risen ls said in
-    told-either (hasPattern g (bytes "8////")) third.Nothing (cond (leb 4 ls.count) (third.Refused refusal.Limit) after) tt
-    (told-either (leb 4 ls.count) (third.Refused refusal.Limit) after refl (risen-fair ls said (told-fair blankSurface false (surface.saidLayer g) (layer-adds blankSurface g))))
+    told-either (has_pattern g (bytes "8////")) third.Nothing (cond (leb 4 ls.count) (third.Refused refusal.Limit) after) tt
+    (told-either (leb 4 ls.count) (third.Refused refusal.Limit) after refl (risen-fair ls said (told-fair blank_surface false (surface.said_layer g) (layer-adds blank_surface g))))
 
 third-row : FairRow section3.row
 unfolding section3.row
 third-row =
-    (λ k g s. tells (section3.toldBy (section3.airBy false) (surface.saidAir g)) (air-told false g) s)
-    & (λ k g s. tells (section3.toldBy (section3.airBy true) (surface.saidAir g)) (air-told true g) s)
-    & (λ k g s. tells (section3.layerAt s.layers g) (layer-told s.layers g) s)
+    (λ k g s. tells (section3.told_by (section3.air_by false) (surface.said_air g)) (air-told false g) s)
+    & (λ k g s. tells (section3.told_by (section3.air_by true) (surface.said_air g)) (air-told true g) s)
+    & (λ k g s. tells (section3.layer_at s.layers g) (layer-told s.layers g) s)
     & tt
 
 -- 333 opens section 3, any other stop word ends the reading
 word-fair : (g : Group) → FairWord (section.word_of g)
-word-fair g = word-either (hasPattern g synop-row.section3Word) (opens _ (good _)) ends
+word-fair g = word-either (has_pattern g synop-row.section3_word) (opens _ (good _)) ends
 
 -- ---- the groups through Nddff, known by their position
 
@@ -523,9 +523,9 @@ FairPost p = (g : Group) (r : Synop) → Fairly (p.read g r)
 
 head-fair : (x : Said) (r : Synop) → Adds r.surface x → Fairly (synop.with_head x r)
 unfolding synop.with_head
-head-fair x r p = go (withSaid x r.surface) p
+head-fair x r p = go (with_said x r.surface) p
   where
-    go : (y : Read Surface) → Fairly y → Fairly (synop.ontoSurface (set_site (synop.siteOnto x r.site) r) y)
+    go : (y : Read Surface) → Fairly y → Fairly (synop.onto_surface (set_site (synop.site_onto x r.site) r) y)
     go _ (good a) = good _
     go _ (bad f h) = bad f h
 
@@ -551,13 +551,13 @@ module _ (n : ℕ) (tail : Tail) (end : ℕ) (w : TailWithin n tail) (h : end �
   unfolding section.section
   section-placed r gs v =
       report-placed n tail end w h section.parts (λ t o. record { row = third-row; word = λ u g. ends }) 1 _
-      (record { row = section-row (synop-row.needsOf r.surface); word = λ u g. word-fair g }) r.surface gs v
+      (record { row = section-row (synop-row.needs_of r.surface); word = λ u g. word-fair g }) r.surface gs v
 
-  short-placed : (u : Tail) → TailWithin n u → Placed n (synop.cutShort u end)
+  short-placed : (u : Tail) → TailWithin n u → Placed n (synop.cut_short u end)
   short-placed (Junk at) v = fault refusal.Shape at refl v
   short-placed Clear v = fault refusal.Absence end refl h
 
-  nil-placed : (u : Tail) → TailWithin n u → (r : Synop) (gs : List Piece) → Within n gs → Placed n (synop.afterNil u end r gs)
+  nil-placed : (u : Tail) → TailWithin n u → (r : Synop) (gs : List Piece) → Within n gs → Placed n (synop.after_nil u end r gs)
   nil-placed (Junk at) v r [] x = fault refusal.Shape at refl v
   nil-placed Clear v r [] x = done end _ h
   nil-placed (Junk at) v r (g ∷ gs) x = fault refusal.Shape g.start refl x.0
@@ -572,15 +572,15 @@ module _ (n : ℕ) (tail : Tail) (end : ℕ) (w : TailWithin n tail) (h : end �
   walk-placed [] fair r gs v = section-placed r gs v
   walk-placed (p ∷ ps) fair r [] v = short-placed tail w
   walk-placed (p ∷ ps) fair r (g ∷ gs) v =
-      placed-either (p.nil && synop.isNil g.bytes) (nil-placed tail w r gs v.1)
+      placed-either (p.nil && synop.is_nil g.bytes) (nil-placed tail w r gs v.1)
       (placed-either (p.has g.bytes) (go (p.read g.bytes r) (fair.0 g.bytes r) (λ r'. walk-placed ps fair.1 r' gs v.1)) (fault refusal.Shape g.start refl v.0))
     where
       go : (x : Read Synop) → Fairly x → ((r : Synop) → Placed n (synop.walk ps r tail end gs)) → Placed n (synop.onward x g.start (λ r'. synop.walk ps r' tail end gs))
       go _ (good a) k = k a
       go _ (bad f a) k = fault f g.start a v.0
 
-  pub surface-placed : (ship : Bool) (gs : List Piece) → Within n gs → Placed n (synop.groupsRead ship tail end gs)
-  unfolding synop.groupsRead
+  pub surface-placed : (ship : Bool) (gs : List Piece) → Within n gs → Placed n (synop.groups_read ship tail end gs)
+  unfolding synop.groups_read
   surface-placed ship gs v = walk-placed (synop.posts ship) (posts-fair ship) (begun ship) gs v
 
 -- ---- a text that has no name: 1 at 0, 2 at the byte, 3 at the first group
@@ -592,7 +592,7 @@ NamePlaced n (name.Forecast at) = Unit {0}
 NamePlaced n (name.Refused f at) = Fair f × (at ≤ n)
 
 module _ (n : ℕ) where
-  by-placed : (g : Group) (start end : ℕ) → start ≤ n → NamePlaced n (nameBy g start end)
+  by-placed : (g : Group) (start end : ℕ) → start ≤ n → NamePlaced n (name_by g start end)
   by-placed g start end h = go (word "AAXX" g) (word "BBXX" g) (word "METAR" g) (word "SPECI" g) (word "TAF" g)
     where
       go : (a b c d e : Bool)
@@ -604,11 +604,11 @@ module _ (n : ℕ) where
       go false false false false true = tt
       go false false false false false = (refl, h)
 
-  first-placed : (gs : List Piece) → Within n gs → NamePlaced n (firstName gs)
+  first-placed : (gs : List Piece) → Within n gs → NamePlaced n (first_name gs)
   first-placed [] v = (refl, omega arith)
   first-placed (g ∷ gs) v = by-placed g.bytes g.start (g.start + length g.bytes) v.0
 
-  after-bytes : (b : Bytes) (m : Name) → BytesWithin n b → NamePlaced n m → NamePlaced n (afterBytes b m)
+  after-bytes : (b : Bytes) (m : Name) → BytesWithin n b → NamePlaced n m → NamePlaced n (after_bytes b m)
   after-bytes judgement.Sound m h p = p
   after-bytes judgement.Length m h p = (refl, omega arith)
   after-bytes (judgement.Byte at) m h p = (refl, h)
@@ -616,4 +616,4 @@ module _ (n : ℕ) where
 pub name-placed : (t : List ℕ) → NamePlaced (length t) (name_of t)
 unfolding name_of
 name-placed t =
-    after-bytes (length t) (bytes_of t) (firstName (groupsFrom t 0)) (bytes-within t) (first-placed (length t) (groupsFrom t 0) (groups-within t 0))
+    after-bytes (length t) (bytes_of t) (first_name (groups_from t 0)) (bytes-within t) (first-placed (length t) (groups_from t 0) (groups-within t 0))

@@ -13,7 +13,7 @@ use Rattle.text.specs.declared.kinds.Judged.TheVariants as judged
 use Rattle.text.specs.Judge.{judge, and_then}
 use Rattle.record.specs.declared.values.Number.{Number}
 use Rattle.record.specs.declared.values.Number.TheVariants as number
-use Rattle.record.specs.Missing.{isMissing, present, optional}
+use Rattle.record.specs.Missing.{is_missing, present, optional}
 
 -- "writer: a value outside its range, a bad name, a required one missing, half of a pair, a count over its limit, a slot past its count or a field foreign to
 -- the kind (or to NIL, CNL) that is not blank"; "groups each right that disagree". That "the buffer is shorter" is no cause of the record's.
@@ -43,17 +43,17 @@ twice false = refl
 
 module _ {F : Type 0} where
   -- "7 | groups each right that disagree"; the others are 11
-  abbrev pub refusedBy : ListedCause F → Refusal
-  refusedBy (outside-its-range f) = refusal.Value
-  refusedBy (bad-name f) = refusal.Value
-  refusedBy (required-missing f) = refusal.Value
-  refusedBy (half-of-a-pair f) = refusal.Value
-  refusedBy (over-its-limit f) = refusal.Value
-  refusedBy (slot-past-its-count f) = refusal.Value
-  refusedBy (foreign f) = refusal.Value
-  refusedBy (disagreeing f) = refusal.Disagreement
+  abbrev pub refused_by : ListedCause F → Refusal
+  refused_by (outside-its-range f) = refusal.Value
+  refused_by (bad-name f) = refusal.Value
+  refused_by (required-missing f) = refusal.Value
+  refused_by (half-of-a-pair f) = refusal.Value
+  refused_by (over-its-limit f) = refusal.Value
+  refused_by (slot-past-its-count f) = refusal.Value
+  refused_by (foreign f) = refusal.Value
+  refused_by (disagreeing f) = refusal.Disagreement
 
-  pub seven-or-eleven : (P : Refusal → Type 0) → P refusal.Disagreement → P refusal.Value → (c : ListedCause F) → P (refusedBy c)
+  pub seven-or-eleven : (P : Refusal → Type 0) → P refusal.Disagreement → P refusal.Value → (c : ListedCause F) → P (refused_by c)
   seven-or-eleven P seven eleven (outside-its-range f) = eleven
   seven-or-eleven P seven eleven (bad-name f) = eleven
   seven-or-eleven P seven eleven (required-missing f) = eleven
@@ -66,7 +66,7 @@ module _ {F : Type 0} where
   -- what the first cause that holds is refused by
   abbrev pub first_of : List (Asked F) → Judged
   first_of [] = judged.Fine
-  first_of (asked c h ∷ qs) = cond h (judged.Refused (refusedBy c)) (first_of qs)
+  first_of (asked c h ∷ qs) = cond h (judged.Refused (refused_by c)) (first_of qs)
 
   -- the cause holds, where the test fails
   abbrev pub unless : Bool → ListedCause F → List (Asked F)
@@ -74,7 +74,7 @@ module _ {F : Type 0} where
 
   -- a number of a field that has to be there, and one that may be missing
   abbrev pub needed : F → (ℕ → Bool) → Number → List (Asked F)
-  needed f ok n = asked (required-missing f) (isMissing n) ∷ asked (outside-its-range f) (strays ok n) ∷ []
+  needed f ok n = asked (required-missing f) (is_missing n) ∷ asked (outside-its-range f) (strays ok n) ∷ []
 
   abbrev pub free : F → (ℕ → Bool) → Number → List (Asked F)
   free f ok n = asked (outside-its-range f) (strays ok n) ∷ []
@@ -99,11 +99,11 @@ module _ {F : Type 0} where
   first_holds here = at
   first_holds (later x) = further (first_holds x)
 
-  pub first-refused : {qs : List (Asked F)} {c : ListedCause F} → First qs c → first_of qs ≡ judged.Refused (refusedBy c)
+  pub first-refused : {qs : List (Asked F)} {c : ListedCause F} → First qs c → first_of qs ≡ judged.Refused (refused_by c)
   first-refused here = refl
   first-refused (later x) = first-refused x
 
-  pub refused-first : (qs : List (Asked F)) (f : Refusal) → first_of qs ≡ judged.Refused f → (c : ListedCause F) × First qs c × (refusedBy c ≡ f)
+  pub refused-first : (qs : List (Asked F)) (f : Refusal) → first_of qs ≡ judged.Refused f → (c : ListedCause F) × First qs c × (refused_by c ≡ f)
   refused-first [] f e = impossible (cc)
   refused-first (asked c true ∷ qs) f e = (c, here, (cc))
   refused-first (asked c false ∷ qs) f e = let (d, x, is) = refused-first qs f e in (d, later x, is)
@@ -128,7 +128,7 @@ module _ {F : Type 0} where
   -- all of the list are refused alike
   pub data Alike (f : Refusal) : List (Asked F) → Type 0 where
     none : Alike f []
-    one_more : {c : ListedCause F} {h : Bool} {qs : List (Asked F)} → refusedBy c ≡ f → Alike f qs → Alike f (asked c h ∷ qs)
+    one_more : {c : ListedCause F} {h : Bool} {qs : List (Asked F)} → refused_by c ≡ f → Alike f qs → Alike f (asked c h ∷ qs)
 
   pub alike-first : {f : Refusal} {qs : List (Asked F)} → Alike f qs → first_of qs ≡ cond (clear qs) judged.Fine (judged.Refused f)
   alike-first none = refl
@@ -165,13 +165,13 @@ module _ {F : Type 0} where
 
   -- EXACTLY: what is so judged is refused for the first cause of the list that holds, by its number, and for nothing else; where any of them holds, it is refused
   module _ {j : Judged} {qs : List (Asked F)} (by : Judges j qs) where
-    pub refused-for : (f : Refusal) → j ≡ judged.Refused f → (c : ListedCause F) × First qs c × (refusedBy c ≡ f)
+    pub refused-for : (f : Refusal) → j ≡ judged.Refused f → (c : ListedCause F) × First qs c × (refused_by c ≡ f)
     refused-for f e = refused-first qs f (sym by.is ∙ e)
 
-    pub first-refuses : {c : ListedCause F} → First qs c → j ≡ judged.Refused (refusedBy c)
+    pub first-refuses : {c : ListedCause F} → First qs c → j ≡ judged.Refused (refused_by c)
     first-refuses x = by.is ∙ first-refused x
 
-    pub each-refuses : {c : ListedCause F} → Holds qs c → (d : ListedCause F) × First qs d × (j ≡ judged.Refused (refusedBy d))
+    pub each-refuses : {c : ListedCause F} → Holds qs c → (d : ListedCause F) × First qs d × (j ≡ judged.Refused (refused_by d))
     each-refuses x = let (d, y) = some_first x in (d, y, first-refuses y)
 
   -- one judgement after another
@@ -199,11 +199,11 @@ module _ {F : Type 0} where
       go (asked c true ∷ qs) a b e g = rw e
       go (asked c false ∷ qs) a b e g = go qs a b e g
 
-  pub clear-unless : {c : ListedCause F} (b : Bool) → Clears (refusedBy c) b (unless b c)
+  pub clear-unless : {c : ListedCause F} (b : Bool) → Clears (refused_by c) b (unless b c)
   clear-unless b = record { alike = one_more refl none; is = twice b }
 
   -- a cause that holds where a test succeeds
-  pub clear-asked : {c : ListedCause F} (h : Bool) → Clears (refusedBy c) (not h) (asked c h ∷ [])
+  pub clear-asked : {c : ListedCause F} (h : Bool) → Clears (refused_by c) (not h) (asked c h ∷ [])
   clear-asked true = record { alike = one_more refl none; is = refl }
   clear-asked false = record { alike = one_more refl none; is = refl }
 
@@ -226,9 +226,9 @@ module _ {F : Type 0} where
 
   -- ---- lists: each in turn, with its number in the list
 
-  abbrev pub eachFrom : {A : Type 0} → (ℕ → A → List (Asked F)) → ℕ → List A → List (Asked F)
-  eachFrom causes n [] = []
-  eachFrom causes n (x ∷ xs) = causes n x ++ eachFrom causes (n + 1) xs
+  abbrev pub each_from : {A : Type 0} → (ℕ → A → List (Asked F)) → ℕ → List A → List (Asked F)
+  each_from causes n [] = []
+  each_from causes n (x ∷ xs) = causes n x ++ each_from causes (n + 1) xs
 
   -- "a count over its limit, a slot past its count .. that is not blank"
   abbrev pub counted : F → Bool → Bool → List (Asked F)
@@ -254,7 +254,7 @@ module _ {F G : Type 0} (at : F → G) where
   within [] = []
   within (asked c h ∷ qs) = asked (renamed c) h ∷ within qs
 
-  same-refusal : (c : ListedCause F) → refusedBy (renamed c) ≡ refusedBy c
+  same-refusal : (c : ListedCause F) → refused_by (renamed c) ≡ refused_by c
   same-refusal (outside-its-range f) = refl
   same-refusal (bad-name f) = refl
   same-refusal (required-missing f) = refl

@@ -17,13 +17,13 @@ use Rattle.text.specs.declared.kinds.Bytes.{Bytes}
 use Rattle.text.specs.declared.kinds.Bytes.TheVariants as judgement
 use Rattle.text.specs.Refusals.{number_of}
 use Rattle.text.specs.Bytes.{parting, inner, allowed, lead}
-use Rattle.text.specs.Groups.{Piece, groupsIn, groupsFrom, pastParting}
-use Rattle.text.specs.Text.{equalsAt, bytes_of, junkFrom, tailOf}
+use Rattle.text.specs.Groups.{Piece, groups_in, groups_from, past_parting}
+use Rattle.text.specs.Text.{equals_at, bytes_of, junk_from, tail_of}
 use Rattle.places.specs.declared.kinds.Found.{Found}
 use Rattle.places.specs.declared.kinds.Found.TheVariants.{Take, Skips, Full, Earlier, Unknown}
-use Rattle.places.specs.Seek.{findOf}
-use Rattle.places.specs.Engine.{Group, Read, Good, Bad, Place, placeAt, standsOf, taken, judged, Step, On, Halt, Stop, Outcome, Done, Fault, finish}
-use Rattle.places.specs.Parts.{Exits, stepBy, carryTo, runTo, Begun, Word, Ends, Opens, Bars, Part, Parts, Further, turned, ended, unless, owes, partExits, partFrom, afterFirst, begins, further, reportOf}
+use Rattle.places.specs.Seek.{find_of}
+use Rattle.places.specs.Engine.{Group, Read, Good, Bad, Place, place_at, stands_of, taken, judged, Step, On, Halt, Stop, Outcome, Done, Fault, finish}
+use Rattle.places.specs.Parts.{Exits, step_by, carry_to, run_to, Begun, Word, Ends, Opens, Bars, Part, Parts, Further, turned, ended, unless, owes, part_exits, part_from, after_first, begins, further, report_of}
 
 -- something of each element of a list, in its order
 abbrev pub Each : {A : Type 0} → (A → Type 0) → List A → Type 0
@@ -82,11 +82,11 @@ abbrev pub TailWithin : ℕ → Tail → Type 0
 TailWithin n Clear = Unit {0}
 TailWithin n (Junk at) = at ≤ n
 
-in_within : (n p s : ℕ) (xs : List ℕ) → p + length xs ≤ n → Within n (groupsIn p s xs)
-unfolding groupsIn
+in_within : (n p s : ℕ) (xs : List ℕ) → p + length xs ≤ n → Within n (groups_in p s xs)
+unfolding groups_in
 in_within n p s [] h = tt
 in_within n p zero (x ∷ xs) h =
-    go (parting x) (inner x) (take (lead inner (x ∷ xs)) (x ∷ xs)) (groupsIn (suc p) zero xs) (groupsIn (suc p) (lead inner xs) xs)
+    go (parting x) (inner x) (take (lead inner (x ∷ xs)) (x ∷ xs)) (groups_in (suc p) zero xs) (groups_in (suc p) (lead inner xs) xs)
     (in_within n (suc p) zero xs (omega arith)) (in_within n (suc p) (lead inner xs) xs (omega arith))
   where
     go : (a b : Bool) (g : List ℕ) (us vs : List Piece) → Within n us → Within n vs
@@ -96,17 +96,17 @@ in_within n p zero (x ∷ xs) h =
     go false false g us vs u v = tt
 in_within n p (suc s) (x ∷ xs) h = in_within n (suc p) s xs (omega arith)
 
-pub groups-within : (t : List ℕ) (at : ℕ) → Within (length t) (groupsFrom t at)
-unfolding groupsFrom groupsIn
+pub groups-within : (t : List ℕ) (at : ℕ) → Within (length t) (groups_from t at)
+unfolding groups_from groups_in
 groups-within t at = go (leb at (length t)) refl
   where
-    go : (b : Bool) → leb at (length t) ≡ b → Within (length t) (groupsIn at 0 (drop at t))
+    go : (b : Bool) → leb at (length t) ≡ b → Within (length t) (groups_in at 0 (drop at t))
     go true e = let h = leb-true at (length t) e in in_within (length t) at 0 (drop at t) (omega (arith, h, length-drop at t))
     go false e = let h = leb-false at (length t) e in rw (drop_of_length-le t {i = at} (omega (arith, h))) tt
 
-pub tail_within : (t : List ℕ) → TailWithin (length t) (tailOf t)
-unfolding tailOf junkFrom
-tail_within t = go (pastParting t (equalsAt t + 1)) (ltb (pastParting t (equalsAt t + 1)) (length t)) refl
+pub tail_within : (t : List ℕ) → TailWithin (length t) (tail_of t)
+unfolding tail_of junk_from
+tail_within t = go (past_parting t (equals_at t + 1)) (ltb (past_parting t (equals_at t + 1)) (length t)) refl
   where
     go : (p : ℕ) (b : Bool) → ltb p (length t) ≡ b → TailWithin (length t) (cond b (Junk p) Clear)
     go p true e = omega (arith, ltb-true p (length t) e)
@@ -135,7 +135,7 @@ module _ {R : Type 0} where
   abbrev pub FairRow : List (Place R) → Type 0
   FairRow row = Each FairPlace row
 
-  fair-at : (row : List (Place R)) → FairRow row → (i : ℕ) → FairPlace (placeAt row i)
+  fair-at : (row : List (Place R)) → FairRow row → (i : ℕ) → FairPlace (place_at row i)
   fair-at [] f i = λ k g r. bad refusal.Shape refl
   fair-at (p ∷ ps) f zero = f.0
   fair-at (p ∷ ps) f (suc i) = fair-at ps f.1 i
@@ -151,7 +151,7 @@ module _ {R : Type 0} where
 
   module _ (row : List (Place R)) (fair : FairRow row) where
     judged-fair : (r : R) (g : Group) (f : Found) → FairStep (judged row r g f)
-    judged-fair r g (Take i k) = taken-fair _ _ ((placeAt row i).read k g r) (fair-at row fair i k g r)
+    judged-fair r g (Take i k) = taken-fair _ _ ((place_at row i).read k g r) (fair-at row fair i k g r)
     judged-fair r g Skips = refl
     judged-fair r g Full = refl
     judged-fair r g Earlier = refl
@@ -167,13 +167,13 @@ module _ {R : Type 0} where
         (at-end : (c k : ℕ) (r : R) → Q (x.over c k r))
         (at-halt : (c k : ℕ) (r : R) (g : Piece) (gs : List Piece) → g.start ≤ n → Within n gs → Q (x.halt c k r g gs))
         (at-fault : (f : Refusal) (at : ℕ) → Fair f → at ≤ n → Q (x.fault f at)) where
-      pub runs_to : (gs : List Piece) → Within n gs → (c k : ℕ) (r : R) → Q (runTo row halts x c k r gs)
-      unfolding runTo
+      pub runs_to : (gs : List Piece) → Within n gs → (c k : ℕ) (r : R) → Q (run_to row halts x c k r gs)
+      unfolding run_to
       runs_to [] w c k r = at-end c k r
       runs_to (g ∷ gs) w c k r =
-          go (stepBy row halts c k r g.bytes) (step-fair (leb (length row) c) (halts g.bytes) r g.bytes (findOf (standsOf row g.bytes) c k)) (runs_to gs w.1)
+          go (step_by row halts c k r g.bytes) (step-fair (leb (length row) c) (halts g.bytes) r g.bytes (find_of (stands_of row g.bytes) c k)) (runs_to gs w.1)
         where
-          go : (s : Step R) → FairStep s → ((c k : ℕ) (r : R) → Q (runTo row halts x c k r gs)) → Q (carryTo s x c k r g gs (λ c' k' r'. runTo row halts x c' k' r' gs))
+          go : (s : Step R) → FairStep s → ((c k : ℕ) (r : R) → Q (run_to row halts x c k r gs)) → Q (carry_to s x c k r g gs (λ c' k' r'. run_to row halts x c' k' r' gs))
           go (On c' k' r') h ih = ih c' k' r'
           go Halt h ih = at-halt c k r g gs w.0 w.1
           go (Stop f) h ih = at-fault f g.start h w.0
@@ -213,9 +213,9 @@ module _ {T P W : Type 0} (n : ℕ) (tail : Tail) (end : ℕ) (w : TailWithin n 
   turned-placed f fair t g gs u v _ (bars r a) = fault r g.start a u
 
   part_placed : {R : Type 0} (part : Part T P W R) → FairPart part → (f : Further T P W) → FairFurther f
-      → (gs : List Piece) → Within n gs → (c k : ℕ) (r : R) → Placed n (partFrom tail end part f c k r gs)
+      → (gs : List Piece) → Within n gs → (c k : ℕ) (r : R) → Placed n (part_from tail end part f c k r gs)
   part_placed part fair f further-fair gs v c k r =
-      runs_to part.row fair.row (Placed n) n part.halts (partExits tail end part f)
+      runs_to part.row fair.row (Placed n) n part.halts (part_exits tail end part f)
       (λ c k r. ended-placed n tail end w h (owes part c k r) (part.takes r))
       (λ c k r g gs u v. unless-placed n (owes part c k r) g.start u (turned-placed f further-fair (part.takes r) g gs u v (part.word (part.takes r) g.bytes) (fair.word (part.takes r) g.bytes)))
       (λ g at a u. fault g at a u) gs v c k r
@@ -225,7 +225,7 @@ module _ {T P W : Type 0} (n : ℕ) (tail : Tail) (end : ℕ) (w : TailWithin n 
     begins-placed f further-fair t o p [] v = part_placed (parts.part t o) (fair t o) f further-fair [] tt 0 0 p
     begins-placed f further-fair t o p (g ∷ gs) v = go (parts.joins o g.bytes)
       where
-        go : (b : Bool) → Placed n (afterFirst tail end parts b f t o p g gs)
+        go : (b : Bool) → Placed n (after_first tail end parts b f t o p g gs)
         go true = part_placed (parts.part t (parts.joined o)) (fair t (parts.joined o)) f further-fair gs v.1 0 0 p
         go false = part_placed (parts.part t o) (fair t o) f further-fair (g ∷ gs) v 0 0 p
 
@@ -235,6 +235,6 @@ module _ {T P W : Type 0} (n : ℕ) (tail : Tail) (end : ℕ) (w : TailWithin n 
     further-placed (suc m) t g _ gs u (good b) v = begins-placed (λ t' g' x' gs'. further tail end parts m t' g' x' gs') (further-placed m) t b.kind b.start gs v
     further-placed (suc m) t g _ gs u (bad f a) v = fault f g.start a u
 
-    pub report-placed : {M : Type 0} (m : ℕ) (main : Part T P W M) → FairPart main → (r : M) (gs : List Piece) → Within n gs → Placed n (reportOf tail end parts m main r gs)
-    unfolding reportOf
+    pub report-placed : {M : Type 0} (m : ℕ) (main : Part T P W M) → FairPart main → (r : M) (gs : List Piece) → Within n gs → Placed n (report_of tail end parts m main r gs)
+    unfolding report_of
     report-placed m main a r gs v = part_placed main a (further tail end parts m) (further-placed m) gs v 0 0 r

@@ -19,7 +19,7 @@ use Rattle.text.specs.declared.kinds.Verdict.{Verdict}
 use Rattle.text.specs.declared.kinds.Verdict.TheVariants as verdict
 use Rattle.text.specs.declared.kinds.Written.{Written}
 use Rattle.text.specs.declared.kinds.Written.TheVariants as answer
-use Rattle.text.specs.Groups.{Piece, groupsFrom}
+use Rattle.text.specs.Groups.{Piece, groups_from}
 use Rattle.record.specs.declared.aerodrome.Edition.{Edition}
 use Rattle.record.specs.declared.aerodrome.Edition.TheVariants as edition
 use Rattle.report_record.specs.declared.kinds.Kind.{Kind}
@@ -29,11 +29,11 @@ use Rattle.report_record.specs.declared.kinds.Name.TheVariants as name
 use Rattle.report_record.specs.declared.kinds.Report.{Report}
 use Rattle.report_record.specs.declared.kinds.Reading.{Reading}
 use Rattle.report_record.specs.Record.{reading, accepted}
-use Rattle.report.specs.Read.{name_of, readIn}
-use Rattle.report.specs.Write.{judgeIn, canonicalOf, writtenIn, bufferIn}
+use Rattle.report.specs.Read.{name_of, read_in}
+use Rattle.report.specs.Write.{judge_in, canonical_of, written_in, buffer_in}
 use Rattle.report_laws.proofs.ByName.{read-surface, read-observed, read-forecast, AcceptedAs, a-surface, an-observed, a-forecast}
 use Rattle.report_laws.proofs.Listed.{ListedCause, Holds, first_holds}
-use Rattle.report_laws.proofs.ReportCauses.{Field, causesIn}
+use Rattle.report_laws.proofs.ReportCauses.{Field, causes_in}
 use Rattle.report_laws.proofs.Demands.{Cause, listed, short-buffer, only-causes, one-text, text-left}
 use Rattle.report_laws.proofs.Taken.{given-fine}
 use Rattle.report_laws.proofs.Examples.{answer_in}
@@ -47,23 +47,23 @@ pub data ReportKind : Type 0 where
   speci : ReportKind
   taf : ReportKind
 
-abbrev pub kindNamed : Name → Option ReportKind
-kindNamed (name.Surface at-sea at) = some (cond at-sea ship synop)
-kindNamed (name.Observed special at) = some (cond special speci metar)
-kindNamed (name.Forecast at) = some taf
-kindNamed (name.Refused f at) = none
+abbrev pub kind_named : Name → Option ReportKind
+kind_named (name.Surface at-sea at) = some (cond at-sea ship synop)
+kind_named (name.Observed special at) = some (cond special speci metar)
+kind_named (name.Forecast at) = some taf
+kind_named (name.Refused f at) = none
 
-abbrev pub kindKept : Kind → Report → Option ReportKind
-kindKept kind.Missing r = none
-kindKept kind.Surface r = some (cond r.surface.ship ship synop)
-kindKept kind.Observed r = some (cond r.observed.observation.special speci metar)
-kindKept kind.Forecast r = some taf
+abbrev pub kind_kept : Kind → Report → Option ReportKind
+kind_kept kind.Missing r = none
+kind_kept kind.Surface r = some (cond r.surface.ship ship synop)
+kind_kept kind.Observed r = some (cond r.observed.observation.special speci metar)
+kind_kept kind.Forecast r = some taf
 
 abbrev pub TextOf : ReportKind → List ℕ → Type 0
-TextOf k t = kindNamed (name_of t) ≡ some k
+TextOf k t = kind_named (name_of t) ≡ some k
 
 abbrev pub RecordOf : ReportKind → Report → Type 0
-RecordOf k r = kindKept r.kind r ≡ some k
+RecordOf k r = kind_kept r.kind r ≡ some k
 
 -- ---- two texts of each kind, which differ in the last figure alone: 5.3 or 5.4 degrees, a Q of 1013 or 1014, clouds from 390 or from 420 m
 
@@ -85,10 +85,10 @@ text k e other = bytes (stem k e) ++ figure other
 -- is. SYNOP to SPECI are computed in each edition too, since a computation with a variable in it takes too many steps.
 pub record Shown (k : ReportKind) (e : Edition) (t : List ℕ) : Type 0 where
   pub named : TextOf k t
-  pub first : take 1 (groupsFrom t 0) ≡ take 1 (groupsFrom (text k e false) 0)
-  pub accepts : (readIn e t).verdict ≡ verdict.Accepted (length t)
-  pub kept : RecordOf k (readIn e t).report
-  pub canonical : canonicalOf (readIn e t).report ≡ t
+  pub first : take 1 (groups_from t 0) ≡ take 1 (groups_from (text k e false) 0)
+  pub accepts : (read_in e t).verdict ≡ verdict.Accepted (length t)
+  pub kept : RecordOf k (read_in e t).report
+  pub canonical : canonical_of (read_in e t).report ≡ t
 
 pub shown : (k : ReportKind) (e : Edition) (other : Bool) → Shown k e (text k e other)
 unfolding answer_in
@@ -127,88 +127,88 @@ apart k e is =
 
 -- ---- the reader
 
-abbrev isAccepted : Verdict → Bool
-isAccepted (verdict.Accepted rest) = true
-isAccepted (verdict.Refused f at) = false
+abbrev is_accepted : Verdict → Bool
+is_accepted (verdict.Accepted rest) = true
+is_accepted (verdict.Refused f at) = false
 
-module _ (chosen : Edition) (read : List ℕ → Reading) (meets : (t : List ℕ) → read t ≡ readIn chosen t) where
+module _ (chosen : Edition) (read : List ℕ → Reading) (meets : (t : List ℕ) → read t ≡ read_in chosen t) where
   -- one refusing a text that the definitions accept
-  pub no-stricter-reader : (t : List ℕ) (rest : ℕ) (w : Report) → AcceptedAs chosen t rest w → isAccepted (read t).verdict ≡ false → ⊥
+  pub no-stricter-reader : (t : List ℕ) (rest : ℕ) (w : Report) → AcceptedAs chosen t rest w → is_accepted (read t).verdict ≡ false → ⊥
   no-stricter-reader t rest w x refuses = false≢true (sym (rw (meets t, go x) at refuses))
     where
-      go : {v : Report} → AcceptedAs chosen t rest v → readIn chosen t ≡ accepted rest v
+      go : {v : Report} → AcceptedAs chosen t rest v → read_in chosen t ≡ accepted rest v
       go (a-surface r y) = read-surface chosen y
       go (an-observed r y) = read-observed chosen y
       go (a-forecast r y) = read-forecast chosen y
 
   module _ (k : ReportKind) where
-    accepts : (other : Bool) → isAccepted (read (text k chosen other)).verdict ≡ true
+    accepts : (other : Bool) → is_accepted (read (text k chosen other)).verdict ≡ true
     accepts other = rw (meets (text k chosen other), (shown k chosen other).accepts)
 
     -- one refusing every text of the kind
-    pub no-refusing-reader : ((t : List ℕ) → TextOf k t → isAccepted (read t).verdict ≡ false) → ⊥
+    pub no-refusing-reader : ((t : List ℕ) → TextOf k t → is_accepted (read t).verdict ≡ false) → ⊥
     no-refusing-reader all = false≢true (sym (all (text k chosen false) (shown k chosen false).named) ∙ accepts false)
 
     -- the two texts have two records
     records-apart : (x : Report) → ((other : Bool) → (read (text k chosen other)).report ≡ x) → ⊥
     records-apart x is = apart k chosen (sym (written false) ∙ written true)
       where
-        written : (other : Bool) → canonicalOf x ≡ text k chosen other
+        written : (other : Bool) → canonical_of x ≡ text k chosen other
         written other = rw (← is other, meets (text k chosen other)) (shown k chosen other).canonical
 
     -- one returning a fixed record
-    pub no-fixed-record : (x : Report) → ((t : List ℕ) → TextOf k t → isAccepted (read t).verdict ≡ true → (read t).report ≡ x) → ⊥
+    pub no-fixed-record : (x : Report) → ((t : List ℕ) → TextOf k t → is_accepted (read t).verdict ≡ true → (read t).report ≡ x) → ⊥
     no-fixed-record x fixed = records-apart x (λ other. fixed (text k chosen other) (shown k chosen other).named (accepts other))
 
     -- one that reads the first group, and copies blanks, or anything, for the others
     pub no-first-group-reader : (copy : List Piece → Report)
-        → ((t : List ℕ) → TextOf k t → isAccepted (read t).verdict ≡ true → (read t).report ≡ copy (take 1 (groupsFrom t 0))) → ⊥
+        → ((t : List ℕ) → TextOf k t → is_accepted (read t).verdict ≡ true → (read t).report ≡ copy (take 1 (groups_from t 0))) → ⊥
     no-first-group-reader copy by_first =
-        records-apart (copy (take 1 (groupsFrom (text k chosen false) 0)))
+        records-apart (copy (take 1 (groups_from (text k chosen false) 0)))
         (λ other. by_first (text k chosen other) (shown k chosen other).named (accepts other) ∙ ap copy (shown k chosen other).first)
 
 -- ---- the writer
 
-abbrev isDone : Written → Bool
-isDone (answer.Count n) = true
-isDone (answer.Refused f) = false
+abbrev is_done : Written → Bool
+is_done (answer.Count n) = true
+is_done (answer.Refused f) = false
 
 module _ (chosen : Edition) (write : Report → List ℕ → Written) (after : Report → List ℕ → List ℕ)
-    (answers : (r : Report) (b : List ℕ) → write r b ≡ writtenIn chosen r (length b)) (leaves : (r : Report) (b : List ℕ) → after r b ≡ bufferIn chosen r b) where
+    (answers : (r : Report) (b : List ℕ) → write r b ≡ written_in chosen r (length b)) (leaves : (r : Report) (b : List ℕ) → after r b ≡ buffer_in chosen r b) where
   -- one refusing a record of which none of the listed causes holds, and for which there is room
-  pub no-stricter-writer : (r : Report) (b : List ℕ) → ((c : ListedCause Field) → Holds (causesIn chosen r) c → ⊥) → length (canonicalOf r) ≤ length b
-      → isDone (write r b) ≡ false → ⊥
-  no-stricter-writer r b no-cause has_room refuses = go (writtenIn chosen r (length b)) refl (rw (answers r b) at refuses)
+  pub no-stricter-writer : (r : Report) (b : List ℕ) → ((c : ListedCause Field) → Holds (causes_in chosen r) c → ⊥) → length (canonical_of r) ≤ length b
+      → is_done (write r b) ≡ false → ⊥
+  no-stricter-writer r b no-cause has_room refuses = go (written_in chosen r (length b)) refl (rw (answers r b) at refuses)
     where
       caused : {f : Refusal} → Cause chosen r b f → ⊥
       caused (listed c x) = no-cause c (first_holds x)
       caused (short-buffer j h) = omega (arith, has_room, h)
 
-      go : (w : Written) → writtenIn chosen r (length b) ≡ w → isDone w ≡ false → ⊥
+      go : (w : Written) → written_in chosen r (length b) ≡ w → is_done w ≡ false → ⊥
       go (answer.Count n) is e = false≢true (sym e)
       go (answer.Refused f) is e = caused (only-causes chosen r b f is)
 
   module _ (k : ReportKind) where
     -- the records of the two texts, written over the first of these
     abbrev given : Bool → Report
-    given other = (readIn chosen (text k chosen other)).report
+    given other = (read_in chosen (text k chosen other)).report
 
     abbrev lent : List ℕ
     lent = text k chosen false
 
-    fine : (other : Bool) → judgeIn chosen (given other) ≡ judged.Fine
+    fine : (other : Bool) → judge_in chosen (given other) ≡ judged.Fine
     fine other =
         let t = text k chosen other in
         given-fine chosen t (length t) (given other) (ap (λ (v : Verdict). reading v (given other)) (shown k chosen other).accepts)
 
-    room : (other : Bool) → length (canonicalOf (given other)) ≤ length lent
+    room : (other : Bool) → length (canonical_of (given other)) ≤ length lent
     room other = rw ((shown k chosen other).canonical, same_length k chosen other) (omega arith)
 
-    writes : (other : Bool) → isDone (write (given other) lent) ≡ true
+    writes : (other : Bool) → is_done (write (given other) lent) ≡ true
     writes other = rw (answers (given other) lent, (one-text chosen (given other) lent (fine other) (room other)).0)
 
     -- one refusing every record of the kind
-    pub no-refusing-writer : ((r : Report) (b : List ℕ) → RecordOf k r → isDone (write r b) ≡ false) → ⊥
+    pub no-refusing-writer : ((r : Report) (b : List ℕ) → RecordOf k r → is_done (write r b) ≡ false) → ⊥
     no-refusing-writer all = false≢true (sym (all (given false) lent (shown k chosen false).kept) ∙ writes false)
 
     -- they leave two texts
@@ -221,9 +221,9 @@ module _ (chosen : Edition) (write : Report → List ℕ → Written) (after : R
             ∙ rw ((shown k chosen other).canonical, same_length k chosen other) at (text-left chosen (given other) lent (fine other) (room other))
 
     -- one writing a fixed text
-    pub no-fixed-text : (x : List ℕ) → ((r : Report) (b : List ℕ) → RecordOf k r → isDone (write r b) ≡ true → after r b ≡ splice b 0 x) → ⊥
+    pub no-fixed-text : (x : List ℕ) → ((r : Report) (b : List ℕ) → RecordOf k r → is_done (write r b) ≡ true → after r b ≡ splice b 0 x) → ⊥
     no-fixed-text x fixed = texts-apart (splice lent 0 x) (λ other. fixed (given other) lent (shown k chosen other).kept (writes other))
 
     -- one that writes nothing and says done
-    pub no-idle-writer : ((r : Report) (b : List ℕ) → RecordOf k r → isDone (write r b) ≡ true → after r b ≡ b) → ⊥
+    pub no-idle-writer : ((r : Report) (b : List ℕ) → RecordOf k r → is_done (write r b) ≡ true → after r b ≡ b) → ⊥
     no-idle-writer idle = texts-apart lent (λ other. idle (given other) lent (shown k chosen other).kept (writes other))

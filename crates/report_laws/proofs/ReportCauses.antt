@@ -4,13 +4,13 @@
 use mathlib.Core.Path.{refl}
 use mathlib.Core.Bool.{true}
 use mathlib.Core.List.{List, [], ◌∷◌, ◌++◌}
-use Rattle.record.specs.SilentSurface.{isBlankSynop}
-use Rattle.record.specs.SilentAerodrome.{isBlankMetar, isBlankTaf}
+use Rattle.record.specs.SilentSurface.{is_blank_synop}
+use Rattle.record.specs.SilentAerodrome.{is_blank_metar, is_blank_taf}
 use Rattle.record.specs.declared.aerodrome.Edition.{Edition}
 use Rattle.report_record.specs.declared.kinds.Kind.{Kind}
 use Rattle.report_record.specs.declared.kinds.Kind.TheVariants as kind
 use Rattle.report_record.specs.declared.kinds.Report.{Report}
-use Rattle.report.specs.Write.{judgeBy, judgeIn}
+use Rattle.report.specs.Write.{judge_by, judge_in}
 use Rattle.report_laws.proofs.Listed.{required-missing, foreign, Asked, asked, unless, Judges, value-judges, in-turn, both-clear, clear-unless, within, judges-within}
 use Rattle.report_laws.proofs.SurfaceCauses as surface
 use Rattle.report_laws.proofs.ObservedCauses as observed
@@ -29,28 +29,28 @@ pub data Field : Type 0 where
 abbrev Causes : Type 0
 Causes = List (Asked Field)
 
-abbrev causesBy : Edition → Kind → Report → Causes
-causesBy e kind.Missing r = asked (required-missing kind-of-report) true ∷ []
-causesBy e kind.Surface r =
-    (unless (isBlankMetar r.observed) (foreign observed-part) ++ unless (isBlankTaf r.forecast) (foreign forecast-part)) ++ within of-surface (surface.causesOf r.surface)
-causesBy e kind.Observed r =
-    (unless (isBlankSynop r.surface) (foreign surface-part) ++ unless (isBlankTaf r.forecast) (foreign forecast-part)) ++ within of-observed (observed.causesOf r.observed)
-causesBy e kind.Forecast r =
-    (unless (isBlankSynop r.surface) (foreign surface-part) ++ unless (isBlankMetar r.observed) (foreign observed-part)) ++ within of-forecast (forecast.causesIn e r.forecast)
+abbrev causes_by : Edition → Kind → Report → Causes
+causes_by e kind.Missing r = asked (required-missing kind-of-report) true ∷ []
+causes_by e kind.Surface r =
+    (unless (is_blank_metar r.observed) (foreign observed-part) ++ unless (is_blank_taf r.forecast) (foreign forecast-part)) ++ within of-surface (surface.causes_of r.surface)
+causes_by e kind.Observed r =
+    (unless (is_blank_synop r.surface) (foreign surface-part) ++ unless (is_blank_taf r.forecast) (foreign forecast-part)) ++ within of-observed (observed.causes_of r.observed)
+causes_by e kind.Forecast r =
+    (unless (is_blank_synop r.surface) (foreign surface-part) ++ unless (is_blank_metar r.observed) (foreign observed-part)) ++ within of-forecast (forecast.causes_in e r.forecast)
 
 -- what the record is refused for, a TAF in the edition that the caller chose
-abbrev pub causesIn : Edition → Report → Causes
-causesIn chosen r = causesBy chosen r.kind r
+abbrev pub causes_in : Edition → Report → Causes
+causes_in chosen r = causes_by chosen r.kind r
 
-pub report-judged : (chosen : Edition) (r : Report) → Judges (judgeIn chosen r) (causesIn chosen r)
-unfolding judgeIn
+pub report-judged : (chosen : Edition) (r : Report) → Judges (judge_in chosen r) (causes_in chosen r)
+unfolding judge_in
 report-judged chosen r = go r.kind
   where
-    go : (k : Kind) → Judges (judgeBy chosen k r) (causesBy chosen k r)
+    go : (k : Kind) → Judges (judge_by chosen k r) (causes_by chosen k r)
     go kind.Missing = record { is = refl }
     go kind.Surface =
-        in-turn (value-judges (both-clear (clear-unless (isBlankMetar r.observed)) (clear-unless (isBlankTaf r.forecast)))) (judges-within of-surface (surface.record-judged r.surface))
+        in-turn (value-judges (both-clear (clear-unless (is_blank_metar r.observed)) (clear-unless (is_blank_taf r.forecast)))) (judges-within of-surface (surface.record-judged r.surface))
     go kind.Observed =
-        in-turn (value-judges (both-clear (clear-unless (isBlankSynop r.surface)) (clear-unless (isBlankTaf r.forecast)))) (judges-within of-observed (observed.record-judged r.observed))
+        in-turn (value-judges (both-clear (clear-unless (is_blank_synop r.surface)) (clear-unless (is_blank_taf r.forecast)))) (judges-within of-observed (observed.record-judged r.observed))
     go kind.Forecast =
-        in-turn (value-judges (both-clear (clear-unless (isBlankSynop r.surface)) (clear-unless (isBlankMetar r.observed)))) (judges-within of-forecast (forecast.record-judged chosen r.forecast))
+        in-turn (value-judges (both-clear (clear-unless (is_blank_synop r.surface)) (clear-unless (is_blank_metar r.observed)))) (judges-within of-forecast (forecast.record-judged chosen r.forecast))

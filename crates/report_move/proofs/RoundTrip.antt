@@ -14,62 +14,62 @@ use Rattle.record.specs.declared.aerodrome.Taf.{Taf}
 use Rattle.report_record.specs.declared.kinds.Kind.TheVariants as kind
 use Rattle.report_record.specs.declared.kinds.Report.{Report}
 use Rattle.taf_times.specs.declared.kinds.MovedTaf.{MovedTaf}
-use Rattle.taf_times.specs.Move.{timesIn}
+use Rattle.taf_times.specs.Move.{times_in}
 use Rattle.taf_times.specs.Move as times
-use Rattle.taf_times.specs.Midnight.{midnightsBefore}
-use Rattle.taf_move.specs.Move.{other, tafMoved}
+use Rattle.taf_times.specs.Midnight.{midnights_before}
+use Rattle.taf_move.specs.Move.{other, taf_moved}
 use Rattle.taf_move.specs.Move as forecast
 use Rattle.taf_move.proofs.RoundTrip.{moved-there-and-back, old-whole}
 use Rattle.report_move.specs.declared.kinds.Moved.{Moved}
-use Rattle.report_move.specs.Move.{judgeMove, withForecast, movedBy, movedOf}
-use Rattle.report_move.proofs.Moving.{othersBlank, fine-kind, taf-judged}
+use Rattle.report_move.specs.Move.{judge_move, with_forecast, moved_by, moved_of}
+use Rattle.report_move.proofs.Moving.{others_blank, fine-kind, taf-judged}
 
 -- a report that is moved, and what comes
 abbrev pub moved : Report → Moved
 moved s = record { judged = judged.Fine; report = s }
 
-moved-fine : (j : Judged) (x s : Report) → movedBy j x ≡ moved s → (j ≡ judged.Fine) × (x ≡ s)
+moved-fine : (j : Judged) (x s : Report) → moved_by j x ≡ moved s → (j ≡ judged.Fine) × (x ≡ s)
 moved-fine judged.Fine x s e = (refl, ap (λ (m : Moved). m.report) e)
 moved-fine (judged.Refused f) x s e = let b : judged.Refused f ≡ judged.Fine = ap (λ (m : Moved). m.judged) e in impossible (cc)
 
-module _ (to : Edition) (days : ℕ) (r s : Report) (m : movedOf to days r ≡ moved s) where
-  comes : (judgeMove to days r ≡ judged.Fine) × (withForecast (timesIn to days r.forecast) r ≡ s)
-  unfolding movedOf
-  comes = moved-fine (judgeMove to days r) (withForecast (timesIn to days r.forecast) r) s m
+module _ (to : Edition) (days : ℕ) (r s : Report) (m : moved_of to days r ≡ moved s) where
+  comes : (judge_move to days r ≡ judged.Fine) × (with_forecast (times_in to days r.forecast) r ≡ s)
+  unfolding moved_of
+  comes = moved-fine (judge_move to days r) (with_forecast (times_in to days r.forecast) r) s m
 
-  is-taf : (r.kind ≡ kind.Forecast) × (othersBlank r ≡ true)
+  is-taf : (r.kind ≡ kind.Forecast) × (others_blank r ≡ true)
   is-taf = fine-kind to days r comes.0
 
-  own-moved : tafMoved to days r.forecast ≡ record { judged = judged.Fine; forecast = timesIn to days r.forecast }
-  unfolding tafMoved
+  own-moved : taf_moved to days r.forecast ≡ record { judged = judged.Fine; forecast = times_in to days r.forecast }
+  unfolding taf_moved
   own-moved = rw (sym (taf-judged to days r is-taf.0 is-taf.1) ∙ comes.0)
 
   -- WHAT IS MOVED IS A TAF, AND ITS OWN RECORD IS MOVED,
-  pub forecast-moved : tafMoved to days r.forecast ≡ record { judged = judged.Fine; forecast = s.forecast }
+  pub forecast-moved : taf_moved to days r.forecast ≡ record { judged = judged.Fine; forecast = s.forecast }
   forecast-moved = own-moved ∙ ap (λ (q : Report). record { judged = judged.Fine; forecast = q.forecast }) comes.1
 
-  taf-parts : (j : Judged) (x y : Taf) → times.movedBy j x ≡ record { judged = judged.Fine; forecast = y } → (j ≡ judged.Fine) × (x ≡ y)
+  taf-parts : (j : Judged) (x y : Taf) → times.moved_by j x ≡ record { judged = judged.Fine; forecast = y } → (j ≡ judged.Fine) × (x ≡ y)
   taf-parts judged.Fine x y e = (refl, ap (λ (q : MovedTaf). q.forecast) e)
   taf-parts (judged.Refused f) x y e = let b : judged.Refused f ≡ judged.Fine = ap (λ (q : MovedTaf). q.judged) e in impossible (cc)
 
   module _ (all : length r.forecast.changes.items ≡ 16) where
     abbrev came : Taf
-    came = timesIn to days r.forecast
+    came = times_in to days r.forecast
 
-    back-parts : (forecast.judgeMove (other to) days came ≡ judged.Fine) × (timesIn (other to) days came ≡ midnightsBefore days r.forecast)
-    unfolding tafMoved
-    back-parts = taf-parts (forecast.judgeMove (other to) days came) (timesIn (other to) days came) (midnightsBefore days r.forecast) (moved-there-and-back to days r.forecast came all own-moved)
+    back-parts : (forecast.judge_move (other to) days came ≡ judged.Fine) × (times_in (other to) days came ≡ midnights_before days r.forecast)
+    unfolding taf_moved
+    back-parts = taf-parts (forecast.judge_move (other to) days came) (times_in (other to) days came) (midnights_before days r.forecast) (moved-there-and-back to days r.forecast came all own-moved)
 
-    back : movedOf (other to) days (withForecast came r) ≡ moved (withForecast (midnightsBefore days r.forecast) r)
-    unfolding movedOf
-    back = rw (taf-judged (other to) days (withForecast came r) is-taf.0 is-taf.1 ∙ back-parts.0, back-parts.1)
+    back : moved_of (other to) days (with_forecast came r) ≡ moved (with_forecast (midnights_before days r.forecast) r)
+    unfolding moved_of
+    back = rw (taf-judged (other to) days (with_forecast came r) is-taf.0 is-taf.1 ∙ back-parts.0, back-parts.1)
 
     -- AND MOVED BACK THE REPORT IS WHAT IT WAS, but that every end at hour 00 is 24 of the day before.
-    pub report-there-and-back : movedOf (other to) days s ≡ moved (withForecast (midnightsBefore days r.forecast) r)
+    pub report-there-and-back : moved_of (other to) days s ≡ moved (with_forecast (midnights_before days r.forecast) r)
     report-there-and-back = rw comes.1 at back
 
 -- OLD TO NEW TO OLD: the same report, and so the same text.
-pub report-old-new-old : (days : ℕ) (r s : Report) → length r.forecast.changes.items ≡ 16 → movedOf edition.Present days r ≡ moved s → movedOf edition.Of2005 days s ≡ moved r
+pub report-old-new-old : (days : ℕ) (r s : Report) → length r.forecast.changes.items ≡ 16 → moved_of edition.Present days r ≡ moved s → moved_of edition.Of2005 days s ≡ moved r
 report-old-new-old days r s all m =
-    let stays : midnightsBefore days r.forecast ≡ r.forecast = old-whole days r.forecast s.forecast all (forecast-moved edition.Present days r s m) in
-    report-there-and-back edition.Present days r s m all ∙ ap (λ (t : Taf). moved (withForecast t r)) stays
+    let stays : midnights_before days r.forecast ≡ r.forecast = old-whole days r.forecast s.forecast all (forecast-moved edition.Present days r s m) in
+    report-there-and-back edition.Present days r s m all ∙ ap (λ (t : Taf). moved (with_forecast t r)) stays

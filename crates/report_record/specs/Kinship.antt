@@ -17,62 +17,62 @@ use Rattle.report_record.specs.declared.kinds.Report.{Report}
 use Rattle.report_record.specs.declared.kinds.Stands.{Stands}
 use Rattle.report_record.specs.declared.kinds.Stands.TheVariants as stands
 
-abbrev pub sameNumber : Number → Number → Bool
-sameNumber number.Missing number.Missing = true
-sameNumber number.Missing (number.Is n) = false
-sameNumber (number.Is m) number.Missing = false
-sameNumber (number.Is m) (number.Is n) = eqb m n
+abbrev pub same_number : Number → Number → Bool
+same_number number.Missing number.Missing = true
+same_number number.Missing (number.Is n) = false
+same_number (number.Is m) number.Missing = false
+same_number (number.Is m) (number.Is n) = eqb m n
 
 -- "time": the report's own, day, hour and minute
-abbrev pub sameInstant : Instant → Instant → Bool
-sameInstant a b = sameNumber a.day b.day && sameNumber a.hour b.hour && sameNumber a.minute b.minute
+abbrev pub same_instant : Instant → Instant → Bool
+same_instant a b = same_number a.day b.day && same_number a.hour b.hour && same_number a.minute b.minute
 
-abbrev pub sameLetter : ℕ → Station → Station → Bool
-sameLetter i a b = eqb (get_or a.letters i 0) (get_or b.letters i 0)
+abbrev pub same_letter : ℕ → Station → Station → Bool
+same_letter i a b = eqb (get_or a.letters i 0) (get_or b.letters i 0)
 
-abbrev pub sameStation : Station → Station → Bool
-sameStation a b = sameLetter 0 a b && sameLetter 1 a b && sameLetter 2 a b && sameLetter 3 a b
+abbrev pub same_station : Station → Station → Bool
+same_station a b = same_letter 0 a b && same_letter 1 a b && same_letter 2 a b && same_letter 3 a b
 
 -- both or neither
 abbrev pub alike : Bool → Bool → Bool
 alike a b = (a && b) || (not a && not b)
 
 -- COR, and not AMD
-abbrev pub isCorrected : Correction → Bool
-isCorrected correction.None = false
-isCorrected correction.Amended = false
-isCorrected correction.Corrected = true
+abbrev pub is_corrected : Correction → Bool
+is_corrected correction.None = false
+is_corrected correction.Amended = false
+is_corrected correction.Corrected = true
 
 -- "carries COR and has the same kind, CCCC and time": METAR for METAR, SPECI for SPECI, TAF for TAF
-abbrev pub observationCorrects : Observation → Observation → Bool
-observationCorrects first second =
-    second.corrected && alike first.special second.special && sameStation first.station second.station && sameInstant first.time second.time
+abbrev pub observation_corrects : Observation → Observation → Bool
+observation_corrects first second =
+    second.corrected && alike first.special second.special && same_station first.station second.station && same_instant first.time second.time
 
-abbrev pub metarCorrects : Metar → Metar → Bool
-metarCorrects first second = observationCorrects first.observation second.observation
+abbrev pub metar_corrects : Metar → Metar → Bool
+metar_corrects first second = observation_corrects first.observation second.observation
 
-abbrev pub tafCorrects : Taf → Taf → Bool
-tafCorrects first second =
-    isCorrected second.leg.correction && sameStation first.leg.station second.leg.station && sameInstant first.leg.time second.leg.time
+abbrev pub taf_corrects : Taf → Taf → Bool
+taf_corrects first second =
+    is_corrected second.leg.correction && same_station first.leg.station second.leg.station && same_instant first.leg.time second.leg.time
 
-abbrev pub isObserved : Kind → Bool
-isObserved kind.Missing = false
-isObserved kind.Surface = false
-isObserved kind.Observed = true
-isObserved kind.Forecast = false
+abbrev pub is_observed : Kind → Bool
+is_observed kind.Missing = false
+is_observed kind.Surface = false
+is_observed kind.Observed = true
+is_observed kind.Forecast = false
 
-abbrev pub isForecast : Kind → Bool
-isForecast kind.Missing = false
-isForecast kind.Surface = false
-isForecast kind.Observed = false
-isForecast kind.Forecast = true
+abbrev pub is_forecast : Kind → Bool
+is_forecast kind.Missing = false
+is_forecast kind.Surface = false
+is_forecast kind.Observed = false
+is_forecast kind.Forecast = true
 
 unfoldable pub corrects : Report → Report → Bool
 corrects first second =
-    (isObserved first.kind && isObserved second.kind && metarCorrects first.observed second.observed)
-    || (isForecast first.kind && isForecast second.kind && tafCorrects first.forecast second.forecast)
+    (is_observed first.kind && is_observed second.kind && metar_corrects first.observed second.observed)
+    || (is_forecast first.kind && is_forecast second.kind && taf_corrects first.forecast second.forecast)
 
 -- a record's kind is missing where its text is refused, so that a report of these kinds was accepted
-unfoldable pub judgeStanding : Report → Report → Stands
-judgeStanding first second =
-    cond (corrects first second) stands.Second (cond (isObserved first.kind || isForecast first.kind) stands.First stands.Neither)
+unfoldable pub judge_standing : Report → Report → Stands
+judge_standing first second =
+    cond (corrects first second) stands.Second (cond (is_observed first.kind || is_forecast first.kind) stands.First stands.Neither)

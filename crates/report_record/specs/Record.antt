@@ -5,54 +5,54 @@ use Rattle.std.specs.Prelude.{ℕ}
 use Rattle.text.specs.declared.kinds.Refusal.{Refusal}
 use Rattle.text.specs.declared.kinds.Verdict.{Verdict}
 use Rattle.text.specs.declared.kinds.Verdict.TheVariants as verdict
-use Rattle.places.specs.Answer.{acceptedAs, refusedAs}
+use Rattle.places.specs.Answer.{accepted_as, refused_as}
 use Rattle.record.specs.declared.surface.Synop.{Synop}
 use Rattle.record.specs.declared.aerodrome.Metar.{Metar}
 use Rattle.record.specs.declared.aerodrome.Taf.{Taf}
-use Rattle.record.specs.Blank.{blankSynop}
-use Rattle.record.specs.Trend.{blankMetar}
-use Rattle.record.specs.Taf.{blankTaf}
+use Rattle.record.specs.Blank.{blank_synop}
+use Rattle.record.specs.Trend.{blank_metar}
+use Rattle.record.specs.Taf.{blank_taf}
 use Rattle.report_record.specs.declared.kinds.Kind.{Kind}
 use Rattle.report_record.specs.declared.kinds.Kind.TheVariants as kind
 use Rattle.report_record.specs.declared.kinds.Report.{Report}
 use Rattle.report_record.specs.declared.kinds.Reading.{Reading}
 
-abbrev pub reportOf : Kind → Synop → Metar → Taf → Report
-reportOf k s m t = record { kind = k; surface = s; observed = m; forecast = t }
+abbrev pub report_of : Kind → Synop → Metar → Taf → Report
+report_of k s m t = record { kind = k; surface = s; observed = m; forecast = t }
 
-abbrev pub blankReport : Report
-blankReport = reportOf kind.Missing blankSynop blankMetar blankTaf
+abbrev pub blank_report : Report
+blank_report = report_of kind.Missing blank_synop blank_metar blank_taf
 
-abbrev pub surfaceReport : Synop → Report
-surfaceReport r = reportOf kind.Surface r blankMetar blankTaf
+abbrev pub surface_report : Synop → Report
+surface_report r = report_of kind.Surface r blank_metar blank_taf
 
-abbrev pub observedReport : Metar → Report
-observedReport r = reportOf kind.Observed blankSynop r blankTaf
+abbrev pub observed_report : Metar → Report
+observed_report r = report_of kind.Observed blank_synop r blank_taf
 
-abbrev pub forecastReport : Taf → Report
-forecastReport r = reportOf kind.Forecast blankSynop blankMetar r
+abbrev pub forecast_report : Taf → Report
+forecast_report r = report_of kind.Forecast blank_synop blank_metar r
 
 -- the report of an accepted text has its kind, that of a refused one none
-abbrev pub kindBy : Verdict → Kind → Kind
-kindBy (verdict.Accepted rest) k = k
-kindBy (verdict.Refused f at) k = kind.Missing
+abbrev pub kind_by : Verdict → Kind → Kind
+kind_by (verdict.Accepted rest) k = k
+kind_by (verdict.Refused f at) k = kind.Missing
 
 -- a reading with its verdict; the record is blank where the text is refused
 abbrev pub reading : Verdict → Report → Reading
 reading v r = record { verdict = v; report = r }
 
 -- what the reader of a kind answers, as the reading of a report
-abbrev pub ofSurface : Verdict → Synop → Reading
-ofSurface v r = reading v (reportOf (kindBy v kind.Surface) r blankMetar blankTaf)
+abbrev pub of_surface : Verdict → Synop → Reading
+of_surface v r = reading v (report_of (kind_by v kind.Surface) r blank_metar blank_taf)
 
-abbrev pub ofObserved : Verdict → Metar → Reading
-ofObserved v r = reading v (reportOf (kindBy v kind.Observed) blankSynop r blankTaf)
+abbrev pub of_observed : Verdict → Metar → Reading
+of_observed v r = reading v (report_of (kind_by v kind.Observed) blank_synop r blank_taf)
 
-abbrev pub ofForecast : Verdict → Taf → Reading
-ofForecast v r = reading v (reportOf (kindBy v kind.Forecast) blankSynop blankMetar r)
+abbrev pub of_forecast : Verdict → Taf → Reading
+of_forecast v r = reading v (report_of (kind_by v kind.Forecast) blank_synop blank_metar r)
 
 abbrev pub accepted : ℕ → Report → Reading
-accepted rest r = acceptedAs reading blankReport rest r
+accepted rest r = accepted_as reading blank_report rest r
 
 abbrev pub refused : Refusal → ℕ → Reading
-refused f at = refusedAs reading blankReport f at
+refused f at = refused_as reading blank_report f at

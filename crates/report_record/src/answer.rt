@@ -1,9 +1,9 @@
 // The answer to a text of any kind: what the reader of its kind answers, with the parts of the other kinds blank.
 ghost use Rattle.std.specs.Prelude.{◌≡◌};
-ghost use Rattle.record.specs.Blank.{blankSynop};
-ghost use Rattle.record.specs.Trend.{blankMetar};
-ghost use Rattle.record.specs.Taf.{blankTaf};
-ghost use Rattle.report_record.specs.Record.{reportOf, kindBy, ofSurface, ofObserved, ofForecast, refused};
+ghost use Rattle.record.specs.Blank.{blank_synop};
+ghost use Rattle.record.specs.Trend.{blank_metar};
+ghost use Rattle.record.specs.Taf.{blank_taf};
+ghost use Rattle.report_record.specs.Record.{report_of, kind_by, of_surface, of_observed, of_forecast, refused};
 
 use crate::kinds::{Kind, Reading, Report};
 use record::aerodrome::{Metar, Taf};
@@ -14,7 +14,7 @@ use text::kinds::{Refusal, Verdict};
 
 // The report of an accepted text has its kind, that of a refused one none.
 fn kind_by(verdict: Verdict, kind: Kind) -> Kind
-    ensures { result ≡ kindBy verdict kind }
+    ensures { result ≡ kind_by verdict kind }
 {
     match verdict {
         Verdict::Accepted { rest: _ } => kind,
@@ -27,7 +27,7 @@ fn kind_by(verdict: Verdict, kind: Kind) -> Kind
 
 // A report of this kind in which nothing is said: the parts that a reading does not fill.
 pub fn blank_report(kind: Kind) -> Report
-    ensures { result ≡ reportOf kind blankSynop blankMetar blankTaf }
+    ensures { result ≡ report_of kind blank_synop blank_metar blank_taf }
 {
     let surface = blank_synop();
     let observed = blank_metar();
@@ -42,7 +42,7 @@ pub fn blank_report(kind: Kind) -> Report
 
 // What the reader of SYNOP and SHIP answers; where it refuses the text, its record is blank.
 pub fn of_surface(verdict: Verdict, surface: Synop) -> Reading
-    ensures { result ≡ ofSurface verdict surface }
+    ensures { result ≡ of_surface verdict surface }
 {
     let mut report = blank_report(kind_by(verdict, Kind::Surface));
     report.surface = surface;
@@ -51,7 +51,7 @@ pub fn of_surface(verdict: Verdict, surface: Synop) -> Reading
 
 // The same of METAR and SPECI.
 pub fn of_observed(verdict: Verdict, observed: Metar) -> Reading
-    ensures { result ≡ ofObserved verdict observed }
+    ensures { result ≡ of_observed verdict observed }
 {
     let mut report = blank_report(kind_by(verdict, Kind::Observed));
     report.observed = observed;
@@ -60,7 +60,7 @@ pub fn of_observed(verdict: Verdict, observed: Metar) -> Reading
 
 // The same of TAF.
 pub fn of_forecast(verdict: Verdict, forecast: Taf) -> Reading
-    ensures { result ≡ ofForecast verdict forecast }
+    ensures { result ≡ of_forecast verdict forecast }
 {
     let mut report = blank_report(kind_by(verdict, Kind::Forecast));
     report.forecast = forecast;

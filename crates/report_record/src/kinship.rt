@@ -1,13 +1,13 @@
 // Whether a second report is a correction of a first, by their records.
 ghost use Rattle.std.specs.Prelude.{◌≡◌};
-ghost use Rattle.report_record.specs.Kinship.{sameNumber, sameInstant, sameStation, alike, isCorrected, metarCorrects, tafCorrects, isObserved, isForecast, corrects, judgeStanding};
+ghost use Rattle.report_record.specs.Kinship.{same_number, same_instant, same_station, alike, is_corrected, metar_corrects, taf_corrects, is_observed, is_forecast, corrects, judge_standing};
 
 use crate::kinds::{Kind, Report, Stands};
 use record::aerodrome::{Correction, Instant, Metar, Station, Taf};
 use record::values::Number;
 
 fn same_number(a: Number, b: Number) -> bool
-    ensures { result ≡ sameNumber a b }
+    ensures { result ≡ same_number a b }
 {
     match a {
         Number::Missing => match b {
@@ -23,7 +23,7 @@ fn same_number(a: Number, b: Number) -> bool
 
 // Day, hour and minute.
 fn same_instant(a: Instant, b: Instant) -> bool
-    ensures { result ≡ sameInstant a b }
+    ensures { result ≡ same_instant a b }
 {
     let day = a.day;
     let hour = a.hour;
@@ -35,7 +35,7 @@ fn same_instant(a: Instant, b: Instant) -> bool
 }
 
 fn same_station(a: Station, b: Station) -> bool
-    ensures { result ≡ sameStation a b }
+    ensures { result ≡ same_station a b }
 {
     (a.letters[0] == b.letters[0])
         & (a.letters[1] == b.letters[1])
@@ -45,7 +45,7 @@ fn same_station(a: Station, b: Station) -> bool
 
 // COR, and not AMD.
 fn is_corrected(c: Correction) -> bool
-    ensures { result ≡ isCorrected c }
+    ensures { result ≡ is_corrected c }
 {
     match c {
         Correction::None => false,
@@ -63,7 +63,7 @@ fn is_alike(a: bool, b: bool) -> bool
 
 // METAR for METAR, SPECI for SPECI.
 fn metar_corrects(first: Metar, second: Metar) -> bool
-    ensures { result ≡ metarCorrects first second }
+    ensures { result ≡ metar_corrects first second }
 {
     let before = first.observation;
     let after = second.observation;
@@ -74,7 +74,7 @@ fn metar_corrects(first: Metar, second: Metar) -> bool
 }
 
 fn taf_corrects(first: Taf, second: Taf) -> bool
-    ensures { result ≡ tafCorrects first second }
+    ensures { result ≡ taf_corrects first second }
 {
     let before = first.leg;
     let after = second.leg;
@@ -86,7 +86,7 @@ fn taf_corrects(first: Taf, second: Taf) -> bool
 
 // METAR or SPECI.
 fn is_observed(k: Kind) -> bool
-    ensures { result ≡ isObserved k }
+    ensures { result ≡ is_observed k }
 {
     match k {
         Kind::Missing => false,
@@ -98,7 +98,7 @@ fn is_observed(k: Kind) -> bool
 
 // TAF.
 fn is_forecast(k: Kind) -> bool
-    ensures { result ≡ isForecast k }
+    ensures { result ≡ is_forecast k }
 {
     match k {
         Kind::Missing => false,
@@ -121,7 +121,7 @@ fn corrects(first: Report, second: Report) -> bool
 
 // The kind of a refused text's record is missing, so that a report of these kinds was accepted.
 pub fn judge_standing(first: Report, second: Report) -> Stands
-    ensures { result ≡ judgeStanding first second }
+    ensures { result ≡ judge_standing first second }
 {
     let kind = first.kind;
     if corrects(first, second) {

@@ -9,19 +9,19 @@ use Rattle.report.specs.Read.{read_of}
 use Rattle.sources.specs.declared.kinds.Spot.{Spot}
 use Rattle.sources.specs.declared.kinds.Source.{Source}
 use Rattle.sources.specs.declared.kinds.Source.TheVariants as source
-use Rattle.sources.specs.Trail.{originIn, source_of, start_of, end_of}
-use Rattle.metar_sources.specs.Trail.{trailOf}
+use Rattle.sources.specs.Trail.{origin_in, source_of, start_of, end_of}
+use Rattle.metar_sources.specs.Trail.{trail_of}
 
 -- the report of a refused text has no kind
-abbrev pub ifObserved : Kind → Source → Source
-ifObserved kind.Missing s = source.None
-ifObserved kind.Surface s = source.None
-ifObserved kind.Observed s = s
-ifObserved kind.Forecast s = source.None
+abbrev pub if_observed : Kind → Source → Source
+if_observed kind.Missing s = source.None
+if_observed kind.Surface s = source.None
+if_observed kind.Observed s = s
+if_observed kind.Forecast s = source.None
 
 -- THE SOURCE OF WHAT WAS TAKEN AT A SPOT OF A PART, of a text that is accepted as a METAR or SPECI; of another there is none.
-unfoldable pub observedAt : List ℕ → ℕ → Spot → Source
-observedAt text part s = ifObserved (read_of text).report.kind (source_of (originIn part s (trailOf text)))
+unfoldable pub observed_at : List ℕ → ℕ → Spot → Source
+observed_at text part s = if_observed (read_of text).report.kind (source_of (origin_in part s (trail_of text)))
 
 -- r is that part of the caller's text; where there is none, the empty part at its end
 abbrev pub SourcePart : Bor (List ℕ) → Bor (List ℕ) → Source → Type 0

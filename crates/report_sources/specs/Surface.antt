@@ -7,21 +7,21 @@ use Rattle.report.specs.Read.{read_of}
 use Rattle.sources.specs.declared.kinds.Spot.{Spot}
 use Rattle.sources.specs.declared.kinds.Source.{Source}
 use Rattle.sources.specs.declared.kinds.Source.TheVariants as source
-use Rattle.sources.specs.Trail.{originIn, source_of}
-use Rattle.synop_sources.specs.Trail.{trailOf}
-use Rattle.synop_sources.specs.Items.{layerIn}
+use Rattle.sources.specs.Trail.{origin_in, source_of}
+use Rattle.synop_sources.specs.Trail.{trail_of}
+use Rattle.synop_sources.specs.Items.{layer_in}
 
 -- the report of a refused text has no kind
-abbrev pub ifSurface : Kind → Source → Source
-ifSurface kind.Missing s = source.None
-ifSurface kind.Surface s = s
-ifSurface kind.Observed s = source.None
-ifSurface kind.Forecast s = source.None
+abbrev pub if_surface : Kind → Source → Source
+if_surface kind.Missing s = source.None
+if_surface kind.Surface s = s
+if_surface kind.Observed s = source.None
+if_surface kind.Forecast s = source.None
 
 -- THE SOURCE OF WHAT WAS TAKEN AT A SPOT OF A PART, of a text that is accepted as a SYNOP or SHIP; of another there is none.
-unfoldable pub surfaceAt : List ℕ → ℕ → Spot → Source
-surfaceAt text part s = ifSurface (read_of text).report.kind (source_of (originIn part s (trailOf text)))
+unfoldable pub surface_at : List ℕ → ℕ → Spot → Source
+surface_at text part s = if_surface (read_of text).report.kind (source_of (origin_in part s (trail_of text)))
 
 -- THE SOURCE OF THE K-TH LAYER OF SECTION 3
-unfoldable pub surfaceLayer : List ℕ → ℕ → Source
-surfaceLayer text k = ifSurface (read_of text).report.kind (source_of (layerIn k (trailOf text)))
+unfoldable pub surface_layer : List ℕ → ℕ → Source
+surface_layer text k = if_surface (read_of text).report.kind (source_of (layer_in k (trail_of text)))

@@ -4,7 +4,7 @@ ghost use Rattle.sources.specs.declared.kinds.Spot.TheVariants as spot;
 ghost use Rattle.taf_sources.specs.Items as leg;
 ghost use Rattle.taf_sources.specs.Changes as change;
 ghost use Rattle.report_sources.specs.Source.{SourcePart};
-ghost use Rattle.report_sources.specs.Forecasts.{forecastAt};
+ghost use Rattle.report_sources.specs.Forecasts.{forecast_at};
 
 use record::aerodrome::Edition;
 use report_record::kinds::Kind;
@@ -13,7 +13,7 @@ use taf_sources::kinds::{ChangeElement, Element};
 
 // The group that was taken at a spot of a part.
 fn find(edition: Edition, text: &[u8], part: usize, spot: Spot) -> Source
-    ensures { result ≡ forecastAt edition text.now part spot }
+    ensures { result ≡ forecast_at edition text.now part spot }
 {
     let reading = report::read_in(edition, text);
     let report = reading.report;
@@ -28,7 +28,7 @@ fn find(edition: Edition, text: &[u8], part: usize, spot: Spot) -> Source
 
 // An item of the main part; of those that may be several, the one with so many before it.
 pub fn item(edition: Edition, text: &[u8], element: Element, count: usize) -> &[u8]
-    ensures { SourcePart text.entry result (forecastAt edition text.now 0 (spot.At (leg.place_of element) count)) }
+    ensures { SourcePart text.entry result (forecast_at edition text.now 0 (spot.At (leg.place_of element) count)) }
 {
     let place = taf_sources::place_of(element);
     let source = find(edition, text, 0, Spot::At { place, count });
@@ -43,7 +43,7 @@ pub fn changed(
     element: ChangeElement,
     count: usize,
 ) -> &[u8]
-    ensures { SourcePart text.entry result (forecastAt edition text.now part (spot.At (change.place_of element) count)) }
+    ensures { SourcePart text.entry result (forecast_at edition text.now part (spot.At (change.place_of element) count)) }
 {
     let place = taf_sources::change_place_of(element);
     let source = find(edition, text, part, Spot::At { place, count });
@@ -52,7 +52,7 @@ pub fn changed(
 
 // The word that opened a change group: BECMG, TEMPO, PROB30 or PROB40, or FM with its time.
 pub fn opened(edition: Edition, text: &[u8], part: usize) -> &[u8]
-    ensures { SourcePart text.entry result (forecastAt edition text.now part spot.Opening) }
+    ensures { SourcePart text.entry result (forecast_at edition text.now part spot.Opening) }
 {
     let source = find(edition, text, part, Spot::Opening);
     sources::part_of(text, source)
@@ -60,7 +60,7 @@ pub fn opened(edition: Edition, text: &[u8], part: usize) -> &[u8]
 
 // TEMPO where it belongs to that word, PROB30 TEMPO or PROB40 TEMPO.
 pub fn joined(edition: Edition, text: &[u8], part: usize) -> &[u8]
-    ensures { SourcePart text.entry result (forecastAt edition text.now part spot.Joined) }
+    ensures { SourcePart text.entry result (forecast_at edition text.now part spot.Joined) }
 {
     let source = find(edition, text, part, Spot::Joined);
     sources::part_of(text, source)

@@ -8,7 +8,7 @@ ghost use Rattle.std.specs.Prelude.{◌≡◌};
 ghost use Rattle.sources.specs.declared.kinds.Spot.TheVariants as spot;
 ghost use Rattle.metar_sources.specs.Items as observed;
 ghost use Rattle.metar_sources.specs.Changes as changed;
-ghost use Rattle.report_sources.specs.Source.{observedAt, SourcePart};
+ghost use Rattle.report_sources.specs.Source.{observed_at, SourcePart};
 
 use metar_sources::kinds::{ChangeElement, Element};
 use report_record::kinds::Kind;
@@ -16,7 +16,7 @@ use sources::kinds::{Source, Spot};
 
 // The group that was taken at a spot of a part.
 fn find(text: &[u8], part: usize, spot: Spot) -> Source
-    ensures { result ≡ observedAt text.now part spot }
+    ensures { result ≡ observed_at text.now part spot }
 {
     let reading = report::read(text);
     let report = reading.report;
@@ -31,7 +31,7 @@ fn find(text: &[u8], part: usize, spot: Spot) -> Source
 
 // An item of the observation; of those that may be several, the one with so many before it.
 pub fn observed(text: &[u8], element: Element, count: usize) -> &[u8]
-    ensures { SourcePart text.entry result (observedAt text.now 0 (spot.At (observed.place_of element) count)) }
+    ensures { SourcePart text.entry result (observed_at text.now 0 (spot.At (observed.place_of element) count)) }
 {
     let place = metar_sources::place_of(element);
     let source = find(text, 0, Spot::At { place, count });
@@ -40,7 +40,7 @@ pub fn observed(text: &[u8], element: Element, count: usize) -> &[u8]
 
 // An item of a part of the trend, the first being part 1.
 pub fn changed(text: &[u8], part: usize, element: ChangeElement, count: usize) -> &[u8]
-    ensures { SourcePart text.entry result (observedAt text.now part (spot.At (changed.place_of element) count)) }
+    ensures { SourcePart text.entry result (observed_at text.now part (spot.At (changed.place_of element) count)) }
 {
     let place = metar_sources::change_place_of(element);
     let source = find(text, part, Spot::At { place, count });
@@ -49,7 +49,7 @@ pub fn changed(text: &[u8], part: usize, element: ChangeElement, count: usize) -
 
 // The word that opened a part of the trend: NOSIG, BECMG or TEMPO.
 pub fn opened(text: &[u8], part: usize) -> &[u8]
-    ensures { SourcePart text.entry result (observedAt text.now part spot.Opening) }
+    ensures { SourcePart text.entry result (observed_at text.now part spot.Opening) }
 {
     let source = find(text, part, Spot::Opening);
     sources::part_of(text, source)

@@ -3,7 +3,7 @@ ghost use Rattle.std.specs.Prelude.{◌≡◌};
 ghost use Rattle.sources.specs.declared.kinds.Spot.TheVariants as spot;
 ghost use Rattle.synop_sources.specs.Items.{part_of, spot_of};
 ghost use Rattle.report_sources.specs.Source.{SourcePart};
-ghost use Rattle.report_sources.specs.Surface.{surfaceAt, surfaceLayer};
+ghost use Rattle.report_sources.specs.Surface.{surface_at, surface_layer};
 
 use report_record::kinds::Kind;
 use sources::kinds::{Source, Spot};
@@ -11,7 +11,7 @@ use synop_sources::kinds::Element;
 
 // The group that was taken at a spot of a part.
 fn find(text: &[u8], part: usize, spot: Spot) -> Source
-    ensures { result ≡ surfaceAt text.now part spot }
+    ensures { result ≡ surface_at text.now part spot }
 {
     let reading = report::read(text);
     let report = reading.report;
@@ -26,7 +26,7 @@ fn find(text: &[u8], part: usize, spot: Spot) -> Source
 
 // The group that says a layer of section 3.
 fn find_layer(text: &[u8], number: usize) -> Source
-    ensures { result ≡ surfaceLayer text.now number }
+    ensures { result ≡ surface_layer text.now number }
 {
     let reading = report::read(text);
     let report = reading.report;
@@ -41,7 +41,7 @@ fn find_layer(text: &[u8], number: usize) -> Source
 
 // An item of a SYNOP or SHIP, of section 3 too; its layers apart.
 pub fn item(text: &[u8], element: Element) -> &[u8]
-    ensures { SourcePart text.entry result (surfaceAt text.now (part_of element) (spot_of element)) }
+    ensures { SourcePart text.entry result (surface_at text.now (part_of element) (spot_of element)) }
 {
     let part = synop_sources::part_of(element);
     let place = synop_sources::place_of(element);
@@ -51,7 +51,7 @@ pub fn item(text: &[u8], element: Element) -> &[u8]
 
 // A layer of section 3, the one with so many before it.
 pub fn layer(text: &[u8], number: usize) -> &[u8]
-    ensures { SourcePart text.entry result (surfaceLayer text.now number) }
+    ensures { SourcePart text.entry result (surface_layer text.now number) }
 {
     let source = find_layer(text, number);
     sources::part_of(text, source)
@@ -59,7 +59,7 @@ pub fn layer(text: &[u8], number: usize) -> &[u8]
 
 // The word that opened section 3, 333.
 pub fn opened(text: &[u8]) -> &[u8]
-    ensures { SourcePart text.entry result (surfaceAt text.now 1 spot.Opening) }
+    ensures { SourcePart text.entry result (surface_at text.now 1 spot.Opening) }
 {
     let source = find(text, 1, Spot::Opening);
     sources::part_of(text, source)

@@ -7,17 +7,17 @@ use Rattle.record.specs.declared.aerodrome.Edition.{Edition}
 use Rattle.report_record.specs.declared.kinds.Report.{Report}
 use Rattle.report_record.specs.declared.kinds.Reading.{Reading}
 use Rattle.report_record.specs.Record.{accepted, refused}
-use Rattle.report.specs.Write.{classedOf, writtenIn}
+use Rattle.report.specs.Write.{classed_of, written_in}
 use Rattle.round_trip.specs.declared.Back.{Back}
 
 -- what the reader makes of the bytes that were written: all of them are read, as the record with each rounded number replaced by the reading of its class
-abbrev pub readingBy : Written → Report → Reading
-readingBy (answer.Count n) r = accepted n (classedOf r)
-readingBy (answer.Refused f) r = refused f 0
+abbrev pub reading_by : Written → Report → Reading
+reading_by (answer.Count n) r = accepted n (classed_of r)
+reading_by (answer.Refused f) r = refused f 0
 
 abbrev pub back_by : Written → Report → Back
-back_by w r = record { written = w; reading = readingBy w r }
+back_by w r = record { written = w; reading = reading_by w r }
 
 -- a TAF in the edition that is chosen
 unfoldable pub back_in : Edition → Report → ℕ → Back
-back_in chosen r room = back_by (writtenIn chosen r room) r
+back_in chosen r room = back_by (written_in chosen r room) r

@@ -3,7 +3,7 @@
 ghost use Rattle.std.specs.Prelude.{ℕ, ◌≡◌, length, take};
 ghost use Rattle.text.specs.declared.kinds.Written.TheVariants as answer;
 ghost use Rattle.record.specs.declared.aerodrome.Edition.TheVariants as edition;
-ghost use Rattle.report.specs.Write.{bufferIn};
+ghost use Rattle.report.specs.Write.{buffer_in};
 ghost use Rattle.report_laws.proofs.Demands.{ReadWhole};
 ghost use Rattle.round_trip.specs.Back.{back_in};
 
@@ -21,7 +21,7 @@ pub struct Back {
 
 // A record written into the lent buffer, a TAF in the edition that is named, and read from there in the same edition.
 pub fn read_back_in(edition: Edition, report: Report, out: &mut [u8]) -> Back
-    ensures { (result ≡ back_in edition report (length out.old)) × (out.new ≡ bufferIn edition report out.old) × ((n : ℕ) → result.written ≡ answer.Count n → ReadWhole edition report n (take n out.new)) }
+    ensures { (result ≡ back_in edition report (length out.old)) × (out.new ≡ buffer_in edition report out.old) × ((n : ℕ) → result.written ≡ answer.Count n → ReadWhole edition report n (take n out.new)) }
 {
     let written = report::write_in(edition, report, out);
     match written {
@@ -38,7 +38,7 @@ pub fn read_back_in(edition: Edition, report: Report, out: &mut [u8]) -> Back
 
 // With a TAF in the present edition.
 pub fn read_back(report: Report, out: &mut [u8]) -> Back
-    ensures { (result ≡ back_in edition.Present report (length out.old)) × (out.new ≡ bufferIn edition.Present report out.old) × ((n : ℕ) → result.written ≡ answer.Count n → ReadWhole edition.Present report n (take n out.new)) }
+    ensures { (result ≡ back_in edition.Present report (length out.old)) × (out.new ≡ buffer_in edition.Present report out.old) × ((n : ℕ) → result.written ≡ answer.Count n → ReadWhole edition.Present report n (take n out.new)) }
 {
     read_back_in(Edition::Present, report, out)
 }

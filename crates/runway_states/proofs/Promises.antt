@@ -17,7 +17,7 @@ use Rattle.record.specs.declared.aerodrome.Condition.TheVariants as condition
 use Rattle.record.specs.declared.aerodrome.RunwayState.{RunwayState}
 use Rattle.record.specs.declared.aerodrome.RunwayStates.{RunwayStates}
 use Rattle.record.proofs.Counted.{taken, dropped, EachRead, each_read}
-use Rattle.runway_states.specs.State.{classDepth, classCondition, classState, classStates}
+use Rattle.runway_states.specs.State.{class_depth, class_condition, class_state, class_states}
 use Rattle.runway_states.proofs.StatesBack.{Fit, Counted}
 
 -- a depth and its reading
@@ -42,23 +42,23 @@ pub record StatesKept (ss qs : RunwayStates) : Type 0 where
   pub states : EachRead StateKept (take ss.count ss.items) (take ss.count qs.items)
   pub past : drop ss.count qs.items ≡ drop ss.count ss.items
 
-depth-kept : (h : Depth) → DepthKept h (classDepth h)
+depth-kept : (h : Depth) → DepthKept h (class_depth h)
 depth-kept deep.Missing = no-depth
 depth-kept deep.Closed = closed
 depth-kept (deep.Millimetres m) = lower (down eqb depth depth-laws m)
 
-condition-kept : (c : Condition) → ConditionKept c (classCondition c)
+condition-kept : (c : Condition) → ConditionKept c (class_condition c)
 condition-kept condition.Cleared = cleared
 condition-kept (condition.Covered d e h b) = covered (depth-kept h)
 
-state-kept : (s : RunwayState) → StateKept s (classState s)
+state-kept : (s : RunwayState) → StateKept s (class_state s)
 state-kept s = record { runway = refl; condition = condition-kept s.condition }
 
-pub states-kept : (ss : RunwayStates) → Counted ss → StatesKept ss (classStates ss)
+pub states-kept : (ss : RunwayStates) → Counted ss → StatesKept ss (class_states ss)
 states-kept ss l =
     record {
       snoclo = refl;
       count = refl;
-      states = rw (taken classState ss.count ss.items l.many) (each_read StateKept classState (λ s f. state-kept s) (take ss.count ss.items) l.each);
-      past = dropped classState ss.count ss.items l.many;
+      states = rw (taken class_state ss.count ss.items l.many) (each_read StateKept class_state (λ s f. state-kept s) (take ss.count ss.items) l.each);
+      past = dropped class_state ss.count ss.items l.many;
     }

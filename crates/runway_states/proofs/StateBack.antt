@@ -11,13 +11,13 @@ use borrow.Author.Tests.{leb-true, not-true}
 use Rattle.figures.specs.Quote.{bytes}
 use Rattle.figures.specs.declared.kinds.Field.{Field}
 use Rattle.figures.specs.declared.kinds.Field.TheVariants as field
-use Rattle.figures.specs.Figures.{field_at, fieldText, Fits}
+use Rattle.figures.specs.Figures.{field_at, field_text, Fits}
 use Rattle.figures.proofs.Figures.{length-field, field_back}
-use Rattle.shapes.specs.Pattern.{low, high, fits, hasPattern, hasAny, clash}
+use Rattle.shapes.specs.Pattern.{low, high, fits, has_pattern, has_any, clash}
 use Rattle.shapes.proofs.Patterns.{both, or_right, excluded, pattern-append, field-pattern}
 use Rattle.places.specs.Engine.{Group, Good}
-use Rattle.scales.specs.Scale.{run, figureOf}
-use Rattle.scales.specs.Metres.{metresFigure}
+use Rattle.scales.specs.Scale.{run, figure_of}
+use Rattle.scales.specs.Metres.{metres_figure}
 use Rattle.scales.specs.Depth.{depth}
 use Rattle.scales.proofs.Laws.{figure-such}
 use Rattle.scales.proofs.Answers.{foot-low, metres-read, metres-again, metres-written}
@@ -33,17 +33,17 @@ use Rattle.record.specs.Missing.{present, optional}
 use Rattle.aerodrome_groups.specs.Head.{field_of}
 use Rattle.runway_states.specs.declared.tables.Table.TheVariants as table
 use Rattle.runway_states.specs.Tables.{has, runways, deposits, extents, brakings}
-use Rattle.runway_states.specs.State.{figuresShape, clearedShape, stateShapes, readDepth, readCovered, readCondition, readState, depthField, showCondition, showState, depthFits, conditionFits, stateFits, classDepth, classCondition, classState}
+use Rattle.runway_states.specs.State.{figures_shape, cleared_shape, state_shapes, read_depth, read_covered, read_condition, read_state, depth_field, show_condition, show_state, depth_fits, condition_fits, state_fits, class_depth, class_condition, class_state}
 use Rattle.runway_states.proofs.Figured.{listed_below, holds-field, number-back, one-figure, two-figures}
 
 -- ---- five fields one after the other: RR, deposit, extent, depth, braking
 
 abbrev laid : Field → Field → Field → Field → Field → Group
-laid r d e h b = fieldText 2 r ++ (fieldText 1 d ++ fieldText 1 e ++ fieldText 2 h ++ fieldText 2 b)
+laid r d e h b = field_text 2 r ++ (field_text 1 d ++ field_text 1 e ++ field_text 2 h ++ field_text 2 b)
 
 -- their group has the shape of eight figures, and each is read at its place
 record Laid (r d e h b : Field) : Type 0 where
-  shape : hasPattern (laid r d e h b) figuresShape ≡ true
+  shape : has_pattern (laid r d e h b) figures_shape ≡ true
   runway : field_at (laid r d e h b) 0 2 ≡ r
   deposit : field_at (laid r d e h b) 2 1 ≡ d
   extent : field_at (laid r d e h b) 3 1 ≡ e
@@ -52,10 +52,10 @@ record Laid (r d e h b : Field) : Type 0 where
 
 module _ (r d e h b : Field) (fit-r : Fits 2 r) (fit-d : Fits 1 d) (fit-e : Fits 1 e) (fit-h : Fits 2 h) (fit-b : Fits 2 b) where
   abbrev one : Field → List ℕ
-  one f = fieldText 1 f
+  one f = field_text 1 f
 
   abbrev two : Field → List ℕ
-  two f = fieldText 2 f
+  two f = field_text 2 f
 
   abbrev group : Group
   group = laid r d e h b
@@ -73,7 +73,7 @@ module _ (r d e h b : Field) (fit-r : Fits 2 r) (fit-d : Fits 1 d) (fit-e : Fits
   up-to-h : length (one d ++ one e ++ two h) ≡ 4
   up-to-h = rw (length-append, up-to-d, length_two h fit-h)
 
-  laid-shape : hasPattern group figuresShape ≡ true
+  laid-shape : has_pattern group figures_shape ≡ true
   laid-shape =
       pattern-append (two r) (one d ++ one e ++ two h ++ two b) (replicate 2 35) (replicate 6 35) refl (length_two r fit-r)
       ∙ rw (field-pattern 2 r (omega arith) fit-r)
@@ -109,28 +109,28 @@ module _ (r d e h b : Field) (fit-r : Fits 2 r) (fit-d : Fits 1 d) (fit-e : Fits
 -- ---- the depth
 
 -- every figure of the scale is below 99, and has two figures
-depth_below : (m : ℕ) → leb (figureOf depth m) 98 ≡ true
+depth_below : (m : ℕ) → leb (figure_of depth m) 98 ≡ true
 depth_below m = figure-such (λ f. leb f 98) depth m (unfold depth run in refl)
 
-depth-open : (m : ℕ) → eqb (figureOf depth m) 99 ≡ false
-depth-open m = not-true (eqb (figureOf depth m) 99) (figure-such (λ f. not (eqb f 99)) depth m (unfold depth run in refl))
+depth-open : (m : ℕ) → eqb (figure_of depth m) 99 ≡ false
+depth-open m = not-true (eqb (figure_of depth m) 99) (figure-such (λ f. not (eqb f 99)) depth m (unfold depth run in refl))
 
-depth-fits : (h : Depth) → depthFits h ≡ true → Fits 2 (depthField h)
+depth-fits : (h : Depth) → depth_fits h ≡ true → Fits 2 (depth_field h)
 depth-fits deep.Missing e = tt
 depth-fits deep.Closed e = omega arith
-depth-fits (deep.Millimetres m) e = rw (metres-written depth m e) (omega (arith, leb-true (figureOf depth m) 98 (depth_below m)))
+depth-fits (deep.Millimetres m) e = rw (metres-written depth m e) (omega (arith, leb-true (figure_of depth m) 98 (depth_below m)))
 
-depth-back : (h : Depth) → depthFits h ≡ true → readDepth (depthField h) ≡ Good (classDepth h)
+depth-back : (h : Depth) → depth_fits h ≡ true → read_depth (depth_field h) ≡ Good (class_depth h)
 depth-back deep.Missing e = refl
 depth-back deep.Closed e = refl
 depth-back (deep.Millimetres m) e = rw (metres-written depth m e) (rw (depth-open m, metres-read depth-laws m))
 
-depth-again : (h : Depth) → depthFits h ≡ true → depthField (classDepth h) ≡ depthField h
+depth-again : (h : Depth) → depth_fits h ≡ true → depth_field (class_depth h) ≡ depth_field h
 depth-again deep.Missing e = refl
 depth-again deep.Closed e = refl
 depth-again (deep.Millimetres m) e = rw (metres-again depth-laws m e)
 
-depth-classed : (h : Depth) → depthFits h ≡ true → depthFits (classDepth h) ≡ true
+depth-classed : (h : Depth) → depth_fits h ≡ true → depth_fits (class_depth h) ≡ true
 depth-classed deep.Missing e = refl
 depth-classed deep.Closed e = refl
 depth-classed (deep.Millimetres m) e = foot-low depth-laws m e
@@ -140,18 +140,18 @@ depth-classed (deep.Millimetres m) e = foot-low depth-laws m e
 record Covered (d e : Number) (h : Depth) (b : Number) : Type 0 where
   deposit : optional (has deposits) d ≡ true
   extent : optional (has extents) e ≡ true
-  depth : depthFits h ≡ true
+  depth : depth_fits h ≡ true
   braking : optional (has brakings) b ≡ true
 
-covered : (d e : Number) (h : Depth) (b : Number) → conditionFits (condition.Covered d e h b) ≡ true → Covered d e h b
+covered : (d e : Number) (h : Depth) (b : Number) → condition_fits (condition.Covered d e h b) ≡ true → Covered d e h b
 covered d e h b f =
-    let t = both (optional (has deposits) d && optional (has extents) e && depthFits h) (optional (has brakings) b) f in
-    let u = both (optional (has deposits) d && optional (has extents) e) (depthFits h) t.0 in
+    let t = both (optional (has deposits) d && optional (has extents) e && depth_fits h) (optional (has brakings) b) f in
+    let u = both (optional (has deposits) d && optional (has extents) e) (depth_fits h) t.0 in
     let v = both (optional (has deposits) d) (optional (has extents) e) u.0 in
     record { deposit = v.0; extent = v.1; depth = u.1; braking = t.1 }
 
 covered-back : (d e : Number) (h : Depth) (b : Number) → Covered d e h b
-    → readCovered (field_of d) (field_of e) (depthField h) (field_of b) ≡ Good (condition.Covered d e (classDepth h) b)
+    → read_covered (field_of d) (field_of e) (depth_field h) (field_of b) ≡ Good (condition.Covered d e (class_depth h) b)
 covered-back d e h b f =
     rw (holds-field table.Deposits d f.deposit, holds-field table.Extents e f.extent, holds-field table.Brakings b f.braking, depth-back h f.depth, number-back d, number-back e, number-back b)
 
@@ -159,8 +159,8 @@ covered-back d e h b f =
 
 abbrev Written : Number → Condition → Type 0
 Written r c =
-    (hasAny stateShapes (showState (record { runway = r; condition = c })) ≡ true)
-    × (readState (showState (record { runway = r; condition = c })) ≡ Good (classState (record { runway = r; condition = c })))
+    (has_any state_shapes (show_state (record { runway = r; condition = c })) ≡ true)
+    × (read_state (show_state (record { runway = r; condition = c })) ≡ Good (class_state (record { runway = r; condition = c })))
 
 module _ (k : ℕ) (listed : has runways k ≡ true) where
   abbrev rr : Field
@@ -169,15 +169,15 @@ module _ (k : ℕ) (listed : has runways k ≡ true) where
   fit-k : Fits 2 rr
   fit-k = let l = listed_below 99 runways k refl listed in omega arith
 
-  cleared-shape : hasPattern (fieldText 2 rr ++ bytes "CLRD//") clearedShape ≡ true
-  unfolding hasPattern fits low high
-  cleared-shape = pattern-append (fieldText 2 rr) (bytes "CLRD//") (replicate 2 35) (bytes "CLRD//") refl (length-field 2 rr (omega arith) fit-k) ∙ rw (field-pattern 2 rr (omega arith) fit-k)
+  cleared-shape : has_pattern (field_text 2 rr ++ bytes "CLRD//") cleared_shape ≡ true
+  unfolding has_pattern fits low high
+  cleared-shape = pattern-append (field_text 2 rr) (bytes "CLRD//") (replicate 2 35) (bytes "CLRD//") refl (length-field 2 rr (omega arith) fit-k) ∙ rw (field-pattern 2 rr (omega arith) fit-k)
 
   cleared-written : Written (number.Is k) condition.Cleared
-  unfolding hasAny showState readState
+  unfolding has_any show_state read_state
   cleared-written =
-      let g = fieldText 2 rr ++ bytes "CLRD//" in (
-        or_right (hasPattern g figuresShape) _ (rw cleared-shape),
+      let g = field_text 2 rr ++ bytes "CLRD//" in (
+        or_right (has_pattern g figures_shape) _ (rw cleared-shape),
         rw (field_back [] (bytes "CLRD//") 2 rr (omega arith) (omega arith) fit-k, cleared-shape, listed),
       )
 
@@ -188,49 +188,49 @@ module _ (k : ℕ) (listed : has runways k ≡ true) where
     fit-e : Fits 1 (field_of e)
     fit-e = one-figure extents e f.extent refl
 
-    fit-h : Fits 2 (depthField h)
+    fit-h : Fits 2 (depth_field h)
     fit-h = depth-fits h f.depth
 
     fit-b : Fits 2 (field_of b)
     fit-b = two-figures brakings b f.braking refl
 
     covered-written : Written (number.Is k) (condition.Covered d e h b)
-    unfolding hasAny showState readState
+    unfolding has_any show_state read_state
     covered-written =
-        let l = laid_out rr (field_of d) (field_of e) (depthField h) (field_of b) fit-k fit-d fit-e fit-h fit-b in
-        let x = laid rr (field_of d) (field_of e) (depthField h) (field_of b) in
-        let no-clearing : hasPattern x clearedShape ≡ false = excluded x figuresShape clearedShape (unfold clash low high in refl) l.shape in (
+        let l = laid_out rr (field_of d) (field_of e) (depth_field h) (field_of b) fit-k fit-d fit-e fit-h fit-b in
+        let x = laid rr (field_of d) (field_of e) (depth_field h) (field_of b) in
+        let no-clearing : has_pattern x cleared_shape ≡ false = excluded x figures_shape cleared_shape (unfold clash low high in refl) l.shape in (
           rw l.shape,
           rw (l.runway, no-clearing, l.deposit, l.extent, l.depth, l.braking, listed, covered-back d e h b f),
         )
 
-state-written : (r : Number) (c : Condition) → present (has runways) r ≡ true → conditionFits c ≡ true → Written r c
+state-written : (r : Number) (c : Condition) → present (has runways) r ≡ true → condition_fits c ≡ true → Written r c
 state-written number.Missing c p f = absurd (false≢true p)
 state-written (number.Is k) condition.Cleared p f = cleared-written k p
 state-written (number.Is k) (condition.Covered d e h b) p f = covered-written k p d e h b (covered d e h b f)
 
-module _ (s : RunwayState) (e : stateFits s ≡ true) where
-  parts : (present (has runways) s.runway ≡ true) × (conditionFits s.condition ≡ true)
-  parts = both (present (has runways) s.runway) (conditionFits s.condition) e
+module _ (s : RunwayState) (e : state_fits s ≡ true) where
+  parts : (present (has runways) s.runway ≡ true) × (condition_fits s.condition ≡ true)
+  parts = both (present (has runways) s.runway) (condition_fits s.condition) e
 
-  pub state-shaped : hasAny stateShapes (showState s) ≡ true
+  pub state-shaped : has_any state_shapes (show_state s) ≡ true
   state-shaped = (state-written s.runway s.condition parts.0 parts.1).0
 
-  pub state-back : readState (showState s) ≡ Good (classState s)
+  pub state-back : read_state (show_state s) ≡ Good (class_state s)
   state-back = (state-written s.runway s.condition parts.0 parts.1).1
 
-  pub state-again : showState (classState s) ≡ showState s
-  unfolding showState
-  state-again = ap (λ (g : Group). fieldText 2 (field_of s.runway) ++ g) (go s.condition parts.1)
+  pub state-again : show_state (class_state s) ≡ show_state s
+  unfolding show_state
+  state-again = ap (λ (g : Group). field_text 2 (field_of s.runway) ++ g) (go s.condition parts.1)
     where
-      go : (c : Condition) → conditionFits c ≡ true → showCondition (classCondition c) ≡ showCondition c
+      go : (c : Condition) → condition_fits c ≡ true → show_condition (class_condition c) ≡ show_condition c
       go condition.Cleared f = refl
       go (condition.Covered d e h b) f = rw (depth-again h (covered d e h b f).depth)
 
-  pub state-classed : stateFits (classState s) ≡ true
+  pub state-classed : state_fits (class_state s) ≡ true
   state-classed = rw parts.0 (go s.condition parts.1)
     where
-      go : (c : Condition) → conditionFits c ≡ true → conditionFits (classCondition c) ≡ true
+      go : (c : Condition) → condition_fits c ≡ true → condition_fits (class_condition c) ≡ true
       go condition.Cleared f = refl
       go (condition.Covered d e h b) f =
           let p = covered d e h b f in

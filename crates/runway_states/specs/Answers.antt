@@ -8,10 +8,10 @@ use Rattle.runway_states.specs.declared.read.DepthRead.TheVariants as depth
 use Rattle.runway_states.specs.declared.read.StateRead.{StateRead}
 use Rattle.runway_states.specs.declared.read.StateRead.TheVariants as state
 
-abbrev pub asDepth : Read Depth → DepthRead
-asDepth (Good x) = depth.Good x
-asDepth (Bad f) = depth.Bad f
+abbrev pub as_depth : Read Depth → DepthRead
+as_depth (Good x) = depth.Good x
+as_depth (Bad f) = depth.Bad f
 
-abbrev pub asRead : Read RunwayState → StateRead
-asRead (Good x) = state.Good x
-asRead (Bad f) = state.Bad f
+abbrev pub as_read : Read RunwayState → StateRead
+as_read (Good x) = state.Good x
+as_read (Bad f) = state.Bad f

@@ -5,15 +5,15 @@ use Rattle.std.specs.Prelude.{ℕ, ◌+◌, Bool, true, false, cond, not, ◌&&�
 use Rattle.figures.specs.Quote.{bytes}
 use Rattle.figures.specs.declared.kinds.Field.{Field}
 use Rattle.figures.specs.declared.kinds.Field.TheVariants as field
-use Rattle.figures.specs.Figures.{field_at, fieldText, every}
+use Rattle.figures.specs.Figures.{field_at, field_text, every}
 use Rattle.text.specs.declared.kinds.Judged.{Judged}
 use Rattle.text.specs.declared.kinds.Judged.TheVariants as judged
 use Rattle.text.specs.Judge.{judge, and_then}
-use Rattle.shapes.specs.Pattern.{Pattern, hasPattern, hasAny}
+use Rattle.shapes.specs.Pattern.{Pattern, has_pattern, has_any}
 use Rattle.places.specs.Engine.{Group, Read, Good, Place}
-use Rattle.scales.specs.Scale.{footOf}
-use Rattle.scales.specs.Metres.{metresFigure, metresReading}
-use Rattle.scales.specs.Fields.{fieldBy}
+use Rattle.scales.specs.Scale.{foot_of}
+use Rattle.scales.specs.Metres.{metres_figure, metres_reading}
+use Rattle.scales.specs.Fields.{field_by}
 use Rattle.scales.specs.Depth.{depth}
 use Rattle.record.specs.declared.values.Number.{Number}
 use Rattle.record.specs.declared.values.Number.TheVariants as number
@@ -24,25 +24,25 @@ use Rattle.record.specs.declared.aerodrome.Condition.TheVariants as condition
 use Rattle.record.specs.declared.aerodrome.RunwayState.{RunwayState}
 use Rattle.record.specs.declared.aerodrome.RunwayStates.{RunwayStates}
 use Rattle.record.specs.Missing.{present, optional}
-use Rattle.record.specs.SilentAerodrome.{isBlankState}
-use Rattle.elements.specs.Parts.{mayMiss, used, provided, agreeing, disagrees, then}
+use Rattle.record.specs.SilentAerodrome.{is_blank_state}
+use Rattle.elements.specs.Parts.{may_miss, used, provided, agreeing, disagrees, then}
 use Rattle.aerodrome_groups.specs.Head.{field_of}
 use Rattle.runway_states.specs.declared.tables.Table.TheVariants as table
 use Rattle.runway_states.specs.Tables.{has, runways, deposits, extents, brakings, holds}
 
 -- ---- the shapes: eight figures or slashes; RR and CLRD//, whose strokes are fixed; SNOCLO
 
-abbrev pub figuresShape : Pattern
-figuresShape = bytes "########"
+abbrev pub figures_shape : Pattern
+figures_shape = bytes "########"
 
-abbrev pub clearedShape : Pattern
-clearedShape = bytes "##CLRD//"
+abbrev pub cleared_shape : Pattern
+cleared_shape = bytes "##CLRD//"
 
-abbrev pub stateShapes : List Pattern
-stateShapes = figuresShape ∷ clearedShape ∷ []
+abbrev pub state_shapes : List Pattern
+state_shapes = figures_shape ∷ cleared_shape ∷ []
 
-abbrev pub snocloShape : Pattern
-snocloShape = bytes "SNOCLO"
+abbrev pub snoclo_shape : Pattern
+snoclo_shape = bytes "SNOCLO"
 
 -- ---- reading
 
@@ -54,134 +54,134 @@ number_in field.Mixed = number.Missing
 number_in field.Other = number.Missing
 
 -- "Depth is read in mm ..; 99 closed"
-abbrev pub depthBy : ℕ → Read Depth
-depthBy n = cond (eqb n 99) (Good deep.Closed) (used (metresReading depth n) (λ m. Good (deep.Millimetres m)))
+abbrev pub depth_by : ℕ → Read Depth
+depth_by n = cond (eqb n 99) (Good deep.Closed) (used (metres_reading depth n) (λ m. Good (deep.Millimetres m)))
 
-abbrev pub readDepth : Field → Read Depth
-readDepth f = mayMiss f (Good deep.Missing) depthBy
+abbrev pub read_depth : Field → Read Depth
+read_depth f = may_miss f (Good deep.Missing) depth_by
 
 -- deposit, extent and braking are figures of their tables, or missing
-abbrev pub areListed : Field → Field → Field → Bool
-areListed d e b = holds table.Deposits true d && holds table.Extents true e && holds table.Brakings true b
+abbrev pub are_listed : Field → Field → Field → Bool
+are_listed d e b = holds table.Deposits true d && holds table.Extents true e && holds table.Brakings true b
 
-abbrev pub readCovered : Field → Field → Field → Field → Read Condition
-readCovered d e h b = provided (areListed d e b) (then (readDepth h) (λ x. Good (condition.Covered (number_in d) (number_in e) x (number_in b))))
+abbrev pub read_covered : Field → Field → Field → Field → Read Condition
+read_covered d e h b = provided (are_listed d e b) (then (read_depth h) (λ x. Good (condition.Covered (number_in d) (number_in e) x (number_in b))))
 
-abbrev pub readCondition : Group → Read Condition
-readCondition g =
-    cond (hasPattern g clearedShape) (Good condition.Cleared) (readCovered (field_at g 2 1) (field_at g 3 1) (field_at g 4 2) (field_at g 6 2))
+abbrev pub read_condition : Group → Read Condition
+read_condition g =
+    cond (has_pattern g cleared_shape) (Good condition.Cleared) (read_covered (field_at g 2 1) (field_at g 3 1) (field_at g 4 2) (field_at g 6 2))
 
-unfoldable pub readState : Group → Read RunwayState
-readState g =
+unfoldable pub read_state : Group → Read RunwayState
+read_state g =
     provided (holds table.Runways false (field_at g 0 2))
-    (then (readCondition g) (λ c. Good (record { runway = number_in (field_at g 0 2); condition = c })))
+    (then (read_condition g) (λ c. Good (record { runway = number_in (field_at g 0 2); condition = c })))
 
 -- one more where k stand; past the fourth there is no room
-abbrev pub withState : ℕ → RunwayStates → RunwayState → RunwayStates
-withState k ss x = cond (ltb k 4) (record { items = set ss.items k x; count = k + 1; snoclo = ss.snoclo }) ss
+abbrev pub with_state : ℕ → RunwayStates → RunwayState → RunwayStates
+with_state k ss x = cond (ltb k 4) (record { items = set ss.items k x; count = k + 1; snoclo = ss.snoclo }) ss
 
-abbrev pub withSnoclo : Bool → RunwayStates → RunwayStates
-withSnoclo x ss = record { items = ss.items; count = ss.count; snoclo = x }
+abbrev pub with_snoclo : Bool → RunwayStates → RunwayStates
+with_snoclo x ss = record { items = ss.items; count = ss.count; snoclo = x }
 
 -- ---- writing
 
-abbrev pub depthField : Depth → Field
-depthField deep.Missing = field.Missing
-depthField deep.Closed = field.Number 99
-depthField (deep.Millimetres m) = fieldBy (metresFigure depth m)
+abbrev pub depth_field : Depth → Field
+depth_field deep.Missing = field.Missing
+depth_field deep.Closed = field.Number 99
+depth_field (deep.Millimetres m) = field_by (metres_figure depth m)
 
-abbrev pub showCondition : Condition → Group
-showCondition condition.Cleared = bytes "CLRD//"
-showCondition (condition.Covered d e h b) = fieldText 1 (field_of d) ++ fieldText 1 (field_of e) ++ fieldText 2 (depthField h) ++ fieldText 2 (field_of b)
+abbrev pub show_condition : Condition → Group
+show_condition condition.Cleared = bytes "CLRD//"
+show_condition (condition.Covered d e h b) = field_text 1 (field_of d) ++ field_text 1 (field_of e) ++ field_text 2 (depth_field h) ++ field_text 2 (field_of b)
 
-unfoldable pub showState : RunwayState → Group
-showState s = fieldText 2 (field_of s.runway) ++ showCondition s.condition
+unfoldable pub show_state : RunwayState → Group
+show_state s = field_text 2 (field_of s.runway) ++ show_condition s.condition
 
-unfoldable pub showStates : RunwayStates → List Group
-showStates ss = map showState (take ss.count ss.items)
+unfoldable pub show_states : RunwayStates → List Group
+show_states ss = map show_state (take ss.count ss.items)
 
 -- ---- judging: the count and the slots past it, then each state; "SNOCLO beside a group 7", which the first one completes, as SNOCLO is written first
 
 -- "0 to 99,999 in a record"
-abbrev pub depthFits : Depth → Bool
-depthFits deep.Missing = true
-depthFits deep.Closed = true
-depthFits (deep.Millimetres m) = leb m 99999
+abbrev pub depth_fits : Depth → Bool
+depth_fits deep.Missing = true
+depth_fits deep.Closed = true
+depth_fits (deep.Millimetres m) = leb m 99999
 
-abbrev pub conditionFits : Condition → Bool
-conditionFits condition.Cleared = true
-conditionFits (condition.Covered d e h b) = optional (has deposits) d && optional (has extents) e && depthFits h && optional (has brakings) b
+abbrev pub condition_fits : Condition → Bool
+condition_fits condition.Cleared = true
+condition_fits (condition.Covered d e h b) = optional (has deposits) d && optional (has extents) e && depth_fits h && optional (has brakings) b
 
-abbrev pub stateFits : RunwayState → Bool
-stateFits s = present (has runways) s.runway && conditionFits s.condition
+abbrev pub state_fits : RunwayState → Bool
+state_fits s = present (has runways) s.runway && condition_fits s.condition
 
-abbrev pub judgeEachState : Bool → List RunwayState → Judged
-judgeEachState snoclo [] = judged.Fine
-judgeEachState snoclo (s ∷ ss) = and_then (judge (stateFits s) (not snoclo)) (judgeEachState snoclo ss)
+abbrev pub judge_each_state : Bool → List RunwayState → Judged
+judge_each_state snoclo [] = judged.Fine
+judge_each_state snoclo (s ∷ ss) = and_then (judge (state_fits s) (not snoclo)) (judge_each_state snoclo ss)
 
-unfoldable pub judgeStates : RunwayStates → Judged
-judgeStates ss =
-    and_then (judge (leb ss.count 4 && every isBlankState (drop ss.count ss.items)) true) (judgeEachState ss.snoclo (take ss.count ss.items))
+unfoldable pub judge_states : RunwayStates → Judged
+judge_states ss =
+    and_then (judge (leb ss.count 4 && every is_blank_state (drop ss.count ss.items)) true) (judge_each_state ss.snoclo (take ss.count ss.items))
 
 -- ---- what is read back
 
-abbrev pub classDepth : Depth → Depth
-classDepth deep.Missing = deep.Missing
-classDepth deep.Closed = deep.Closed
-classDepth (deep.Millimetres m) = deep.Millimetres (footOf depth m)
+abbrev pub class_depth : Depth → Depth
+class_depth deep.Missing = deep.Missing
+class_depth deep.Closed = deep.Closed
+class_depth (deep.Millimetres m) = deep.Millimetres (foot_of depth m)
 
-abbrev pub classCondition : Condition → Condition
-classCondition condition.Cleared = condition.Cleared
-classCondition (condition.Covered d e h b) = condition.Covered d e (classDepth h) b
+abbrev pub class_condition : Condition → Condition
+class_condition condition.Cleared = condition.Cleared
+class_condition (condition.Covered d e h b) = condition.Covered d e (class_depth h) b
 
-abbrev pub classState : RunwayState → RunwayState
-classState s = record { runway = s.runway; condition = classCondition s.condition }
+abbrev pub class_state : RunwayState → RunwayState
+class_state s = record { runway = s.runway; condition = class_condition s.condition }
 
 -- those that count; what stands past them is as it was
-abbrev pub classStates : RunwayStates → RunwayStates
-classStates ss = record { items = map classState (take ss.count ss.items) ++ drop ss.count ss.items; count = ss.count; snoclo = ss.snoclo }
+abbrev pub class_states : RunwayStates → RunwayStates
+class_states ss = record { items = map class_state (take ss.count ss.items) ++ drop ss.count ss.items; count = ss.count; snoclo = ss.snoclo }
 
 -- ---- the places: groups, or SNOCLO. "SNOCLO beside a group 7", at whichever comes second, so that each may stand after the other: a group after SNOCLO has a
 -- place of its own, where its figures are judged first. A second SNOCLO has none, and is 6.
 
-abbrev pub statesPlace : Place RunwayStates
-statesPlace =
+abbrev pub states_place : Place RunwayStates
+states_place =
     record {
-      has = hasAny stateShapes;
-      cover = stateShapes;
-      spoken = stateShapes;
+      has = has_any state_shapes;
+      cover = state_shapes;
+      spoken = state_shapes;
       most = 4;
       must = false;
       ends = false;
-      read = λ k g ss. then (readState g) (λ x. Good (withState k ss x));
-      show = showStates;
-      put = λ ss acc. withSnoclo acc.snoclo (classStates ss);
+      read = λ k g ss. then (read_state g) (λ x. Good (with_state k ss x));
+      show = show_states;
+      put = λ ss acc. with_snoclo acc.snoclo (class_states ss);
     }
 
-abbrev pub snocloPlace : Place RunwayStates
-snocloPlace =
+abbrev pub snoclo_place : Place RunwayStates
+snoclo_place =
     record {
-      has = λ g. hasPattern g snocloShape;
-      cover = snocloShape ∷ [];
-      spoken = snocloShape ∷ [];
+      has = λ g. has_pattern g snoclo_shape;
+      cover = snoclo_shape ∷ [];
+      spoken = snoclo_shape ∷ [];
       most = 1;
       must = false;
       ends = false;
-      read = λ k g ss. agreeing (eqb ss.count 0) (Good (withSnoclo true ss));
-      show = λ ss. cond ss.snoclo (snocloShape ∷ []) [];
-      put = λ ss acc. withSnoclo ss.snoclo acc;
+      read = λ k g ss. agreeing (eqb ss.count 0) (Good (with_snoclo true ss));
+      show = λ ss. cond ss.snoclo (snoclo_shape ∷ []) [];
+      put = λ ss acc. with_snoclo ss.snoclo acc;
     }
 
-abbrev pub besidePlace : Place RunwayStates
-besidePlace =
+abbrev pub beside_place : Place RunwayStates
+beside_place =
     record {
-      has = hasAny stateShapes;
-      cover = stateShapes;
+      has = has_any state_shapes;
+      cover = state_shapes;
       spoken = [];
       most = 1;
       must = false;
       ends = false;
-      read = λ k g ss. then (readState g) (λ x. disagrees);
+      read = λ k g ss. then (read_state g) (λ x. disagrees);
       show = λ ss. [];
       put = λ ss acc. acc;
     }

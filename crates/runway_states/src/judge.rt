@@ -1,7 +1,7 @@
 // What the writer judges of the runway states before it writes anything: the count and the slots past it, the range of each part of a state, refusal 11,
 // and that no state stands beside SNOCLO, refusal 7.
 ghost use Rattle.std.specs.Prelude.{◌≡◌, ◌≤◌, take};
-ghost use Rattle.runway_states.specs.State.{depthFits, conditionFits, stateFits, judgeEachState, judgeStates};
+ghost use Rattle.runway_states.specs.State.{depth_fits, condition_fits, state_fits, judge_each_state, judge_states};
 
 use crate::tables::Table;
 use record::aerodrome::{Condition, Depth, RunwayState, RunwayStates};
@@ -9,7 +9,7 @@ use text::judge::{and_then, judge};
 use text::kinds::Judged;
 
 fn depth_fits(depth: Depth) -> bool
-    ensures { result ≡ depthFits depth }
+    ensures { result ≡ depth_fits depth }
 {
     match depth {
         Depth::Missing => true,
@@ -19,7 +19,7 @@ fn depth_fits(depth: Depth) -> bool
 }
 
 fn condition_fits(c: Condition) -> bool
-    ensures { result ≡ conditionFits c }
+    ensures { result ≡ condition_fits c }
 {
     match c {
         Condition::Cleared => true,
@@ -39,7 +39,7 @@ fn condition_fits(c: Condition) -> bool
 }
 
 fn state_fits(s: RunwayState) -> bool
-    ensures { result ≡ stateFits s }
+    ensures { result ≡ state_fits s }
 {
     let runway = s.runway;
     let condition = s.condition;
@@ -50,7 +50,7 @@ fn state_fits(s: RunwayState) -> bool
 // The first n states.
 fn judge_each(ss: RunwayStates, n: usize) -> Judged
     requires { n ≤ 4 }
-    ensures { result ≡ judgeEachState ss.snoclo (take n ss.items) }
+    ensures { result ≡ judge_each_state ss.snoclo (take n ss.items) }
 {
     let items = ss.items;
     let mut i = 0;
@@ -65,7 +65,7 @@ fn judge_each(ss: RunwayStates, n: usize) -> Judged
 }
 
 pub fn judge_states(ss: RunwayStates) -> Judged
-    ensures { result ≡ judgeStates ss }
+    ensures { result ≡ judge_states ss }
 {
     let n = ss.count;
     if n <= 4 {

@@ -1,12 +1,12 @@
 // What a group of runway state says. A caller holds the group to its shape first; what has another shape is refused as a wrong figure.
 ghost use Rattle.std.specs.Prelude.{◌≡◌, true, cond, eqb};
-ghost use Rattle.shapes.specs.Pattern.{hasAny};
+ghost use Rattle.shapes.specs.Pattern.{has_any};
 ghost use Rattle.text.specs.declared.kinds.Refusal.TheVariants as refusal;
 ghost use Rattle.elements.specs.declared.kinds.Said.TheVariants as said;
-ghost use Rattle.elements.specs.Answers.{asState};
+ghost use Rattle.elements.specs.Answers.{as_state};
 ghost use Rattle.elements.specs.Parts.{disagrees, then};
-ghost use Rattle.runway_states.specs.Answers.{asDepth, asRead};
-ghost use Rattle.runway_states.specs.State.{stateShapes, number_in, depthBy, readDepth, areListed, readState, withState, withSnoclo};
+ghost use Rattle.runway_states.specs.Answers.{as_depth, as_read};
+ghost use Rattle.runway_states.specs.State.{state_shapes, number_in, depth_by, read_depth, are_listed, read_state, with_state, with_snoclo};
 
 use crate::tables::Table;
 use elements::kinds::Said;
@@ -20,7 +20,7 @@ use shapes::has_pattern;
 use text::kinds::Refusal;
 
 pub fn has_state(g: &[u8]) -> bool
-    ensures { result ≡ hasAny stateShapes g.now }
+    ensures { result ≡ has_any state_shapes g.now }
 {
     let figures = has_pattern(g, b"########");
     let cleared = has_pattern(g, b"##CLRD//");
@@ -46,7 +46,7 @@ enum DepthRead {
 }
 
 fn depth_by(n: u32) -> DepthRead
-    ensures { result ≡ asDepth (depthBy n) }
+    ensures { result ≡ as_depth (depth_by n) }
 {
     if n == 99 {
         return DepthRead::Good(Depth::Closed);
@@ -59,7 +59,7 @@ fn depth_by(n: u32) -> DepthRead
 }
 
 fn read_depth(f: Field) -> DepthRead
-    ensures { result ≡ asDepth (readDepth f) }
+    ensures { result ≡ as_depth (read_depth f) }
 {
     match f {
         Field::Number(n) => depth_by(n),
@@ -70,7 +70,7 @@ fn read_depth(f: Field) -> DepthRead
 }
 
 fn are_listed(deposit: Field, extent: Field, braking: Field) -> bool
-    ensures { result ≡ areListed deposit extent braking }
+    ensures { result ≡ are_listed deposit extent braking }
 {
     let lies = Table::Deposits;
     let covers = Table::Extents;
@@ -86,7 +86,7 @@ enum StateRead {
 }
 
 fn state_of(g: &[u8]) -> StateRead
-    ensures { result ≡ asRead (readState g.now) }
+    ensures { result ≡ as_read (read_state g.now) }
 {
     let runways = Table::Runways;
     let runway = field(g, 0, 2);
@@ -123,7 +123,7 @@ fn state_of(g: &[u8]) -> StateRead
 }
 
 pub fn read_state(g: &[u8]) -> Said
-    ensures { result ≡ asState (readState g.now) }
+    ensures { result ≡ as_state (read_state g.now) }
 {
     let read = state_of(g);
     match read {
@@ -134,7 +134,7 @@ pub fn read_state(g: &[u8]) -> Said
 
 // The same after SNOCLO, beside which no state may stand.
 pub fn read_beside(g: &[u8]) -> Said
-    ensures { result ≡ asState (then (readState g.now) (λ x. disagrees)) }
+    ensures { result ≡ as_state (then (read_state g.now) (λ x. disagrees)) }
 {
     let read = state_of(g);
     match read {
@@ -156,7 +156,7 @@ pub fn say_snoclo(states: usize) -> Said
 
 // One more state where k stand; past the fourth there is no room.
 pub fn add_state(k: usize, ss: RunwayStates, x: RunwayState) -> RunwayStates
-    ensures { result ≡ withState k ss x }
+    ensures { result ≡ with_state k ss x }
 {
     if k < 4 {
         let mut items = ss.items;
@@ -172,7 +172,7 @@ pub fn add_state(k: usize, ss: RunwayStates, x: RunwayState) -> RunwayStates
 }
 
 pub fn close(ss: RunwayStates) -> RunwayStates
-    ensures { result ≡ withSnoclo true ss }
+    ensures { result ≡ with_snoclo true ss }
 {
     let mut closed = ss;
     closed.snoclo = true;

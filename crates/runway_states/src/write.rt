@@ -3,7 +3,7 @@
 ghost use Rattle.std.specs.Prelude.{◌≡◌, cond, ◌∷◌, [], ◌++◌, map, min, take};
 ghost use Rattle.figures.specs.Put.{Put};
 ghost use Rattle.text.specs.Groups.{written};
-ghost use Rattle.runway_states.specs.State.{snocloShape, depthField, showCondition, showState, showStates};
+ghost use Rattle.runway_states.specs.State.{snoclo_shape, depth_field, show_condition, show_state, show_states};
 
 use aerodrome_groups::write::{field_of, put_two};
 use figures::kinds::Field;
@@ -14,7 +14,7 @@ use scales::kinds::Figure;
 use text::write::{open_group, put_if};
 
 fn depth_field(depth: Depth) -> Field
-    ensures { result ≡ depthField depth }
+    ensures { result ≡ depth_field depth }
 {
     match depth {
         Depth::Missing => Field::Missing,
@@ -30,7 +30,7 @@ fn depth_field(depth: Depth) -> Field
 }
 
 fn put_condition(out: &mut [u8], at: usize, c: Condition) -> usize
-    ensures { Put out.old at (showCondition c) result out.new }
+    ensures { Put out.old at (show_condition c) result out.new }
 {
     match c {
         Condition::Cleared => put_text(out, at, b"CLRD//"),
@@ -49,7 +49,7 @@ fn put_condition(out: &mut [u8], at: usize, c: Condition) -> usize
 }
 
 fn put_state(out: &mut [u8], at: usize, s: RunwayState) -> usize
-    ensures { Put out.old at (written at (showState s ∷ [])) result out.new }
+    ensures { Put out.old at (written at (show_state s ∷ [])) result out.new }
 {
     let runway = s.runway;
     let condition = s.condition;
@@ -66,7 +66,7 @@ fn at_most_four(count: usize) -> usize
 
 // The first `count` slots; all where the count is too large.
 fn put_each(out: &mut [u8], at: usize, items: [RunwayState; 4], count: usize) -> usize
-    ensures { Put out.old at (written at (map showState (take count items))) result out.new }
+    ensures { Put out.old at (written at (map show_state (take count items))) result out.new }
 {
     let end = at_most_four(count);
     let mut next = at;
@@ -80,7 +80,7 @@ fn put_each(out: &mut [u8], at: usize, items: [RunwayState; 4], count: usize) ->
 
 // The states, or SNOCLO.
 pub fn put_states(out: &mut [u8], at: usize, ss: RunwayStates) -> usize
-    ensures { Put out.old at (written at (showStates ss ++ cond ss.snoclo (snocloShape ∷ []) [])) result out.new }
+    ensures { Put out.old at (written at (show_states ss ++ cond ss.snoclo (snoclo_shape ∷ []) [])) result out.new }
 {
     let items = ss.items;
     let count = ss.count;

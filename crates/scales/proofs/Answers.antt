@@ -7,8 +7,8 @@ use native.Mathlib.Omega.{arith}
 use lib.Dec.{leb, eqb}
 use borrow.Author.Tests.{le-leb, lt-leb, leb-true, leb-false}
 use Rattle.figures.proofs.Impossible.{impossible}
-use Rattle.scales.specs.Scale.{Class, Scale, Read, Foot, class_of, figureOf, footOf, read_of}
-use Rattle.scales.specs.Metres.{runway, sameRange, answered, metresFigure, metresReading, rangeFigure, rangeReading}
+use Rattle.scales.specs.Scale.{Class, Scale, Read, Foot, class_of, figure_of, foot_of, read_of}
+use Rattle.scales.specs.Metres.{runway, same_range, answered, metres_figure, metres_reading, range_figure, range_reading}
 use Rattle.scales.specs.declared.kinds.Figure.TheVariants as figure
 use Rattle.scales.specs.declared.kinds.Reading.TheVariants as reading
 use Rattle.scales.specs.declared.kinds.Range.{Range}
@@ -20,37 +20,37 @@ abbrev pub figured : {F : Type 0} {c d : Class F} → c ≡ d → c.figure ≡ d
 figured {F} e = ap (λ (c : Class F). c.figure) e
 
 module _ (s : Scale ℕ) (v : ℕ) where
-  pub class-is : {d : Class ℕ} {x : ℕ} → v ≤ 99999 → class_of s v ≡ d → d.figure ≡ x → figure.Is x ≡ metresFigure s v
-  unfolding metresFigure
+  pub class-is : {d : Class ℕ} {x : ℕ} → v ≤ 99999 → class_of s v ≡ d → d.figure ≡ x → figure.Is x ≡ metres_figure s v
+  unfolding metres_figure
   class-is l e f = rw (le-leb v 99999 l) (ap figure.Is (sym (figured e ∙ f)))
 
-  pub too_far : 99999 < v → figure.OutOfRange ≡ metresFigure s v
-  unfolding metresFigure
+  pub too_far : 99999 < v → figure.OutOfRange ≡ metres_figure s v
+  unfolding metres_figure
   too_far h = rw (lt-leb v 99999 h)
 
 module _ (v : ℕ) where
-  pub range-is : {d : Class Range} {x : Range} → v ≤ 99999 → class_of runway v ≡ d → d.figure ≡ x → written.Is x ≡ rangeFigure v
-  unfolding rangeFigure
+  pub range-is : {d : Class Range} {x : Range} → v ≤ 99999 → class_of runway v ≡ d → d.figure ≡ x → written.Is x ≡ range_figure v
+  unfolding range_figure
   range-is l e f = rw (le-leb v 99999 l) (ap written.Is (sym (figured e ∙ f)))
 
-  pub range-too-far : 99999 < v → written.OutOfRange ≡ rangeFigure v
-  unfolding rangeFigure
+  pub range-too-far : 99999 < v → written.OutOfRange ≡ range_figure v
+  unfolding range_figure
   range-too-far h = rw (lt-leb v 99999 h)
 
 -- the reading of a figure, where r is what the scale has for it
-pub read_is : (s : Scale ℕ) (f : ℕ) {r : Read} → read_of eqb s f ≡ r → answered r ≡ metresReading s f
-unfolding metresReading
+pub read_is : (s : Scale ℕ) (f : ℕ) {r : Read} → read_of eqb s f ≡ r → answered r ≡ metres_reading s f
+unfolding metres_reading
 read_is s f e = ap answered (sym e)
 
 -- a figure that is g is read as g is
-pub read_same : (s : Scale ℕ) {f g : ℕ} → f ≡ g → metresReading s g ≡ metresReading s f
-read_same s e = ap (metresReading s) (sym e)
+pub read_same : (s : Scale ℕ) {f g : ℕ} → f ≡ g → metres_reading s g ≡ metres_reading s f
+read_same s e = ap (metres_reading s) (sym e)
 
-pub foot-is : (s : Scale ℕ) (f : ℕ) {m x : ℕ} → read_of eqb s f ≡ Foot m → m ≡ x → reading.Is x ≡ metresReading s f
+pub foot-is : (s : Scale ℕ) (f : ℕ) {m x : ℕ} → read_of eqb s f ≡ Foot m → m ≡ x → reading.Is x ≡ metres_reading s f
 foot-is s f e g = ap reading.Is (sym g) ∙ read_is s f e
 
-pub range-read-is : (f : Range) {r : Read} → read_of sameRange runway f ≡ r → answered r ≡ rangeReading f
-unfolding rangeReading
+pub range-read-is : (f : Range) {r : Read} → read_of same_range runway f ≡ r → answered r ≡ range_reading f
+unfolding range_reading
 range-read-is f e = ap answered (sym e)
 
 -- ---- the answers from outside: the figure of a value's class, or that the value may not be written, whatever the answers are made with
@@ -77,37 +77,37 @@ no-range : (r : Range) → written.OutOfRange ≡ written.Is r → ⊥
 no-range r e = impossible (cc)
 
 module _ (s : Scale ℕ) (m : ℕ) where
-  pub figure-told : {f : ℕ} → metresFigure s m ≡ figure.Is f → f ≡ figureOf s m
-  unfolding metresFigure
-  figure-told {f} e = let i = told figure.Is figure.OutOfRange no-figure (figureOf s m) m f e in cc
+  pub figure-told : {f : ℕ} → metres_figure s m ≡ figure.Is f → f ≡ figure_of s m
+  unfolding metres_figure
+  figure-told {f} e = let i = told figure.Is figure.OutOfRange no-figure (figure_of s m) m f e in cc
 
-  pub figure-beyond : metresFigure s m ≡ figure.OutOfRange → 99999 < m
-  unfolding metresFigure
-  figure-beyond e = beyond figure.Is figure.OutOfRange no-figure (figureOf s m) m e
+  pub figure-beyond : metres_figure s m ≡ figure.OutOfRange → 99999 < m
+  unfolding metres_figure
+  figure-beyond e = beyond figure.Is figure.OutOfRange no-figure (figure_of s m) m e
 
 module _ (m : ℕ) where
-  pub range-told : {f : Range} → rangeFigure m ≡ written.Is f → f ≡ figureOf runway m
-  unfolding rangeFigure
-  range-told {f} e = let i = told written.Is written.OutOfRange no-range (figureOf runway m) m f e in cc
+  pub range-told : {f : Range} → range_figure m ≡ written.Is f → f ≡ figure_of runway m
+  unfolding range_figure
+  range-told {f} e = let i = told written.Is written.OutOfRange no-range (figure_of runway m) m f e in cc
 
-  pub range-beyond : rangeFigure m ≡ written.OutOfRange → 99999 < m
-  unfolding rangeFigure
-  range-beyond e = beyond written.Is written.OutOfRange no-range (figureOf runway m) m e
+  pub range-beyond : range_figure m ≡ written.OutOfRange → 99999 < m
+  unfolding range_figure
+  range-beyond e = beyond written.Is written.OutOfRange no-range (figure_of runway m) m e
 
 -- ---- what may be written has the figure of its class, which is read as the foot, and the foot may be written and has the same figure
 
-pub foot-low : {F : Type 0} {same : F → F → Bool} {s : Scale F} → Lawful same s → (m : ℕ) → leb m 99999 ≡ true → leb (footOf s m) 99999 ≡ true
-foot-low {s = s} laws m h = le-leb (footOf s m) 99999 (omega (arith, laws.not-above m, leb-true m 99999 h))
+pub foot-low : {F : Type 0} {same : F → F → Bool} {s : Scale F} → Lawful same s → (m : ℕ) → leb m 99999 ≡ true → leb (foot_of s m) 99999 ≡ true
+foot-low {s = s} laws m h = le-leb (foot_of s m) 99999 (omega (arith, laws.not-above m, leb-true m 99999 h))
 
 module _ {s : Scale ℕ} (laws : Lawful eqb s) (m : ℕ) where
-  pub metres-read : metresReading s (figureOf s m) ≡ reading.Is (footOf s m)
-  unfolding metresReading
+  pub metres-read : metres_reading s (figure_of s m) ≡ reading.Is (foot_of s m)
+  unfolding metres_reading
   metres-read = rw (laws.reads-back m)
 
-  pub metres-again : leb m 99999 ≡ true → metresFigure s (footOf s m) ≡ metresFigure s m
-  unfolding metresFigure
+  pub metres-again : leb m 99999 ≡ true → metres_figure s (foot_of s m) ≡ metres_figure s m
+  unfolding metres_figure
   metres-again h = rw (foot-low laws m h, h, laws.again m)
 
-pub metres-written : (s : Scale ℕ) (m : ℕ) → leb m 99999 ≡ true → metresFigure s m ≡ figure.Is (figureOf s m)
-unfolding metresFigure
+pub metres-written : (s : Scale ℕ) (m : ℕ) → leb m 99999 ≡ true → metres_figure s m ≡ figure.Is (figure_of s m)
+unfolding metres_figure
 metres-written s m h = rw h

@@ -10,32 +10,32 @@ use lib.Dec.{eqb}
 use lib.IntN.{ℤ, pos, negsuc, nat_abs, ◌-ℤ◌, ◌*ℤ◌}
 use borrow.Author.Tests.{lt-ltb, le-ltb}
 use Rattle.figures.specs.Signed.{negative}
-use Rattle.scales.specs.Degrees.{wholeDegrees, isMinusZero, roundedDegrees, degreesOf, degreesReading}
+use Rattle.scales.specs.Degrees.{whole_degrees, is_minus_zero, rounded_degrees, degrees_of, degrees_reading}
 use Rattle.scales.specs.declared.kinds.Degrees.TheVariants as degrees
 use Rattle.scales.specs.declared.kinds.Tenths.TheVariants as tenths
 use Rattle.scales.proofs.Laws.{reached}
 use Rattle.scales.proofs.DegreesLaws.{rounded-warm, rounded-cold, ten-times, cool-minus, written-fits, degrees-rounds}
 
 -- how far two temperatures are apart, in tenths
-abbrev pub farApart : ℤ → ℤ → ℕ
-farApart t u = nat_abs (t -ℤ u)
+abbrev pub far_apart : ℤ → ℤ → ℕ
+far_apart t u = nat_abs (t -ℤ u)
 
 -- ---- by their signs
-warm-warm : (a b : ℕ) → farApart (pos a) (pos b) ≡ (a - b) + (b - a)
+warm-warm : (a b : ℕ) → far_apart (pos a) (pos b) ≡ (a - b) + (b - a)
 warm-warm a zero = omega arith
 warm-warm a (suc b) =
     ⊎_elim (λ h. rw (le-ltb a (suc b) h) (omega arith)) (λ h. rw (lt-ltb a (suc b) h) (omega arith)) (reached (suc b) a)
 
-cold-warm : (a b : ℕ) → farApart (negsuc a) (pos b) ≡ suc a + b
+cold-warm : (a b : ℕ) → far_apart (negsuc a) (pos b) ≡ suc a + b
 cold-warm a zero = rw (lt-ltb 0 (suc a) (omega arith)) (omega arith)
 cold-warm a (suc b) = omega arith
 
-cold-cold : (a b : ℕ) → farApart (negsuc a) (negsuc b) ≡ (a - b) + (b - a)
+cold-cold : (a b : ℕ) → far_apart (negsuc a) (negsuc b) ≡ (a - b) + (b - a)
 cold-cold a b =
     ⊎_elim (λ h. rw (le-ltb (suc b) (suc a) (omega arith)) (omega arith)) (λ h. rw (lt-ltb (suc b) (suc a) (omega arith)) (omega arith)) (reached a b)
 
 -- no whole degree k is nearer to t than what t is read as, where that is not M00
-pub no-degree-nearer : (t : ℤ) → isMinusZero t ≡ false → (k : ℤ) → farApart t (roundedDegrees t) ≤ farApart t (k *ℤ pos 10)
+pub no-degree-nearer : (t : ℤ) → is_minus_zero t ≡ false → (k : ℤ) → far_apart t (rounded_degrees t) ≤ far_apart t (k *ℤ pos 10)
 no-degree-nearer (pos n) i (pos c) =
     rw (rounded-warm n, warm-warm n ((n + 5) / 10 * 10), warm-warm n (c * 10)) (omega arith)
 no-degree-nearer (pos n) i (negsuc c) =
@@ -43,7 +43,7 @@ no-degree-nearer (pos n) i (negsuc c) =
 no-degree-nearer (negsuc n) i k =
     ⊎_elim (λ l. cold l k) (λ h. absurd (false≢true (sym i ∙ cool-minus n h))) (reached 5 n)
   where
-    cold : 5 ≤ n → (k : ℤ) → farApart (negsuc n) (roundedDegrees (negsuc n)) ≤ farApart (negsuc n) (k *ℤ pos 10)
+    cold : 5 ≤ n → (k : ℤ) → far_apart (negsuc n) (rounded_degrees (negsuc n)) ≤ far_apart (negsuc n) (k *ℤ pos 10)
     cold l (pos c) =
         rw (rounded-cold n l, cold-cold n ((n - 5) / 10 * 10 + 9), cold-warm n (c * 10)) (omega arith)
     cold l (negsuc c) =
@@ -51,13 +51,13 @@ no-degree-nearer (negsuc n) i k =
 
 -- In the user's words: where an observation is written as whole degrees and not as M00, no whole degree, of -99 to 99 or beyond, is nearer to it than what
 -- these are read as.
-pub degrees-nearest : (t : ℤ) (minus : Bool) (n : ℕ) (w : ℤ) → degreesOf t ≡ degrees.Is minus n → (minus && eqb n 0) ≡ false → degreesReading minus n ≡ tenths.Is w
-    → (k : ℤ) → farApart t w ≤ farApart t (k *ℤ pos 10)
-unfolding degreesOf isMinusZero
+pub degrees-nearest : (t : ℤ) (minus : Bool) (n : ℕ) (w : ℤ) → degrees_of t ≡ degrees.Is minus n → (minus && eqb n 0) ≡ false → degrees_reading minus n ≡ tenths.Is w
+    → (k : ℤ) → far_apart t w ≤ far_apart t (k *ℤ pos 10)
+unfolding degrees_of is_minus_zero
 degrees-nearest t minus n w e z r k =
     let b = degrees-rounds.back t (minus, n) e in
-    let c : roundedDegrees t ≡ w = cc in
-    let d : degrees.Is (negative t) (nat_abs (wholeDegrees t)) ≡ degrees.Is minus n = rw (written-fits t minus n e) at e in
+    let c : rounded_degrees t ≡ w = cc in
+    let d : degrees.Is (negative t) (nat_abs (whole_degrees t)) ≡ degrees.Is minus n = rw (written-fits t minus n e) at e in
     let f : negative t ≡ minus = cc in
-    let g : nat_abs (wholeDegrees t) ≡ n = cc in
-    rw c at (no-degree-nearer t (unfold isMinusZero in rw (f, g) z) k)
+    let g : nat_abs (whole_degrees t) ≡ n = cc in
+    rw c at (no-degree-nearer t (unfold is_minus_zero in rw (f, g) z) k)

@@ -8,8 +8,8 @@ use native.Mathlib.Nat.{add-suc, add-zero}
 use native.Mathlib.Omega.{arith}
 use lib.Dec.{leb, ltb, eqb}
 use borrow.Author.Tests.{ltb-true, leb-true, ne_eqb}
-use Rattle.scales.specs.Scale.{Class, Scale, None, classIn, readIn, rising}
-use Rattle.scales.specs.Metres.{metresFigure}
+use Rattle.scales.specs.Scale.{Class, Scale, None, class_in, read_in, rising}
+use Rattle.scales.specs.Metres.{metres_figure}
 use Rattle.scales.specs.declared.kinds.Figure.TheVariants as figure
 use Rattle.scales.proofs.Answers.{class-is}
 use Rattle.scales.proofs.Runs.{under, onto, rises}
@@ -35,15 +35,15 @@ module _ {F : Type 0} where
       omega (arith, p.0, nth-rises d ds i p.1)
 
   -- a value from the foot at i to the next has the class at i
-  pub sits : (c : Class F) (ds : List (Class F)) (v i : ℕ) → rising c ds ≡ true → (nth c ds i).foot ≤ v → Upto v ds i → classIn c ds v ≡ nth c ds i
-  sits c [] v i r l h = unfold classIn in refl
+  pub sits : (c : Class F) (ds : List (Class F)) (v i : ℕ) → rising c ds ≡ true → (nth c ds i).foot ≤ v → Upto v ds i → class_in c ds v ≡ nth c ds i
+  sits c [] v i r l h = unfold class_in in refl
   sits c (d ∷ ds) v zero r l h = under d ds v h c
   sits c (d ∷ ds) v (suc i) r l h =
       let p = rises c d ds r in
       onto d ds v (omega (arith, nth-rises d ds i p.1)) c ∙ sits d ds v i p.1 l h
 
 pub listed : (s : Scale ℕ) (v i : ℕ) → rising s.lowest s.above ≡ true → v ≤ 99999 → (nth s.lowest s.above i).foot ≤ v
-    → Upto v s.above i → figure.Is (nth s.lowest s.above i).figure ≡ metresFigure s v
+    → Upto v s.above i → figure.Is (nth s.lowest s.above i).figure ≡ metres_figure s v
 listed s v i r t l h = class-is s v t (sits s.lowest s.above v i r l h) refl
 
 -- x is none of the n numbers from `from` on, the last of them named last
@@ -61,8 +61,8 @@ module _ (from : ℕ) where
   outside (suc n) x s l = rw add-suc (omega (arith, outside n x s.0 l, s.1))
 
   -- such a figure has no reading where the figures of all classes are among those numbers
-  pub unread : (n x : ℕ) (cs : List (Class ℕ)) → between from n cs ≡ true → Spared from n x → readIn eqb cs x ≡ None
-  unfolding readIn
+  pub unread : (n x : ℕ) (cs : List (Class ℕ)) → between from n cs ≡ true → Spared from n x → read_in eqb cs x ≡ None
+  unfolding read_in
   unread n x [] b s = refl
   unread n x (c ∷ cs) b s =
       let p = (and-eq-true_iff (leb from c.figure) (ltb c.figure (from + n) && between from n cs)).0 b in

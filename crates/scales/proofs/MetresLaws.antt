@@ -5,7 +5,7 @@ use mathlib.Core.Bool.{true, false, false≢true}
 use lib.Dec.{eqb}
 use borrow.Author.Tests.{eqb-true, eq-eqb}
 use Rattle.scales.specs.Scale.{run, rising, unlike, distinct}
-use Rattle.scales.specs.Metres.{land, sea, base, visibility, runway, cloud, sameRange}
+use Rattle.scales.specs.Metres.{land, sea, base, visibility, runway, cloud, same_range}
 use Rattle.scales.specs.declared.kinds.Range.{Range}
 use Rattle.scales.specs.declared.kinds.Range.TheVariants.{Below, Exact, Above}
 use Rattle.scales.proofs.Laws.{Decides, Lawful, lawful}
@@ -13,11 +13,11 @@ use Rattle.scales.proofs.Laws.{Decides, Lawful, lawful}
 pub numbers : Decides eqb
 numbers = record { one = eqb-true; itself = λ a. eq-eqb a a refl }
 
-pub ranges : Decides sameRange
-unfolding sameRange
+pub ranges : Decides same_range
+unfolding same_range
 ranges = record { one = one; itself = itself }
   where
-    one : (a b : Range) → sameRange a b ≡ true → a ≡ b
+    one : (a b : Range) → same_range a b ≡ true → a ≡ b
     one (Below a) (Below b) e = ap Below (eqb-true a b e)
     one (Below a) (Exact b) e = absurd (false≢true e)
     one (Below a) (Above b) e = absurd (false≢true e)
@@ -28,7 +28,7 @@ ranges = record { one = one; itself = itself }
     one (Above a) (Exact b) e = absurd (false≢true e)
     one (Above a) (Above b) e = ap Above (eqb-true a b e)
 
-    itself : (a : Range) → sameRange a a ≡ true
+    itself : (a : Range) → same_range a a ≡ true
     itself (Below a) = eq-eqb a a refl
     itself (Exact a) = eq-eqb a a refl
     itself (Above a) = eq-eqb a a refl
@@ -49,9 +49,9 @@ pub visibility-laws : Lawful eqb visibility
 unfolding visibility run rising unlike distinct
 visibility-laws = lawful eqb visibility numbers refl refl refl
 
-pub runway-laws : Lawful sameRange runway
-unfolding runway run rising unlike distinct sameRange
-runway-laws = lawful sameRange runway ranges refl refl refl
+pub runway-laws : Lawful same_range runway
+unfolding runway run rising unlike distinct same_range
+runway-laws = lawful same_range runway ranges refl refl refl
 
 pub cloud-laws : Lawful eqb cloud
 unfolding cloud run rising unlike distinct

@@ -10,8 +10,8 @@ use native.Mathlib.Omega.{arith}
 use lib.Dec.{leb, eqb}
 use borrow.Author.Tests.{le-leb, lt-leb, leb-true}
 use Rattle.figures.proofs.Impossible.{impossible}
-use Rattle.scales.specs.Scale.{Class, Scale, Read, Foot, None, run, readIn, read_of, figureOf, footOf}
-use Rattle.scales.specs.Metres.{land, sea, base, visibility, runway, cloud, sameRange, answered, metresFigure, metresReading, rangeFigure, rangeReading}
+use Rattle.scales.specs.Scale.{Class, Scale, Read, Foot, None, run, read_in, read_of, figure_of, foot_of}
+use Rattle.scales.specs.Metres.{land, sea, base, visibility, runway, cloud, same_range, answered, metres_figure, metres_reading, range_figure, range_reading}
 use Rattle.scales.specs.declared.kinds.Figure.TheVariants as figure
 use Rattle.scales.specs.declared.kinds.Reading.TheVariants as reading
 use Rattle.scales.specs.declared.kinds.RangeFigure.TheVariants as written
@@ -29,7 +29,7 @@ module _ {F : Type 0} where
   low [] = true
   low (c ∷ cs) = leb c.foot 99999 && low cs
 
-  low_read : (same : F → F → Bool) → Decides same → (cs : List (Class F)) (f : F) (m : ℕ) → low cs ≡ true → readIn same cs f ≡ Foot m → m ≤ 99999
+  low_read : (same : F → F → Bool) → Decides same → (cs : List (Class F)) (f : F) (m : ℕ) → low cs ≡ true → read_in same cs f ≡ Foot m → m ≤ 99999
   low_read same dec [] f m l e = absurd (none_left same dec f m e)
   low_read same dec (c ∷ cs) f m l e =
       let p = (and-eq-true_iff (leb c.foot 99999) (low cs)).0 (unfold low in l) in
@@ -40,33 +40,33 @@ module _ {F : Type 0} where
 
   -- whatever the answers are made with
   module _ {A : Type 0} (is : F → A) (out : A) (one : (a b : F) → is a ≡ is b → a ≡ b) (never : (a : F) → out ≡ is a → ⊥) (same : F → F → Bool) (dec : Decides same) (s : Scale F) (law : Lawful same s) (l : low (s.lowest ∷ s.above) ≡ true) where
-    abbrev figureIs : ℕ → F → Type 0
-    figureIs v f = cond (leb v 99999) (is (figureOf s v)) out ≡ is f
+    abbrev figure_is : ℕ → F → Type 0
+    figure_is v f = cond (leb v 99999) (is (figure_of s v)) out ≡ is f
 
     abbrev reads : F → ℕ → Type 0
     reads f v = answered (read_of same s f) ≡ reading.Is v
 
-    back : (v : ℕ) (f : F) → figureIs v f → reads f (footOf s v)
+    back : (v : ℕ) (f : F) → figure_is v f → reads f (foot_of s v)
     back v f w =
         ⊎_elim
-        (λ h. let j : figureOf s v ≡ f = one (figureOf s v) f (rw (le-leb v 99999 h) at w) in ap answered (rw j at (law.reads-back v)))
+        (λ h. let j : figure_of s v ≡ f = one (figure_of s v) f (rw (le-leb v 99999 h) at w) in ap answered (rw j at (law.reads-back v)))
         (λ h. absurd (never f (rw (lt-leb v 99999 h) at w)))
         (reached v 99999)
 
-    own : (f : F) (v : ℕ) → reads f v → figureIs v f
+    own : (f : F) (v : ℕ) → reads f v → figure_is v f
     own f v e =
         let r : read_of same s f ≡ Foot v = foot-of (read_of same s f) v e in
         rw (le-leb v 99999 (low_read same dec (s.lowest ∷ s.above) f v l r)) (ap is (law.own f v r))
 
-    answers : Rounds figureIs reads (λ f. answered (read_of same s f) ≡ reading.Unused) (footOf s)
+    answers : Rounds figure_is reads (λ f. answered (read_of same s f) ≡ reading.Unused) (foot_of s)
     answers = rounds back own (λ f v u e. impossible (cc))
 
 -- what a scale with whole numbers for figures keeps to
 abbrev pub MetresRounds : Scale ℕ → Type 0
-MetresRounds s = Rounds (λ v f. metresFigure s v ≡ figure.Is f) (λ f v. metresReading s f ≡ reading.Is v) (λ f. metresReading s f ≡ reading.Unused) (footOf s)
+MetresRounds s = Rounds (λ v f. metres_figure s v ≡ figure.Is f) (λ f v. metres_reading s f ≡ reading.Is v) (λ f. metres_reading s f ≡ reading.Unused) (foot_of s)
 
 pub metres : (s : Scale ℕ) → Lawful eqb s → low (s.lowest ∷ s.above) ≡ true → MetresRounds s
-unfolding metresFigure metresReading
+unfolding metres_figure metres_reading
 metres s law l =
     answers figure.Is figure.OutOfRange (λ a b e. (cc)) (λ a e. impossible (cc)) eqb numbers s law l
 
@@ -90,7 +90,7 @@ pub cloud-rounds : MetresRounds cloud
 unfolding cloud run low
 cloud-rounds = metres cloud cloud-laws refl
 
-pub runway-rounds : Rounds (λ v f. rangeFigure v ≡ written.Is f) (λ f v. rangeReading f ≡ reading.Is v) (λ f. rangeReading f ≡ reading.Unused) (footOf runway)
-unfolding rangeFigure rangeReading runway run low
+pub runway-rounds : Rounds (λ v f. range_figure v ≡ written.Is f) (λ f v. range_reading f ≡ reading.Is v) (λ f. range_reading f ≡ reading.Unused) (foot_of runway)
+unfolding range_figure range_reading runway run low
 runway-rounds =
-    answers written.Is written.OutOfRange (λ a b e. (cc)) (λ a e. impossible (cc)) sameRange ranges runway runway-laws refl
+    answers written.Is written.OutOfRange (λ a b e. (cc)) (λ a e. impossible (cc)) same_range ranges runway runway-laws refl

@@ -8,8 +8,8 @@ use native.Mathlib.Omega.{arith}
 use lib.Dec.{leb}
 use borrow.Author.Tests.{le-leb, lt-leb, leb-true}
 use Rattle.figures.proofs.Impossible.{impossible}
-use Rattle.scales.specs.Metres.{metresFigure, metresReading}
-use Rattle.scales.specs.Rounded.{pressureFigure, pressureReading, roundedPressure}
+use Rattle.scales.specs.Metres.{metres_figure, metres_reading}
+use Rattle.scales.specs.Rounded.{pressure_figure, pressure_reading, rounded_pressure}
 use Rattle.scales.specs.declared.kinds.Figure.TheVariants as figure
 use Rattle.scales.specs.declared.kinds.Reading.TheVariants as reading
 use Rattle.scales.proofs.Laws.{reached}
@@ -18,73 +18,73 @@ use Rattle.scales.proofs.Answers.{class-is, too_far, read_is}
 use Rattle.scales.proofs.PressureScale.{pressures, pressures-rounds, pressure-class, pressure-read, pressure-unread}
 
 module _ (v : ℕ) where
-  pub written : v ≤ 99999 → figure.Is (v / 10) ≡ pressureFigure v
-  unfolding pressureFigure
+  pub written : v ≤ 99999 → figure.Is (v / 10) ≡ pressure_figure v
+  unfolding pressure_figure
   written h = rw (le-leb v 99999 h)
 
-  pub none_written : 99999 < v → figure.OutOfRange ≡ pressureFigure v
-  unfolding pressureFigure
+  pub none_written : 99999 < v → figure.OutOfRange ≡ pressure_figure v
+  unfolding pressure_figure
   none_written h = rw (lt-leb v 99999 h)
 
 module _ (f : ℕ) where
-  pub read : f ≤ 9999 → reading.Is (f * 10) ≡ pressureReading f
-  unfolding pressureReading
+  pub read : f ≤ 9999 → reading.Is (f * 10) ≡ pressure_reading f
+  unfolding pressure_reading
   read h = rw (le-leb f 9999 h)
 
-  pub none_read : 9999 < f → reading.Unused ≡ pressureReading f
-  unfolding pressureReading
+  pub none_read : 9999 < f → reading.Unused ≡ pressure_reading f
+  unfolding pressure_reading
   none_read h = rw (lt-leb f 9999 h)
 
-back : (v f : ℕ) → pressureFigure v ≡ figure.Is f → pressureReading f ≡ reading.Is (roundedPressure v)
-unfolding roundedPressure
+back : (v f : ℕ) → pressure_figure v ≡ figure.Is f → pressure_reading f ≡ reading.Is (rounded_pressure v)
+unfolding rounded_pressure
 back v f w =
     ⊎_elim
-    (λ h. let i : figure.Is (v / 10) ≡ pressureFigure v = written v h in let j : v / 10 ≡ f = cc in rw j (sym (read f (omega arith))))
-    (λ h. let i : figure.OutOfRange ≡ pressureFigure v = none_written v h in impossible (cc))
+    (λ h. let i : figure.Is (v / 10) ≡ pressure_figure v = written v h in let j : v / 10 ≡ f = cc in rw j (sym (read f (omega arith))))
+    (λ h. let i : figure.OutOfRange ≡ pressure_figure v = none_written v h in impossible (cc))
     (reached v 99999)
 
 -- ---- Q's answers are those of its scale
-pub figure-is : (v : ℕ) → pressureFigure v ≡ metresFigure pressures v
+pub figure-is : (v : ℕ) → pressure_figure v ≡ metres_figure pressures v
 figure-is v =
     ⊎_elim
     (λ h. sym (written v h) ∙ class-is pressures v h (pressure-class v h) refl)
     (λ h. sym (none_written v h) ∙ too_far pressures v h)
     (reached v 99999)
 
-pub reading-is : (f : ℕ) → pressureReading f ≡ metresReading pressures f
+pub reading-is : (f : ℕ) → pressure_reading f ≡ metres_reading pressures f
 reading-is f =
     ⊎_elim
     (λ h. sym (read f h) ∙ read_is pressures f (pressure-read f h))
     (λ h. sym (none_read f h) ∙ read_is pressures f (pressure-unread f h))
     (reached f 9999)
 
-own : (f v : ℕ) → pressureReading f ≡ reading.Is v → pressureFigure v ≡ figure.Is f
+own : (f v : ℕ) → pressure_reading f ≡ reading.Is v → pressure_figure v ≡ figure.Is f
 own f v e = figure-is v ∙ pressures-rounds.own f v (sym (reading-is f) ∙ e)
 
-pub pressure-rounds : Rounds (λ v f. pressureFigure v ≡ figure.Is f) (λ f v. pressureReading f ≡ reading.Is v) (λ f. pressureReading f ≡ reading.Unused) roundedPressure
+pub pressure-rounds : Rounds (λ v f. pressure_figure v ≡ figure.Is f) (λ f v. pressure_reading f ≡ reading.Is v) (λ f. pressure_reading f ≡ reading.Unused) rounded_pressure
 pressure-rounds = rounds back own (λ f v u e. impossible (cc))
 
 -- a value and its reading: the value less its reading is 0 to 9
 abbrev pub PressureNear : ℕ → ℕ → Type 0
 PressureNear value read = (read ≤ value) × (value ≤ read + 9)
 
-pub pressure-near : (v : ℕ) → PressureNear v (roundedPressure v)
-unfolding roundedPressure
+pub pressure-near : (v : ℕ) → PressureNear v (rounded_pressure v)
+unfolding rounded_pressure
 pressure-near v = (omega arith, omega arith)
 
-pub pressure-order : (v w : ℕ) → v ≤ w → roundedPressure v ≤ roundedPressure w
-unfolding roundedPressure
+pub pressure-order : (v w : ℕ) → v ≤ w → rounded_pressure v ≤ rounded_pressure w
+unfolding rounded_pressure
 pressure-order v w h = omega arith
 
 -- what may be written has four figures, and so may its reading; the reading has the same figure, or none, as the value
-pub pressure-written : (v : ℕ) → leb v 99999 ≡ true → (f : ℕ) × (pressureFigure v ≡ figure.Is f) × (f ≤ 9999)
+pub pressure-written : (v : ℕ) → leb v 99999 ≡ true → (f : ℕ) × (pressure_figure v ≡ figure.Is f) × (f ≤ 9999)
 pressure-written v e = let h = leb-true v 99999 e in (v / 10, sym (written v h), omega arith)
 
-pub pressure-low : (v : ℕ) → leb v 99999 ≡ true → leb (roundedPressure v) 99999 ≡ true
-pressure-low v e = le-leb (roundedPressure v) 99999 (omega (arith, (pressure-near v).0, leb-true v 99999 e))
+pub pressure-low : (v : ℕ) → leb v 99999 ≡ true → leb (rounded_pressure v) 99999 ≡ true
+pressure-low v e = le-leb (rounded_pressure v) 99999 (omega (arith, (pressure-near v).0, leb-true v 99999 e))
 
-pub pressure-again : (v : ℕ) → pressureFigure (roundedPressure v) ≡ pressureFigure v
-unfolding roundedPressure
+pub pressure-again : (v : ℕ) → pressure_figure (rounded_pressure v) ≡ pressure_figure v
+unfolding rounded_pressure
 pressure-again v =
     ⊎_elim
     (λ h. pressure-rounds.again v (v / 10) (sym (written v h)) ∙ written v h)

@@ -8,7 +8,7 @@ use native.Mathlib.Nat.{suc-mul}
 use native.Mathlib.Omega.{arith}
 use lib.Dec.{eqb}
 use borrow.Author.Tests.{lt-ltb, le-leb, ne_eqb}
-use Rattle.scales.specs.Scale.{Class, Scale, Foot, None, run, steps, classIn, readIn, class_of, read_of, rising, unlike, distinct}
+use Rattle.scales.specs.Scale.{Class, Scale, Foot, None, run, steps, class_in, read_in, class_of, read_of, rising, unlike, distinct}
 use Rattle.scales.specs.Metres.{class}
 use Rattle.scales.proofs.Laws.{Lawful, lawful}
 use Rattle.scales.proofs.MetresLaws.{numbers}
@@ -59,7 +59,7 @@ unfolding tens
 tens-class n v h =
     let foot : 0 + v / 10 * 10 ≡ v / 10 * 10 = omega arith in
     let figure : 0 + v / 10 * 1 ≡ v / 10 = omega arith in
-    rw (foot, figure, append-nil (steps n 10 10 1 1)) at (inside plain 10 1 n 0 0 [] v (v / 10) (λ c. unfold classIn in refl) h (omega arith) (omega arith))
+    rw (foot, figure, append-nil (steps n 10 10 1 1)) at (inside plain 10 1 n 0 0 [] v (v / 10) (λ c. unfold class_in in refl) h (omega arith) (omega arith))
 
 tens-read : (n f : ℕ) → f ≤ n → read_of eqb (tens n) f ≡ Foot (f * 10)
 tens-read n f h =
@@ -68,7 +68,7 @@ tens-read n f h =
 
 tens-unread : (n f : ℕ) → n < f → read_of eqb (tens n) f ≡ None
 tens-unread n f h =
-    rw (all n, ← append-nil (steps (suc n) 0 10 0 1)) (skip 10 1 f (suc n) 0 0 [] (λ k l e. omega arith) ∙ unfold readIn in refl)
+    rw (all n, ← append-nil (steps (suc n) 0 10 0 1)) (skip 10 1 f (suc n) 0 0 [] (λ k l e. omega arith) ∙ unfold read_in in refl)
 
 -- ---- Q: "0000-9999"
 unfoldable pub pressures : Scale ℕ

@@ -11,47 +11,47 @@ use Rattle.scales.specs.declared.kinds.Tenths.TheVariants as tenths
 -- "Aerodrome temperature is kept in tenths and written as whole degrees, -99 to 99, halves up (a record may hold -99.5 to 99.4)"
 
 -- what may be written
-abbrev pub degreesFit : ℤ → Bool
-degreesFit t = le_z (negsuc 994) t && le_z t (pos 994)
+abbrev pub degrees_fit : ℤ → Bool
+degrees_fit t = le_z (negsuc 994) t && le_z t (pos 994)
 
 -- the nearest whole degree, halves up: five tenths more, divided by ten and rounded down
-unfoldable pub wholeDegrees : ℤ → ℤ
-wholeDegrees t = shr_z (t +ℤ pos 5) 10
+unfoldable pub whole_degrees : ℤ → ℤ
+whole_degrees t = shr_z (t +ℤ pos 5) 10
 
 -- Document 02, No. 2: "M now follows the observed value: -0.5 to -0.1 is written M00, which is read as -0.3. Class 00 holds 0.0 to 0.4."
 
 -- the reading of M00 in tenths
-abbrev pub minusZero : ℤ
-minusZero = negsuc 2
+abbrev pub minus_zero : ℤ
+minus_zero = negsuc 2
 
 -- below zero, and 0 in whole degrees: -0.5 to -0.1
-unfoldable pub isMinusZero : ℤ → Bool
-isMinusZero t = negative t && eqb (nat_abs (wholeDegrees t)) 0
+unfoldable pub is_minus_zero : ℤ → Bool
+is_minus_zero t = negative t && eqb (nat_abs (whole_degrees t)) 0
 
 -- the reading of a value's class, in tenths
-unfoldable pub roundedDegrees : ℤ → ℤ
-roundedDegrees t = cond (isMinusZero t) minusZero (wholeDegrees t *ℤ pos 10)
+unfoldable pub rounded_degrees : ℤ → ℤ
+rounded_degrees t = cond (is_minus_zero t) minus_zero (whole_degrees t *ℤ pos 10)
 
 -- "M now follows the observed value"
-unfoldable pub degreesOf : ℤ → Degrees
-degreesOf t = cond (degreesFit t) (degrees.Is (negative t) (nat_abs (wholeDegrees t))) degrees.OutOfRange
+unfoldable pub degrees_of : ℤ → Degrees
+degrees_of t = cond (degrees_fit t) (degrees.Is (negative t) (nat_abs (whole_degrees t))) degrees.OutOfRange
 
 -- "M00 is no longer 5"
-unfoldable pub degreesReading : Bool → ℕ → Tenths
-degreesReading minus whole =
-    cond (ltb 99 whole) tenths.Unused (tenths.Is (cond (minus && eqb whole 0) minusZero (with_sign minus (whole * 10))))
+unfoldable pub degrees_reading : Bool → ℕ → Tenths
+degrees_reading minus whole =
+    cond (ltb 99 whole) tenths.Unused (tenths.Is (cond (minus && eqb whole 0) minus_zero (with_sign minus (whole * 10))))
 
 -- "Value less reading, in tenths: -5 to 4"; "The distance for M00 is -2 to 2 tenths"; 0 to 4 for class 00. How far below a reading its class goes, and how
 -- far above.
-unfoldable pub farBelow : ℤ → ℕ
-farBelow (negsuc n) = cond (eqb n 2) 2 5
-farBelow (pos n) = cond (eqb n 0) 0 5
+unfoldable pub far_below : ℤ → ℕ
+far_below (negsuc n) = cond (eqb n 2) 2 5
+far_below (pos n) = cond (eqb n 0) 0 5
 
-unfoldable pub farAbove : ℤ → ℕ
-farAbove (negsuc n) = cond (eqb n 2) 2 4
-farAbove (pos n) = 4
+unfoldable pub far_above : ℤ → ℕ
+far_above (negsuc n) = cond (eqb n 2) 2 4
+far_above (pos n) = 4
 
 -- "1sTTT, 2sTTT tenths of a degree, s 0 or 1; s 1 with 000 is 5": a sign's figure and three figures
-unfoldable pub signedReading : ℕ → ℕ → Tenths
-signedReading s ttt =
+unfoldable pub signed_reading : ℕ → ℕ → Tenths
+signed_reading s ttt =
     cond (ltb 1 s || ltb 999 ttt || (eqb s 1 && eqb ttt 0)) tenths.Unused (tenths.Is (with_sign (eqb s 1) ttt))

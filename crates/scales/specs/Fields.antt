@@ -8,11 +8,11 @@ use Rattle.scales.specs.declared.kinds.Figure.TheVariants as figure
 use Rattle.scales.specs.declared.kinds.TwoFigures.{TwoFigures}
 use Rattle.scales.specs.declared.kinds.TwoFigures.TheVariants as two
 
-abbrev pub fieldBy : Figure → Field
-fieldBy (figure.Is f) = field.Number f
-fieldBy figure.OutOfRange = field.Other
+abbrev pub field_by : Figure → Field
+field_by (figure.Is f) = field.Number f
+field_by figure.OutOfRange = field.Other
 
 -- the bytes of two figures; where there are none, no text
-abbrev pub twoText : TwoFigures → List ℕ
-twoText (two.Are t u) = t ∷ u ∷ []
-twoText two.OutOfRange = []
+abbrev pub two_text : TwoFigures → List ℕ
+two_text (two.Are t u) = t ∷ u ∷ []
+two_text two.OutOfRange = []

@@ -1,7 +1,7 @@
 -- "The scales and how far off": the six scales in metres. "Classes; read as the foot." "Numbers in metres unless said; 0 to 99,999 may be written."
 -- Assumes nothing: these are definitions.
 use Rattle.std.specs.Prelude.{ℕ, Bool, false, cond, [], ◌∷◌, ◌++◌, leb, eqb}
-use Rattle.scales.specs.Scale.{Class, Scale, Read, Foot, None, run, steps, figureOf, read_of}
+use Rattle.scales.specs.Scale.{Class, Scale, Read, Foot, None, run, steps, figure_of, read_of}
 use Rattle.scales.specs.declared.kinds.Figure.{Figure}
 use Rattle.scales.specs.declared.kinds.Figure.TheVariants as figure
 use Rattle.scales.specs.declared.kinds.Reading.{Reading}
@@ -66,30 +66,30 @@ cloud =
     }
 
 -- two runway ranges are written alike
-unfoldable pub sameRange : Range → Range → Bool
-sameRange (Below a) (Below b) = eqb a b
-sameRange (Below a) (Exact b) = false
-sameRange (Below a) (Above b) = false
-sameRange (Exact a) (Below b) = false
-sameRange (Exact a) (Exact b) = eqb a b
-sameRange (Exact a) (Above b) = false
-sameRange (Above a) (Below b) = false
-sameRange (Above a) (Exact b) = false
-sameRange (Above a) (Above b) = eqb a b
+unfoldable pub same_range : Range → Range → Bool
+same_range (Below a) (Below b) = eqb a b
+same_range (Below a) (Exact b) = false
+same_range (Below a) (Above b) = false
+same_range (Exact a) (Below b) = false
+same_range (Exact a) (Exact b) = eqb a b
+same_range (Exact a) (Above b) = false
+same_range (Above a) (Below b) = false
+same_range (Above a) (Exact b) = false
+same_range (Above a) (Above b) = eqb a b
 
 -- The answers of the code: "0 to 99,999 may be written"; a figure that no class has is "not in the table".
 abbrev pub answered : Read → Reading
 answered (Foot m) = reading.Is m
 answered None = reading.Unused
 
-unfoldable pub metresFigure : Scale ℕ → ℕ → Figure
-metresFigure s v = cond (leb v 99999) (figure.Is (figureOf s v)) figure.OutOfRange
+unfoldable pub metres_figure : Scale ℕ → ℕ → Figure
+metres_figure s v = cond (leb v 99999) (figure.Is (figure_of s v)) figure.OutOfRange
 
-unfoldable pub metresReading : Scale ℕ → ℕ → Reading
-metresReading s f = answered (read_of eqb s f)
+unfoldable pub metres_reading : Scale ℕ → ℕ → Reading
+metres_reading s f = answered (read_of eqb s f)
 
-unfoldable pub rangeFigure : ℕ → RangeFigure
-rangeFigure v = cond (leb v 99999) (written.Is (figureOf runway v)) written.OutOfRange
+unfoldable pub range_figure : ℕ → RangeFigure
+range_figure v = cond (leb v 99999) (written.Is (figure_of runway v)) written.OutOfRange
 
-unfoldable pub rangeReading : Range → Reading
-rangeReading f = answered (read_of sameRange runway f)
+unfoldable pub range_reading : Range → Reading
+range_reading f = answered (read_of same_range runway f)

@@ -11,63 +11,63 @@ use Rattle.scales.specs.declared.kinds.RainReading.{RainReading}
 use Rattle.scales.specs.declared.kinds.RainReading.TheVariants as amount
 
 -- "Q is rounded down to a whole hPa, 0000-9999": a value in tenths of hPa
-unfoldable pub pressureFigure : ℕ → Figure
-pressureFigure v = cond (leb v 99999) (figure.Is (v / 10)) figure.OutOfRange
+unfoldable pub pressure_figure : ℕ → Figure
+pressure_figure v = cond (leb v 99999) (figure.Is (v / 10)) figure.OutOfRange
 
-unfoldable pub pressureReading : ℕ → Reading
-pressureReading f = cond (leb f 9999) (reading.Is (f * 10)) reading.Unused
+unfoldable pub pressure_reading : ℕ → Reading
+pressure_reading f = cond (leb f 9999) (reading.Is (f * 10)) reading.Unused
 
 -- the reading of a value: what its figure is read as
-unfoldable pub roundedPressure : ℕ → ℕ
-roundedPressure v = v / 10 * 10
+unfoldable pub rounded_pressure : ℕ → ℕ
+rounded_pressure v = v / 10 * 10
 
 -- "rain is trace or 0.1 to 9,999.9 mm, from 1.0 mm written to the nearest mm, halves up"; "989 (from 988.5 mm) is open and is read 989.0"
-abbrev pub rainFits : Rain → Bool
-rainFits rain.Trace = true
-rainFits (rain.Tenths t) = leb 1 t && leb t 99999
+abbrev pub rain_fits : Rain → Bool
+rain_fits rain.Trace = true
+rain_fits (rain.Tenths t) = leb 1 t && leb t 99999
 
 -- "6RRRt: 001-988 mm, 989 that or more, 990 trace, 991-999 0.1-0.9 mm; 000 is 5."
-unfoldable pub rainFigure : Rain → Figure
-rainFigure rain.Trace = figure.Is 990
-rainFigure (rain.Tenths t) =
+unfoldable pub rain_figure : Rain → Figure
+rain_figure rain.Trace = figure.Is 990
+rain_figure (rain.Tenths t) =
     cond (eqb t 0 || ltb 99999 t) figure.OutOfRange
     (cond (ltb t 10) (figure.Is (990 + t)) (cond (ltb t 9885) (figure.Is ((t + 5) / 10)) (figure.Is 989)))
 
-unfoldable pub rainReading : ℕ → RainReading
-rainReading f =
+unfoldable pub rain_reading : ℕ → RainReading
+rain_reading f =
     cond (eqb f 0 || ltb 999 f) amount.Unused
     (cond (leb f 989) (amount.Is (rain.Tenths (f * 10))) (cond (eqb f 990) (amount.Is rain.Trace) (amount.Is (rain.Tenths (f - 990)))))
 
 -- the reading of an amount: "from 1.0 mm written to the nearest mm, halves up", 989.0 from 988.5 mm on
-unfoldable pub roundedRain : Rain → Rain
-roundedRain rain.Trace = rain.Trace
-roundedRain (rain.Tenths t) = cond (ltb t 10) (rain.Tenths t) (cond (ltb t 9885) (rain.Tenths ((t + 5) / 10 * 10)) (rain.Tenths 9890))
+unfoldable pub rounded_rain : Rain → Rain
+rounded_rain rain.Trace = rain.Trace
+rounded_rain (rain.Tenths t) = cond (ltb t 10) (rain.Tenths t) (cond (ltb t 9885) (rain.Tenths ((t + 5) / 10 * 10)) (rain.Tenths 9890))
 
 -- "Trace is least."
-unfoldable pub rainRank : Rain → ℕ
-rainRank rain.Trace = 0
-rainRank (rain.Tenths t) = t
+unfoldable pub rain_rank : Rain → ℕ
+rain_rank rain.Trace = 0
+rain_rank (rain.Tenths t) = t
 
 -- "A record's direction is calm, variable, missing or 0-359; the last rounds to tens, halves up, 0 written as 36 or 360 and read as 0"
 -- the figure is in tens of degrees, 1 to 36
-unfoldable pub directionFigure : ℕ → Figure
-directionFigure d =
+unfoldable pub direction_figure : ℕ → Figure
+direction_figure d =
     cond (ltb 359 d) figure.OutOfRange (cond (ltb d 5) (figure.Is 36) (figure.Is ((d + 5) / 10)))
 
-unfoldable pub directionReading : ℕ → Reading
-directionReading f = cond (eqb f 0 || ltb 36 f) reading.Unused (reading.Is (f * 10 % 360))
+unfoldable pub direction_reading : ℕ → Reading
+direction_reading f = cond (eqb f 0 || ltb 36 f) reading.Unused (reading.Is (f * 10 % 360))
 
 -- the reading of a direction
-unfoldable pub roundedDirection : ℕ → ℕ
-roundedDirection d = (d + 5) / 10 * 10 % 360
+unfoldable pub rounded_direction : ℕ → ℕ
+rounded_direction d = (d + 5) / 10 * 10 % 360
 
 -- the same in three figures, a zero after the tens: "ddd 010-360 by tens"; 000 where a direction is out of range
-abbrev pub withZero : Figure → ℕ
-withZero (figure.Is f) = f * 10
-withZero figure.OutOfRange = 0
+abbrev pub with_zero : Figure → ℕ
+with_zero (figure.Is f) = f * 10
+with_zero figure.OutOfRange = 0
 
-abbrev pub dddFigure : ℕ → ℕ
-dddFigure d = withZero (directionFigure d)
+abbrev pub ddd_figure : ℕ → ℕ
+ddd_figure d = with_zero (direction_figure d)
 
-abbrev pub dddReading : ℕ → Reading
-dddReading f = cond (eqb (f % 10) 0) (directionReading (f / 10)) reading.Unused
+abbrev pub ddd_reading : ℕ → Reading
+ddd_reading f = cond (eqb (f % 10) 0) (direction_reading (f / 10)) reading.Unused

@@ -35,40 +35,40 @@ pub record Scale (F : Type 0) : Type 0 where
 
 module _ {F : Type 0} where
   -- the last class whose foot is not above v, where c's is not
-  unfoldable pub classIn : Class F → List (Class F) → ℕ → Class F
-  classIn c [] v = c
-  classIn c (d ∷ ds) v = cond (leb d.foot v) (classIn d ds v) c
+  unfoldable pub class_in : Class F → List (Class F) → ℕ → Class F
+  class_in c [] v = c
+  class_in c (d ∷ ds) v = cond (leb d.foot v) (class_in d ds v) c
 
   -- the length of that class
-  unfoldable pub lengthIn : Class F → List (Class F) → ℕ → Length
-  lengthIn c [] v = Open
-  lengthIn c (d ∷ ds) v = cond (leb d.foot v) (lengthIn d ds v) (Of (d.foot - c.foot))
+  unfoldable pub length_in : Class F → List (Class F) → ℕ → Length
+  length_in c [] v = Open
+  length_in c (d ∷ ds) v = cond (leb d.foot v) (length_in d ds v) (Of (d.foot - c.foot))
 
   -- the last class of all, which is open above
-  unfoldable pub lastIn : Class F → List (Class F) → Class F
-  lastIn c [] = c
-  lastIn c (d ∷ ds) = lastIn d ds
+  unfoldable pub last_in : Class F → List (Class F) → Class F
+  last_in c [] = c
+  last_in c (d ∷ ds) = last_in d ds
 
   -- the reading of the first class that has the figure
-  unfoldable pub readIn : (F → F → Bool) → List (Class F) → F → Read
-  readIn same [] f = None
-  readIn same (c ∷ cs) f = cond (same c.figure f) (Foot c.foot) (readIn same cs f)
+  unfoldable pub read_in : (F → F → Bool) → List (Class F) → F → Read
+  read_in same [] f = None
+  read_in same (c ∷ cs) f = cond (same c.figure f) (Foot c.foot) (read_in same cs f)
 
   -- the class of a value, its length, its figure and its reading; the reading of a figure
   abbrev pub class_of : Scale F → ℕ → Class F
-  class_of s v = classIn s.lowest s.above v
+  class_of s v = class_in s.lowest s.above v
 
   abbrev pub length_of : Scale F → ℕ → Length
-  length_of s v = lengthIn s.lowest s.above v
+  length_of s v = length_in s.lowest s.above v
 
-  abbrev pub figureOf : Scale F → ℕ → F
-  figureOf s v = (class_of s v).figure
+  abbrev pub figure_of : Scale F → ℕ → F
+  figure_of s v = (class_of s v).figure
 
-  abbrev pub footOf : Scale F → ℕ → ℕ
-  footOf s v = (class_of s v).foot
+  abbrev pub foot_of : Scale F → ℕ → ℕ
+  foot_of s v = (class_of s v).foot
 
   abbrev pub read_of : (F → F → Bool) → Scale F → F → Read
-  read_of same s f = readIn same (s.lowest ∷ s.above) f
+  read_of same s f = read_in same (s.lowest ∷ s.above) f
 
   -- what a list of classes has to be: the feet rise, and no two classes have one figure
   unfoldable pub rising : Class F → List (Class F) → Bool

@@ -1,7 +1,7 @@
 // Temperatures: tenths of a degree as whole degrees, halves up, with the sign of the value; and signed tenths, which are exact.
 ghost use Rattle.std.specs.Prelude.{◌≡◌, ◌≤◌};
 ghost use Rattle.figures.specs.Signed.{with_sign};
-ghost use Rattle.scales.specs.Degrees.{degreesOf, degreesReading, signedReading};
+ghost use Rattle.scales.specs.Degrees.{degrees_of, degrees_reading, signed_reading};
 
 use crate::kinds::{Degrees, Tenths};
 use figures::kinds::Signed;
@@ -9,7 +9,7 @@ use figures::signed;
 
 // -99.5 to 99.4 degrees. Below zero a half goes up, towards zero, and the minus stays where that gives 0: -0.4 is M00.
 pub fn degrees_figure(tenths: i32) -> Degrees
-    ensures { result ≡ degreesOf tenths }
+    ensures { result ≡ degrees_of tenths }
 {
     let m = signed::magnitude(tenths);
     if signed::is_negative(tenths) {
@@ -44,7 +44,7 @@ fn tenths_of(minus: bool, m: u32) -> Tenths
 
 // M00 is read as the middle of its class, -0.3.
 pub fn degrees_reading(minus: bool, whole: u32) -> Tenths
-    ensures { result ≡ degreesReading minus whole }
+    ensures { result ≡ degrees_reading minus whole }
 {
     if 99 < whole {
         Tenths::Unused
@@ -57,7 +57,7 @@ pub fn degrees_reading(minus: bool, whole: u32) -> Tenths
 
 // The sign's figure is 0 or 1, and 1 with 000 has no reading.
 pub fn signed_reading(sign: u32, figures: u32) -> Tenths
-    ensures { result ≡ signedReading sign figures }
+    ensures { result ≡ signed_reading sign figures }
 {
     if 999 < figures {
         Tenths::Unused

@@ -1,12 +1,12 @@
 // Table 1079: how deep a deposit is on a runway, in millimetres, 0 to 99,999. Its figure 99, a runway that is closed, is no depth.
 ghost use Rattle.std.specs.Prelude.{◌≡◌};
-ghost use Rattle.scales.specs.Metres.{metresFigure, metresReading};
+ghost use Rattle.scales.specs.Metres.{metres_figure, metres_reading};
 ghost use Rattle.scales.specs.Depth.{depth};
 
 use crate::kinds::{Figure, Reading};
 
 pub fn depth_figure(millimetres: u32) -> Figure
-    ensures { result ≡ metresFigure depth millimetres }
+    ensures { result ≡ metres_figure depth millimetres }
 {
     if millimetres < 90 {
         Figure::Is(millimetres)
@@ -22,7 +22,7 @@ pub fn depth_figure(millimetres: u32) -> Figure
 }
 
 pub fn depth_reading(figure: u32) -> Reading
-    ensures { result ≡ metresReading depth figure }
+    ensures { result ≡ metres_reading depth figure }
 {
     if figure <= 90 {
         Reading::Is(figure)

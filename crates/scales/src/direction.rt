@@ -2,9 +2,9 @@
 // The figure of a direction, and its two figures as a text, are worked out by comparison and subtraction alone: a station logger whose processor
 // has no divide instruction calls them. `tests/no_divide` holds their machine code to it.
 ghost use Rattle.std.specs.Prelude.{◌≡◌, ◌+◌, ◌*◌, ◌/◌, ◌%◌, ◌<◌};
-ghost use Rattle.figures.specs.Figures.{fieldText};
-ghost use Rattle.scales.specs.Fields.{fieldBy, twoText};
-ghost use Rattle.scales.specs.Rounded.{directionFigure, directionReading};
+ghost use Rattle.figures.specs.Figures.{field_text};
+ghost use Rattle.scales.specs.Fields.{field_by, two_text};
+ghost use Rattle.scales.specs.Rounded.{direction_figure, direction_reading};
 
 use crate::kinds::{Figure, Reading, TwoFigures};
 
@@ -49,7 +49,7 @@ fn tens_of(number: u32) -> Tens
 }
 
 pub fn direction_figure(degrees: u32) -> Figure
-    ensures { result ≡ directionFigure degrees }
+    ensures { result ≡ direction_figure degrees }
 {
     if 359 < degrees {
         Figure::OutOfRange
@@ -70,7 +70,7 @@ fn figure_byte(figure: u32) -> u8
 
 // dd, the text of a direction: the two bytes that a SYNOP has for it. In a METAR a zero follows them.
 pub fn direction_figures(degrees: u32) -> TwoFigures
-    ensures { twoText result ≡ fieldText 2 (fieldBy (directionFigure degrees)) }
+    ensures { two_text result ≡ field_text 2 (field_by (direction_figure degrees)) }
 {
     let f = direction_figure(degrees);
     match f {
@@ -86,7 +86,7 @@ pub fn direction_figures(degrees: u32) -> TwoFigures
 }
 
 pub fn direction_reading(tens: u32) -> Reading
-    ensures { result ≡ directionReading tens }
+    ensures { result ≡ direction_reading tens }
 {
     if tens == 0 {
         Reading::Unused

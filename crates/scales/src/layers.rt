@@ -1,13 +1,13 @@
 // Table 1677: how high a layer's base is in section 3, in metres, 0 to 99,999: by steps, 00 to 89, or by bands, 90 to 99, whose feet are those of 1600 h.
 ghost use Rattle.std.specs.Prelude.{◌≡◌};
-ghost use Rattle.scales.specs.Metres.{metresFigure, metresReading};
-ghost use Rattle.scales.specs.Layers.{layerSteps, layerBands};
+ghost use Rattle.scales.specs.Metres.{metres_figure, metres_reading};
+ghost use Rattle.scales.specs.Layers.{layer_steps, layer_bands};
 
 use crate::kinds::{Figure, Reading};
 use crate::metres::{base_figure, base_reading};
 
 pub fn steps_figure(metres: u32) -> Figure
-    ensures { result ≡ metresFigure layerSteps metres }
+    ensures { result ≡ metres_figure layer_steps metres }
 {
     if metres < 1500 {
         Figure::Is(metres / 30)
@@ -25,7 +25,7 @@ pub fn steps_figure(metres: u32) -> Figure
 }
 
 pub fn steps_reading(figure: u32) -> Reading
-    ensures { result ≡ metresReading layerSteps figure }
+    ensures { result ≡ metres_reading layer_steps figure }
 {
     if figure <= 50 {
         Reading::Is(figure * 30)
@@ -43,7 +43,7 @@ pub fn steps_reading(figure: u32) -> Reading
 }
 
 pub fn bands_figure(metres: u32) -> Figure
-    ensures { result ≡ metresFigure layerBands metres }
+    ensures { result ≡ metres_figure layer_bands metres }
 {
     let base = base_figure(metres);
     match base {
@@ -53,7 +53,7 @@ pub fn bands_figure(metres: u32) -> Figure
 }
 
 pub fn bands_reading(figure: u32) -> Reading
-    ensures { result ≡ metresReading layerBands figure }
+    ensures { result ≡ metres_reading layer_bands figure }
 {
     if figure < 90 {
         Reading::Unused

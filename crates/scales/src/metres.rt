@@ -1,7 +1,7 @@
 // The six scales in metres, 0 to 99,999, by arithmetic: table 4377 over land and at sea, 1600 h, VVVV, the runway visual range and table 1690.
 ghost use Rattle.std.specs.Prelude.{◌≡◌, cond, ◌%◌, ◌<◌, eqb};
 ghost use Rattle.scales.specs.Scale.{Foot, None};
-ghost use Rattle.scales.specs.Metres.{land, sea, base, visibility, cloud, answered, metresFigure, metresReading, rangeFigure, rangeReading};
+ghost use Rattle.scales.specs.Metres.{land, sea, base, visibility, cloud, answered, metres_figure, metres_reading, range_figure, range_reading};
 
 use crate::kinds::{Figure, Range, RangeFigure, Reading};
 
@@ -20,7 +20,7 @@ fn multiple(figure: u32, apart: u32) -> Reading
 // ---- 4377 over land
 
 pub fn land_figure(metres: u32) -> Figure
-    ensures { result ≡ metresFigure land metres }
+    ensures { result ≡ metres_figure land metres }
 {
     if metres < 5000 {
         Figure::Is(metres / 100)
@@ -38,7 +38,7 @@ pub fn land_figure(metres: u32) -> Figure
 }
 
 pub fn land_reading(figure: u32) -> Reading
-    ensures { result ≡ metresReading land figure }
+    ensures { result ≡ metres_reading land figure }
 {
     if figure <= 50 {
         Reading::Is(figure * 100)
@@ -58,7 +58,7 @@ pub fn land_reading(figure: u32) -> Reading
 // ---- 4377 at sea
 
 pub fn sea_figure(metres: u32) -> Figure
-    ensures { result ≡ metresFigure sea metres }
+    ensures { result ≡ metres_figure sea metres }
 {
     if metres < 50 {
         Figure::Is(90)
@@ -86,7 +86,7 @@ pub fn sea_figure(metres: u32) -> Figure
 }
 
 pub fn sea_reading(figure: u32) -> Reading
-    ensures { result ≡ metresReading sea figure }
+    ensures { result ≡ metres_reading sea figure }
 {
     match figure {
         90 => Reading::Is(0),
@@ -106,7 +106,7 @@ pub fn sea_reading(figure: u32) -> Reading
 // ---- 1600 h
 
 pub fn base_figure(metres: u32) -> Figure
-    ensures { result ≡ metresFigure base metres }
+    ensures { result ≡ metres_figure base metres }
 {
     if metres < 50 {
         Figure::Is(0)
@@ -134,7 +134,7 @@ pub fn base_figure(metres: u32) -> Figure
 }
 
 pub fn base_reading(figure: u32) -> Reading
-    ensures { result ≡ metresReading base figure }
+    ensures { result ≡ metres_reading base figure }
 {
     match figure {
         0 => Reading::Is(0),
@@ -154,7 +154,7 @@ pub fn base_reading(figure: u32) -> Reading
 // ---- VVVV
 
 pub fn visibility_figure(metres: u32) -> Figure
-    ensures { result ≡ metresFigure visibility metres }
+    ensures { result ≡ metres_figure visibility metres }
 {
     if metres < 800 {
         Figure::Is(metres / 50 * 50)
@@ -170,7 +170,7 @@ pub fn visibility_figure(metres: u32) -> Figure
 }
 
 pub fn visibility_reading(figure: u32) -> Reading
-    ensures { result ≡ metresReading visibility figure }
+    ensures { result ≡ metres_reading visibility figure }
 {
     if figure < 800 {
         multiple(figure, 50)
@@ -188,7 +188,7 @@ pub fn visibility_reading(figure: u32) -> Reading
 // ---- the runway visual range
 
 pub fn runway_figure(metres: u32) -> RangeFigure
-    ensures { result ≡ rangeFigure metres }
+    ensures { result ≡ range_figure metres }
 {
     if metres < 50 {
         RangeFigure::Is(Range::Below(50))
@@ -206,7 +206,7 @@ pub fn runway_figure(metres: u32) -> RangeFigure
 }
 
 fn exact_reading(figure: u32) -> Reading
-    ensures { result ≡ rangeReading (Range.Exact figure) }
+    ensures { result ≡ range_reading (Range.Exact figure) }
 {
     if figure < 50 {
         Reading::Unused
@@ -222,7 +222,7 @@ fn exact_reading(figure: u32) -> Reading
 }
 
 pub fn runway_reading(range: Range) -> Reading
-    ensures { result ≡ rangeReading range }
+    ensures { result ≡ range_reading range }
 {
     match range {
         Range::Below(figure) => {
@@ -246,7 +246,7 @@ pub fn runway_reading(range: Range) -> Reading
 // ---- 1690
 
 pub fn cloud_figure(metres: u32) -> Figure
-    ensures { result ≡ metresFigure cloud metres }
+    ensures { result ≡ metres_figure cloud metres }
 {
     if metres < 3000 {
         Figure::Is(metres / 30)
@@ -262,7 +262,7 @@ pub fn cloud_figure(metres: u32) -> Figure
 }
 
 pub fn cloud_reading(figure: u32) -> Reading
-    ensures { result ≡ metresReading cloud figure }
+    ensures { result ≡ metres_reading cloud figure }
 {
     if figure <= 100 {
         Reading::Is(figure * 30)

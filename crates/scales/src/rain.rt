@@ -1,11 +1,11 @@
 // Rain: a trace, tenths below a millimetre, whole millimetres from there on.
 ghost use Rattle.std.specs.Prelude.{◌≡◌};
-ghost use Rattle.scales.specs.Rounded.{rainFigure, rainReading};
+ghost use Rattle.scales.specs.Rounded.{rain_figure, rain_reading};
 
 use crate::kinds::{Figure, Rain, RainReading};
 
 pub fn rain_figure(rain: Rain) -> Figure
-    ensures { result ≡ rainFigure rain }
+    ensures { result ≡ rain_figure rain }
 {
     match rain {
         Rain::Trace => Figure::Is(990),
@@ -26,7 +26,7 @@ pub fn rain_figure(rain: Rain) -> Figure
 }
 
 pub fn rain_reading(figure: u32) -> RainReading
-    ensures { result ≡ rainReading figure }
+    ensures { result ≡ rain_reading figure }
 {
     if figure == 0 {
         RainReading::Unused

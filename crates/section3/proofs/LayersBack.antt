@@ -16,7 +16,7 @@ use Rattle.figures.specs.Figures.{every}
 use Rattle.text.specs.declared.kinds.Judged.TheVariants as judged
 use Rattle.text.specs.Judge.{judge, and_then}
 use Rattle.text.proofs.Judging.{fine, and-then}
-use Rattle.shapes.specs.Pattern.{low, high, hasPattern, hasAny}
+use Rattle.shapes.specs.Pattern.{low, high, has_pattern, has_any}
 use Rattle.shapes.proofs.Patterns.{both}
 use Rattle.places.specs.Engine.{Group, Good, Place}
 use Rattle.places.proofs.ReadBack.{All, Shaped, one-pattern, fill}
@@ -25,31 +25,31 @@ use Rattle.places.proofs.Kept.{Kept, keep-each}
 use Rattle.record.specs.declared.surface.CloudLayer.{CloudLayer}
 use Rattle.record.specs.declared.surface.CloudLayers.{CloudLayers}
 use Rattle.record.specs.declared.surface.Section3.{Section3}
-use Rattle.record.specs.Blank.{blankLayer, blankLayers}
-use Rattle.record.specs.SilentSurface.{isBlankLayer}
+use Rattle.record.specs.Blank.{blank_layer, blank_layers}
+use Rattle.record.specs.SilentSurface.{is_blank_layer}
 use Rattle.record.specs.Arrays.{Each}
-use Rattle.record.specs.Set.{setLayers}
+use Rattle.record.specs.Set.{set_layers}
 use Rattle.record.proofs.SurfaceBlanks.{layer-blank}
 use Rattle.record.proofs.Counted.{Listed, listed_of, taken, dropped}
-use Rattle.synop_groups.specs.Shows.{showLayer}
-use Rattle.synop_groups.specs.Judge.{layerFits}
-use Rattle.synop_groups.specs.Classes.{classLayer}
+use Rattle.synop_groups.specs.Shows.{show_layer}
+use Rattle.synop_groups.specs.Judge.{layer_fits}
+use Rattle.synop_groups.specs.Classes.{class_layer}
 use Rattle.synop_groups.proofs.RoundTripLayer.{layer-shaped, layer-back, layer-told, layer-again, layer-classed}
-use Rattle.section3.specs.Row.{rises, layerAt, withTold, showLayers, classLayers, placeFor, row}
-use Rattle.section3.specs.Write.{judgeEach, judgeLayers}
+use Rattle.section3.specs.Row.{rises, layer_at, with_told, show_layers, class_layers, place_for, row}
+use Rattle.section3.specs.Write.{judge_each, judge_layers}
 use Rattle.section3.proofs.Feet.{rises-classed}
 
 -- ---- what is judged fine
 
 abbrev Fits : CloudLayer → Type 0
-Fits l = layerFits l ≡ true
+Fits l = layer_fits l ≡ true
 
 -- each of them is in range
-each_fits : (before ls : List CloudLayer) → judgeEach before ls ≡ judged.Fine → Each Fits ls
+each_fits : (before ls : List CloudLayer) → judge_each before ls ≡ judged.Fine → Each Fits ls
 each_fits before [] e = tt
 each_fits before (l ∷ ls) e =
-    let j = and-then (judge (layerFits l) (rises before l)) _ e in
-    ((fine (layerFits l) (rises before l) j.0).0, each_fits (before ++ (l ∷ [])) ls j.1)
+    let j = and-then (judge (layer_fits l) (rises before l)) _ e in
+    ((fine (layer_fits l) (rises before l) j.0).0, each_fits (before ++ (l ∷ [])) ls j.1)
 
 abbrev Any : CloudLayer → Type 0
 Any l = Unit {0}
@@ -60,14 +60,14 @@ any (l ∷ ls) = (tt, any ls)
 
 -- At most four count, judged one after the other, and past them all are blank.
 pub record Counted (ls : CloudLayers) : Type 0 where
-  pub listed : Listed Fits isBlankLayer blankLayer 4 ls.count ls.items
-  pub each : judgeEach [] (take ls.count ls.items) ≡ judged.Fine
+  pub listed : Listed Fits is_blank_layer blank_layer 4 ls.count ls.items
+  pub each : judge_each [] (take ls.count ls.items) ≡ judged.Fine
 
-pub layers-fit : (ls : CloudLayers) → length ls.items ≡ 4 → judgeLayers ls ≡ judged.Fine → Counted ls
-unfolding judgeLayers
+pub layers-fit : (ls : CloudLayers) → length ls.items ≡ 4 → judge_layers ls ≡ judged.Fine → Counted ls
+unfolding judge_layers
 layers-fit ls four e =
-    let j = and-then (judge (leb ls.count 4 && every isBlankLayer (drop ls.count ls.items)) true) _ e in
-    let s = both (leb ls.count 4) (every isBlankLayer (drop ls.count ls.items)) (fine _ true j.0).0 in
+    let j = and-then (judge (leb ls.count 4 && every is_blank_layer (drop ls.count ls.items)) true) _ e in
+    let s = both (leb ls.count 4) (every is_blank_layer (drop ls.count ls.items)) (fine _ true j.0).0 in
     record {
       listed = listed_of (λ l a h. layer-blank l h) four (any ls.items) (leb-true ls.count 4 s.0) (each_fits [] (take ls.count ls.items) j.1) s.1;
       each = j.1;
@@ -76,36 +76,36 @@ layers-fit ls four e =
 -- ---- what is written
 
 abbrev Right : Group → Type 0
-Right g = (hasPattern g (bytes "8####") ≡ true) × (hasAny (bytes "8####" ∷ []) g ≡ true)
+Right g = (has_pattern g (bytes "8####") ≡ true) × (has_any (bytes "8####" ∷ []) g ≡ true)
 
-shown-each : (ls : List CloudLayer) → Each Fits ls → All Right (map showLayer ls)
+shown-each : (ls : List CloudLayer) → Each Fits ls → All Right (map show_layer ls)
 shown-each [] a = tt
-shown-each (l ∷ ls) a = let h = layer-shaped l a.0 in ((h, one-pattern (bytes "8####") (showLayer l) h), shown-each ls a.1)
+shown-each (l ∷ ls) a = let h = layer-shaped l a.0 in ((h, one-pattern (bytes "8####") (show_layer l) h), shown-each ls a.1)
 
 module _ (ls : CloudLayers) (c : Counted ls) where
-  pub layers-shaped : All Right (showLayers ls)
-  unfolding showLayers
+  pub layers-shaped : All Right (show_layers ls)
+  unfolding show_layers
   layers-shaped = shown-each (take ls.count ls.items) c.listed.each
 
-  many : length (showLayers ls) ≡ ls.count
-  unfolding showLayers
-  many = length-map (take ls.count ls.items) showLayer ∙ c.listed.many
+  many : length (show_layers ls) ≡ ls.count
+  unfolding show_layers
+  many = length-map (take ls.count ls.items) show_layer ∙ c.listed.many
 
-  pub layers-sized : All (Sized 5) (showLayers ls)
+  pub layers-sized : All (Sized 5) (show_layers ls)
   unfolding low high
-  layers-sized = sized-each (λ g. hasPattern g (bytes "8####") ≡ true) 5 (bytes "8####" ∷ []) (showLayers ls) refl layers-shaped
+  layers-sized = sized-each (λ g. has_pattern g (bytes "8####") ≡ true) 5 (bytes "8####" ∷ []) (show_layers ls) refl layers-shaped
 
   -- at most four groups of five bytes
-  pub layers-sizes : Sizes 24 (showLayers ls)
-  layers-sizes = sizes-more (omega (arith, many, c.listed.few)) (sizes-all 5 (showLayers ls) layers-sized)
+  pub layers-sizes : Sizes 24 (show_layers ls)
+  layers-sizes = sizes-more (omega (arith, many, c.listed.few)) (sizes-all 5 (show_layers ls) layers-sized)
 
 -- ---- read back one after the other
 
-map_snoc : (ls : List CloudLayer) (l : CloudLayer) → map classLayer (ls ++ (l ∷ [])) ≡ map classLayer ls ++ (classLayer l ∷ [])
+map_snoc : (ls : List CloudLayer) (l : CloudLayer) → map class_layer (ls ++ (l ∷ [])) ≡ map class_layer ls ++ (class_layer l ∷ [])
 map_snoc [] l = refl
-map_snoc (k ∷ ls) l = ap (λ (xs : List CloudLayer). classLayer k ∷ xs) (map_snoc ls l)
+map_snoc (k ∷ ls) l = ap (λ (xs : List CloudLayer). class_layer k ∷ xs) (map_snoc ls l)
 
-blanks : (n : ℕ) → n ≤ 4 → drop n (replicate 4 blankLayer) ≡ replicate (4 - n) blankLayer
+blanks : (n : ℕ) → n ≤ 4 → drop n (replicate 4 blank_layer) ≡ replicate (4 - n) blank_layer
 blanks zero h = refl
 blanks (suc zero) h = refl
 blanks (suc (suc zero)) h = refl
@@ -113,71 +113,71 @@ blanks (suc (suc (suc zero))) h = refl
 blanks (suc (suc (suc (suc zero)))) h = refl
 blanks (suc (suc (suc (suc (suc n))))) h = absurd (omega arith)
 
-abbrev layersPlace : Place Section3
-layersPlace = placeFor "8####" (bytes "8####" ∷ []) 2048 (λ g s. layerAt s.layers g) (λ s. showLayers s.layers) (λ s acc. setLayers (classLayers s.layers) acc)
+abbrev layers_place : Place Section3
+layers_place = place_for "8####" (bytes "8####" ∷ []) 2048 (λ g s. layer_at s.layers g) (λ s. show_layers s.layers) (λ s acc. set_layers (class_layers s.layers) acc)
 
 module _ (s : Section3) where
   abbrev holding : List CloudLayer → ℕ → Section3
-  holding items count = setLayers (record { items = items; count = count }) s
+  holding items count = set_layers (record { items = items; count = count }) s
 
   -- the layers before are read as their classes, and so is the next
-  read_one : (before : List CloudLayer) (l x : CloudLayer) (rest : List CloudLayer) (k : ℕ) → length before < 4 → layerFits l ≡ true → rises before l ≡ true
-      → layersPlace.read k (showLayer l) (holding (map classLayer before ++ (x ∷ rest)) (length before))
-      ≡ Good (holding (map classLayer before ++ (classLayer l ∷ rest)) (length before + 1))
-  unfolding layerAt
+  read_one : (before : List CloudLayer) (l x : CloudLayer) (rest : List CloudLayer) (k : ℕ) → length before < 4 → layer_fits l ≡ true → rises before l ≡ true
+      → layers_place.read k (show_layer l) (holding (map class_layer before ++ (x ∷ rest)) (length before))
+      ≡ Good (holding (map class_layer before ++ (class_layer l ∷ rest)) (length before + 1))
+  unfolding layer_at
   read_one before l x rest k room fits up =
-      let n : length (map classLayer before) ≡ length before = length-map before classLayer in
-      let stood : take (length before) (map classLayer before ++ (x ∷ rest)) ≡ map classLayer before = take_at (map classLayer before) (x ∷ rest) (length before) n in
-      rw (layer-told l fits, lt-leb 4 (length before) room, layer-back l fits, stood, rises-classed before l, up, lt-ltb (length before) 4 room, set_at (map classLayer before) x rest (classLayer l) (length before) n)
+      let n : length (map class_layer before) ≡ length before = length-map before class_layer in
+      let stood : take (length before) (map class_layer before ++ (x ∷ rest)) ≡ map class_layer before = take_at (map class_layer before) (x ∷ rest) (length before) n in
+      rw (layer-told l fits, lt-leb 4 (length before) room, layer-back l fits, stood, rises-classed before l, up, lt-ltb (length before) 4 room, set_at (map class_layer before) x rest (class_layer l) (length before) n)
 
-  fill-each : (ws before : List CloudLayer) (k rest : ℕ) → judgeEach before ws ≡ judged.Fine → length before + (length ws + rest) ≡ 4
-      → fill layersPlace k (map showLayer ws) (holding (map classLayer before ++ replicate (length ws + rest) blankLayer) (length before))
-      ≡ Good (holding (map classLayer before ++ (map classLayer ws ++ replicate rest blankLayer)) (length before + length ws))
+  fill-each : (ws before : List CloudLayer) (k rest : ℕ) → judge_each before ws ≡ judged.Fine → length before + (length ws + rest) ≡ 4
+      → fill layers_place k (map show_layer ws) (holding (map class_layer before ++ replicate (length ws + rest) blank_layer) (length before))
+      ≡ Good (holding (map class_layer before ++ (map class_layer ws ++ replicate rest blank_layer)) (length before + length ws))
   fill-each [] before k rest e sum = rw (add-zero (length before), zero-add rest)
   fill-each (w ∷ ws) before k rest e sum =
-      let j = and-then (judge (layerFits w) (rises before w)) (judgeEach (before ++ (w ∷ [])) ws) e in
-      let f = fine (layerFits w) (rises before w) j.0 in
+      let j = and-then (judge (layer_fits w) (rises before w)) (judge_each (before ++ (w ∷ [])) ws) e in
+      let f = fine (layer_fits w) (rises before w) j.0 in
       let next : length (before ++ (w ∷ [])) ≡ length before + 1 = simp length-append (omega arith) in
-      let all : map classLayer (before ++ (w ∷ [])) ≡ map classLayer before ++ (classLayer w ∷ []) = map_snoc before w in
+      let all : map class_layer (before ++ (w ∷ [])) ≡ map class_layer before ++ (class_layer w ∷ []) = map_snoc before w in
       let count : length before + 1 + length ws ≡ length before + suc (length ws) = omega arith in
-      rw (suc-add (length ws) rest, read_one before w blankLayer (replicate (length ws + rest) blankLayer) k (omega arith) f.0 f.1)
+      rw (suc-add (length ws) rest, read_one before w blank_layer (replicate (length ws + rest) blank_layer) k (omega arith) f.0 f.1)
       (rw count at (simp append_assoc at (rw (all, next) at (fill-each ws (before ++ (w ∷ [])) (k + 1) rest j.1 (omega (arith, next))))))
 
   -- THE LAYERS ARE READ BACK AS THEIR CLASSES, into blank slots.
   module _ (ls : CloudLayers) (c : Counted ls) where
-    filled : fill layersPlace 0 (showLayers ls) (holding (replicate 4 blankLayer) 0) ≡ Good (setLayers (classLayers ls) s)
-    unfolding showLayers
+    filled : fill layers_place 0 (show_layers ls) (holding (replicate 4 blank_layer) 0) ≡ Good (set_layers (class_layers ls) s)
+    unfolding show_layers
     filled =
         let n = ls.count in
         let l = c.listed in
-        let past : replicate (4 - n) blankLayer ≡ drop n ls.items = sym (blanks n l.few) ∙ l.rest in
+        let past : replicate (4 - n) blank_layer ≡ drop n ls.items = sym (blanks n l.few) ∙ l.rest in
         let sum : n + (4 - n) ≡ 4 = omega (arith, l.few) in
         rw (← past) (rw (l.many, sum, zero-add n) at (fill-each (take n ls.items) [] 0 (4 - n) c.each (omega (arith, l.many, l.few))))
 
-pub kept-layers : (s acc : Section3) → Counted s.layers → Kept layersPlace 5 s (setLayers blankLayers acc)
+pub kept-layers : (s acc : Section3) → Counted s.layers → Kept layers_place 5 s (set_layers blank_layers acc)
 kept-layers s acc c =
     keep-each refl (layers-shaped s.layers c) (layers-sized s.layers c) (omega (arith, many s.layers c, c.listed.few)) (filled acc s.layers c)
 
 -- ---- the classes are written alike, and judged fine
 
-again-each : (ls : List CloudLayer) → Each Fits ls → map showLayer (map classLayer ls) ≡ map showLayer ls
+again-each : (ls : List CloudLayer) → Each Fits ls → map show_layer (map class_layer ls) ≡ map show_layer ls
 again-each [] a = refl
 again-each (l ∷ ls) a = rw (layer-again l a.0, again-each ls a.1)
 
-classed-each : (before ls : List CloudLayer) → judgeEach before ls ≡ judged.Fine → judgeEach (map classLayer before) (map classLayer ls) ≡ judged.Fine
+classed-each : (before ls : List CloudLayer) → judge_each before ls ≡ judged.Fine → judge_each (map class_layer before) (map class_layer ls) ≡ judged.Fine
 classed-each before [] e = refl
 classed-each before (l ∷ ls) e =
-    let j = and-then (judge (layerFits l) (rises before l)) (judgeEach (before ++ (l ∷ [])) ls) e in
-    let f = fine (layerFits l) (rises before l) j.0 in
+    let j = and-then (judge (layer_fits l) (rises before l)) (judge_each (before ++ (l ∷ [])) ls) e in
+    let f = fine (layer_fits l) (rises before l) j.0 in
     rw (layer-classed l f.0, rises-classed before l, f.1) (rw (map_snoc before l) at (classed-each (before ++ (l ∷ [])) ls j.1))
 
 module _ (ls : CloudLayers) (c : Counted ls) where
-  pub layers-again : showLayers (classLayers ls) ≡ showLayers ls
-  unfolding showLayers
-  layers-again = rw (taken classLayer ls.count ls.items c.listed.many) (again-each (take ls.count ls.items) c.listed.each)
+  pub layers-again : show_layers (class_layers ls) ≡ show_layers ls
+  unfolding show_layers
+  layers-again = rw (taken class_layer ls.count ls.items c.listed.many) (again-each (take ls.count ls.items) c.listed.each)
 
-  pub layers-classed : judgeLayers (classLayers ls) ≡ judged.Fine
-  unfolding judgeLayers
+  pub layers-classed : judge_layers (class_layers ls) ≡ judged.Fine
+  unfolding judge_layers
   layers-classed =
-      rw (taken classLayer ls.count ls.items c.listed.many, dropped classLayer ls.count ls.items c.listed.many, le-leb ls.count 4 c.listed.few, c.listed.past)
+      rw (taken class_layer ls.count ls.items c.listed.many, dropped class_layer ls.count ls.items c.listed.many, le-leb ls.count 4 c.listed.few, c.listed.past)
       (classed-each [] (take ls.count ls.items) c.each)

@@ -11,38 +11,38 @@ use borrow.Author.Tests.{le-leb, lt-leb}
 use types.Run.{OneOf, miss}
 use denote.Enum.Declared.{tag_of}
 use Rattle.figures.specs.Quote.{bytes}
-use Rattle.shapes.specs.Pattern.{hasPattern}
+use Rattle.shapes.specs.Pattern.{has_pattern}
 use Rattle.text.specs.declared.kinds.Refusal.{Refusal}
 use Rattle.text.specs.declared.kinds.Refusal.TheVariants as refusal
 use Rattle.text.specs.declared.kinds.Verdict.{Verdict}
 use Rattle.text.specs.declared.kinds.Verdict.TheVariants as verdict
-use Rattle.text.specs.Groups.{groupsFrom, part_of}
-use Rattle.text.specs.Text.{tailOf}
+use Rattle.text.specs.Groups.{groups_from, part_of}
+use Rattle.text.specs.Text.{tail_of}
 use Rattle.text.proofs.Groups.{Follows}
 use Rattle.places.specs.declared.kinds.Turn.{Turn}
 use Rattle.places.specs.declared.kinds.Turn.TheVariants as turn
 use Rattle.places.specs.Seek.{owed}
-use Rattle.places.specs.Engine.{Group, Good, Bad, Place, nowhere, placeAt, mustsOf, Outcome}
-use Rattle.places.specs.Answer.{outcomeOf, endVerdict}
-use Rattle.places.specs.Parts.{Further, owes, partFrom}
-use Rattle.places.specs.Turn.{turnAt}
+use Rattle.places.specs.Engine.{Group, Good, Bad, Place, nowhere, place_at, musts_of, Outcome}
+use Rattle.places.specs.Answer.{outcome_of, end_verdict}
+use Rattle.places.specs.Parts.{Further, owes, part_from}
+use Rattle.places.specs.Turn.{turn_at}
 use Rattle.record.specs.declared.surface.CloudLayer.{CloudLayer}
 use Rattle.record.specs.declared.surface.CloudLayers.{CloudLayers}
 use Rattle.record.specs.declared.surface.Section3.{Section3}
 use Rattle.record.specs.declared.surface.Synop.{Synop}
-use Rattle.record.specs.Blank.{blankSection3}
+use Rattle.record.specs.Blank.{blank_section3}
 use Rattle.section3.specs.declared.kinds.Told.{Told}
 use Rattle.section3.specs.declared.kinds.Told.TheVariants as told
 use Rattle.section3.specs.declared.kinds.Section3Read.{Section3Read}
 use Rattle.section3.specs.contracts.kinds.Told as tolds
-use Rattle.synop_groups.specs.Reads.{saidLayer}
-use Rattle.section3.specs.Row.{rises, airBy, toldBy, risen, layerAt, withTold, row, halts, partIn}
-use Rattle.section3.specs.Step.{Says, toldOnto, Opened, Section3Done}
+use Rattle.synop_groups.specs.Reads.{said_layer}
+use Rattle.section3.specs.Row.{rises, air_by, told_by, risen, layer_at, with_told, row, halts, part_in}
+use Rattle.section3.specs.Step.{Says, told_onto, Opened, Section3Done}
 use Rattle.section3.proofs.Going.{reading, reads_over, reads-halt, reads-fault, reads_on, reads-bad}
 use Rattle.section3.proofs.Turns.{row-length, row-endless}
 
 -- nothing is required in section 3
-none-owed : (c k : ℕ) → owed k (drop c (mustsOf row)) ≡ false
+none-owed : (c k : ℕ) → owed k (drop c (musts_of row)) ≡ false
 unfolding row owed
 none-owed zero k = refl
 none-owed (suc zero) k = refl
@@ -61,7 +61,7 @@ says_nothing i g ls past = λ k s is. ap (λ (p : Place Section3). p.read k g s)
 abbrev pub right : List ℕ
 right = 0 ∷ 2 ∷ 3 ∷ 4 ∷ []
 
-added : (x : Told) → OneOf right (tag_of tolds.the_type x) → (s : Section3) → withTold x s ≡ Good (toldOnto x s)
+added : (x : Told) → OneOf right (tag_of tolds.the_type x) → (s : Section3) → with_told x s ≡ Good (told_onto x s)
 added told.Nothing one s = refl
 added (told.Refused f) one s = absurd (miss right 1 tt one)
 added (told.Maximum a) one s = refl
@@ -82,61 +82,61 @@ other ls (told.Minimum a) one = refl
 other ls (told.Layer l) one = absurd (miss unlayered 4 tt one)
 
 module _ (ls : CloudLayers) (g : Group) where
-  pub layer-none : hasPattern g (bytes "8////") ≡ true → told.Nothing ≡ layerAt ls g
-  unfolding layerAt
+  pub layer-none : has_pattern g (bytes "8////") ≡ true → told.Nothing ≡ layer_at ls g
+  unfolding layer_at
   layer-none e = rw e
 
-  module _ (filled : hasPattern g (bytes "8////") ≡ false) where
-    pub layer-fifth : 4 ≤ ls.count → told.Refused refusal.Limit ≡ layerAt ls g
-    unfolding layerAt
+  module _ (filled : has_pattern g (bytes "8////") ≡ false) where
+    pub layer-fifth : 4 ≤ ls.count → told.Refused refusal.Limit ≡ layer_at ls g
+    unfolding layer_at
     layer-fifth h = rw (filled, le-leb 4 ls.count h)
 
-    module _ (few : ls.count < 4) {x : Told} (is : x ≡ toldBy (airBy false) (saidLayer g)) where
-      reads : layerAt ls g ≡ risen ls x
-      unfolding layerAt
+    module _ (few : ls.count < 4) {x : Told} (is : x ≡ told_by (air_by false) (said_layer g)) where
+      reads : layer_at ls g ≡ risen ls x
+      unfolding layer_at
       reads = rw (filled, lt-leb 4 ls.count few, ← is)
 
-      pub layer-follows : (l : CloudLayer) → x ≡ told.Layer l → rises (take ls.count ls.items) l ≡ true → told.Layer l ≡ layerAt ls g
+      pub layer-follows : (l : CloudLayer) → x ≡ told.Layer l → rises (take ls.count ls.items) l ≡ true → told.Layer l ≡ layer_at ls g
       layer-follows l e up = sym (reads ∙ rw (e, up))
 
-      pub layer-falls : (l : CloudLayer) → x ≡ told.Layer l → rises (take ls.count ls.items) l ≡ false → told.Refused refusal.Disagreement ≡ layerAt ls g
+      pub layer-falls : (l : CloudLayer) → x ≡ told.Layer l → rises (take ls.count ls.items) l ≡ false → told.Refused refusal.Disagreement ≡ layer_at ls g
       layer-falls l e down = sym (reads ∙ rw (e, down))
 
-      pub layer-other : OneOf unlayered (tag_of tolds.the_type x) → x ≡ layerAt ls g
+      pub layer-other : OneOf unlayered (tag_of tolds.the_type x) → x ≡ layer_at ls g
       layer-other one = other ls x one ∙ sym reads
 
 -- ---- from group to group
 
 module _ (text : List ℕ) (from c k : ℕ) (s : Section3) (at : ℕ)
-    (inv : (takes : Section3 → Synop) (more : Further Synop Section3 Opened) → reading (partIn takes) more text 0 0 blankSection3 from ≡ reading (partIn takes) more text c k s at) where
+    (inv : (takes : Section3 → Synop) (more : Further Synop Section3 Opened) → reading (part_in takes) more text 0 0 blank_section3 from ≡ reading (part_in takes) more text c k s at) where
   -- what the loop hands over
   hands : {x : Section3Read} {v : Verdict} → x ≡ record { verdict = v; section3 = s }
-      → ((takes : Section3 → Synop) (more : Further Synop Section3 Opened) → reading (partIn takes) more text c k s at ≡ outcomeOf v (takes s)) → Section3Done text from x
+      → ((takes : Section3 → Synop) (more : Further Synop Section3 Opened) → reading (part_in takes) more text c k s at ≡ outcome_of v (takes s)) → Section3Done text from x
   unfolding reading
   hands p q takes more = inv takes more ∙ rw p (q takes more)
 
-  pub done-over : {x : Section3Read} {v : Verdict} → x ≡ record { verdict = v; section3 = s } → v ≡ endVerdict (tailOf text) (length text) false → groupsFrom text at ≡ []
+  pub done-over : {x : Section3Read} {v : Verdict} → x ≡ record { verdict = v; section3 = s } → v ≡ end_verdict (tail_of text) (length text) false → groups_from text at ≡ []
       → Section3Done text from x
   done-over p q none =
       hands p
       (λ takes more.
-      reads_over (partIn takes) more text c k s at none
-      ∙ rw q (ap (λ (b : Bool). outcomeOf (endVerdict (tailOf text) (length text) b) (takes s)) (or-false (owed k (drop c (mustsOf row))) ∙ none-owed c k)))
+      reads_over (part_in takes) more text c k s at none
+      ∙ rw q (ap (λ (b : Bool). outcome_of (end_verdict (tail_of text) (length text) b) (takes s)) (or-false (owed k (drop c (musts_of row))) ∙ none-owed c k)))
 
-  module _ {start end : ℕ} {g : Group} {u : Turn} (follows : Follows text at start end) (cut : g ≡ part_of text start end) (is : u ≡ turnAt row halts c k g) where
+  module _ {start end : ℕ} {g : Group} {u : Turn} (follows : Follows text at start end) (cut : g ≡ part_of text start end) (is : u ≡ turn_at row halts c k g) where
     pub done-halt : {x : Section3Read} → x ≡ record { verdict = verdict.Accepted start; section3 = s } → u ≡ turn.Halt → Section3Done text from x
     done-halt p e =
-        hands p (λ takes more. reads-halt (partIn takes) more text c k s at follows cut is e ∙ rw (none-owed c k))
+        hands p (λ takes more. reads-halt (part_in takes) more text c k s at follows cut is e ∙ rw (none-owed c k))
 
     pub done-fault : {x : Section3Read} {f : Refusal} → x ≡ record { verdict = verdict.Refused f start; section3 = s } → u ≡ turn.Refused f → Section3Done text from x
-    done-fault p e = hands p (λ takes more. reads-fault (partIn takes) more text c k s at follows cut is e)
+    done-fault p e = hands p (λ takes more. reads-fault (part_in takes) more text c k s at follows cut is e)
 
     module _ {i j : ℕ} (e : u ≡ turn.At i j) (y : Told) (says : Says i g s.layers y) where
       pub done-bad : {x : Section3Read} {f : Refusal} → x ≡ record { verdict = verdict.Refused f start; section3 = s } → y ≡ told.Refused f → Section3Done text from x
       done-bad {f = f} p bad =
-          hands p (λ takes more. reads-bad (partIn takes) more text c k s at follows cut is e {f = f} (says j s refl ∙ rw bad))
+          hands p (λ takes more. reads-bad (part_in takes) more text c k s at follows cut is e {f = f} (says j s refl ∙ rw bad))
 
-      pub goes_on : {s' : Section3} → OneOf right (tag_of tolds.the_type y) → s' ≡ toldOnto y s
-          → (takes : Section3 → Synop) (more : Further Synop Section3 Opened) → reading (partIn takes) more text 0 0 blankSection3 from ≡ reading (partIn takes) more text i (j + 1) s' end
+      pub goes_on : {s' : Section3} → OneOf right (tag_of tolds.the_type y) → s' ≡ told_onto y s
+          → (takes : Section3 → Synop) (more : Further Synop Section3 Opened) → reading (part_in takes) more text 0 0 blank_section3 from ≡ reading (part_in takes) more text i (j + 1) s' end
       goes_on one put takes more =
-          inv takes more ∙ reads_on (partIn takes) more text c k s at follows cut is e (says j s refl ∙ rw put (added y one s)) (row-endless i)
+          inv takes more ∙ reads_on (part_in takes) more text c k s at follows cut is e (says j s refl ∙ rw put (added y one s)) (row-endless i)

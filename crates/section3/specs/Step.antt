@@ -3,25 +3,25 @@
 use Rattle.std.specs.Prelude.{ℕ, ◌≡◌, cond, List, length, ltb, eqb}
 use Rattle.figures.specs.Quote.{bytes}
 use Rattle.text.specs.declared.kinds.Refusal.TheVariants as refusal
-use Rattle.text.specs.Groups.{groupsFrom}
-use Rattle.text.specs.Text.{tailOf}
-use Rattle.shapes.specs.Pattern.{hasPattern}
+use Rattle.text.specs.Groups.{groups_from}
+use Rattle.text.specs.Text.{tail_of}
+use Rattle.shapes.specs.Pattern.{has_pattern}
 use Rattle.places.specs.declared.kinds.Turn.{Turn}
 use Rattle.places.specs.declared.kinds.Turn.TheVariants as turn
-use Rattle.places.specs.Engine.{Group, Read, Good, Bad, placeAt}
-use Rattle.places.specs.Answer.{outcomeOf}
-use Rattle.places.specs.Parts.{Further, partFrom}
+use Rattle.places.specs.Engine.{Group, Read, Good, Bad, place_at}
+use Rattle.places.specs.Answer.{outcome_of}
+use Rattle.places.specs.Parts.{Further, part_from}
 use Rattle.record.specs.declared.surface.CloudLayers.{CloudLayers}
 use Rattle.record.specs.declared.surface.Section3.{Section3}
 use Rattle.record.specs.declared.surface.Synop.{Synop}
-use Rattle.record.specs.Blank.{blankSection3}
+use Rattle.record.specs.Blank.{blank_section3}
 use Rattle.section3.specs.declared.kinds.Told.{Told}
 use Rattle.section3.specs.declared.kinds.Section3Read.{Section3Read}
-use Rattle.section3.specs.Row.{withTold, row, partIn}
+use Rattle.section3.specs.Row.{with_told, row, part_in}
 
 -- the place that has the group's shape; 3 where none has
 abbrev pub shape_of : Group → ℕ
-shape_of g = cond (hasPattern g (bytes "1####")) 0 (cond (hasPattern g (bytes "2####")) 1 (cond (hasPattern g (bytes "8####")) 2 3))
+shape_of g = cond (has_pattern g (bytes "1####")) 0 (cond (has_pattern g (bytes "2####")) 1 (cond (has_pattern g (bytes "8####")) 2 3))
 
 -- the turn of a group that has the shape of place s, where k groups stand at place c
 abbrev pub turn_of : ℕ → ℕ → ℕ → Turn
@@ -32,15 +32,15 @@ turn_of c k s =
 
 -- what a group says at a place, as the place adds it to a section with these layers
 abbrev pub Says : ℕ → Group → CloudLayers → Told → Type 0
-Says i g ls x = (k : ℕ) (s : Section3) → s.layers ≡ ls → (placeAt row i).read k g s ≡ withTold x s
+Says i g ls x = (k : ℕ) (s : Section3) → s.layers ≡ ls → (place_at row i).read k g s ≡ with_told x s
 
 -- the section with what a group says; a refusal leaves it as it was
 abbrev pub or_else : Section3 → Read Section3 → Section3
 or_else s (Good x) = x
 or_else s (Bad f) = s
 
-abbrev pub toldOnto : Told → Section3 → Section3
-toldOnto x s = or_else s (withTold x s)
+abbrev pub told_onto : Told → Section3 → Section3
+told_onto x s = or_else s (with_told x s)
 
 -- what opens section 3, 333, says nothing of it
 abbrev pub Opened : Type 0
@@ -49,4 +49,4 @@ Opened = Unit {0}
 -- SECTION 3, from behind 333 on: whatever report takes it in, the verdict with the section that is read.
 abbrev pub Section3Done : List ℕ → ℕ → Section3Read → Type 0
 Section3Done text at x = (takes : Section3 → Synop) (more : Further Synop Section3 Opened)
-    → partFrom (tailOf text) (length text) (partIn takes) more 0 0 blankSection3 (groupsFrom text at) ≡ outcomeOf x.verdict (takes x.section3)
+    → part_from (tail_of text) (length text) (part_in takes) more 0 0 blank_section3 (groups_from text at) ≡ outcome_of x.verdict (takes x.section3)

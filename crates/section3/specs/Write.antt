@@ -9,37 +9,37 @@ use Rattle.places.specs.Engine.{Group, written}
 use Rattle.record.specs.declared.surface.CloudLayer.{CloudLayer}
 use Rattle.record.specs.declared.surface.CloudLayers.{CloudLayers}
 use Rattle.record.specs.declared.surface.Section3.{Section3}
-use Rattle.record.specs.Missing.{noTenths}
-use Rattle.record.specs.SilentSurface.{isBlankLayer}
-use Rattle.synop_groups.specs.Judge.{judgeAir, layerFits}
-use Rattle.synop_row.specs.Row.{section3Word}
-use Rattle.section3.specs.Row.{rises, classLayers, row}
+use Rattle.record.specs.Missing.{no_tenths}
+use Rattle.record.specs.SilentSurface.{is_blank_layer}
+use Rattle.synop_groups.specs.Judge.{judge_air, layer_fits}
+use Rattle.synop_row.specs.Row.{section3_word}
+use Rattle.section3.specs.Row.{rises, class_layers, row}
 
 -- ---- judging: the count and the slots past it, then each layer, 11 before 7; `before` are the layers that were judged
 
-abbrev pub judgeEach : List CloudLayer → List CloudLayer → Judged
-judgeEach before [] = judged.Fine
-judgeEach before (l ∷ ls) = and_then (judge (layerFits l) (rises before l)) (judgeEach (before ++ (l ∷ [])) ls)
+abbrev pub judge_each : List CloudLayer → List CloudLayer → Judged
+judge_each before [] = judged.Fine
+judge_each before (l ∷ ls) = and_then (judge (layer_fits l) (rises before l)) (judge_each (before ++ (l ∷ [])) ls)
 
-unfoldable pub judgeLayers : CloudLayers → Judged
-judgeLayers ls =
-    and_then (judge (leb ls.count 4 && every isBlankLayer (drop ls.count ls.items)) true) (judgeEach [] (take ls.count ls.items))
+unfoldable pub judge_layers : CloudLayers → Judged
+judge_layers ls =
+    and_then (judge (leb ls.count 4 && every is_blank_layer (drop ls.count ls.items)) true) (judge_each [] (take ls.count ls.items))
 
-unfoldable pub judgeSection3 : Section3 → Judged
-judgeSection3 s = and_then (judgeAir s.maximum) (and_then (judgeAir s.minimum) (judgeLayers s.layers))
+unfoldable pub judge_section3 : Section3 → Judged
+judge_section3 s = and_then (judge_air s.maximum) (and_then (judge_air s.minimum) (judge_layers s.layers))
 
 -- ---- the groups: "a 333 with no group reads as absent", and none is written
 
-abbrev pub isSilent : Section3 → Bool
-isSilent s = noTenths s.maximum.temperature && noTenths s.minimum.temperature && eqb s.layers.count 0
+abbrev pub is_silent : Section3 → Bool
+is_silent s = no_tenths s.maximum.temperature && no_tenths s.minimum.temperature && eqb s.layers.count 0
 
-abbrev pub showWord : Section3 → List Group
-showWord s = cond (not (isSilent s)) (section3Word ∷ []) []
+abbrev pub show_word : Section3 → List Group
+show_word s = cond (not (is_silent s)) (section3_word ∷ []) []
 
-unfoldable pub showSection3 : Section3 → List Group
-showSection3 s = showWord s ++ written row s
+unfoldable pub show_section3 : Section3 → List Group
+show_section3 s = show_word s ++ written row s
 
 -- ---- what is read back: each height the reading of its class, all else as it is
 
-abbrev pub classSection3 : Section3 → Section3
-classSection3 s = record { maximum = s.maximum; minimum = s.minimum; layers = classLayers s.layers }
+abbrev pub class_section3 : Section3 → Section3
+class_section3 s = record { maximum = s.maximum; minimum = s.minimum; layers = class_layers s.layers }

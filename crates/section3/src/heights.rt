@@ -1,9 +1,9 @@
 // The heights of layers, as they are written: one after the other they do not fall within one scale.
 ghost use Rattle.std.specs.Prelude.{◌≡◌, take};
-ghost use Rattle.scales.specs.Scale.{footOf};
-ghost use Rattle.scales.specs.Layers.{layerSteps, layerBands};
-ghost use Rattle.synop_groups.specs.Classes.{classHeight};
-ghost use Rattle.section3.specs.Row.{notAbove, rises};
+ghost use Rattle.scales.specs.Scale.{foot_of};
+ghost use Rattle.scales.specs.Layers.{layer_steps, layer_bands};
+ghost use Rattle.synop_groups.specs.Classes.{class_height};
+ghost use Rattle.section3.specs.Row.{not_above, rises};
 
 use record::surface::{BaseHeight, CloudLayer};
 use scales::kinds::{Figure, Reading};
@@ -11,7 +11,7 @@ use scales::layers;
 
 // A height by steps as it is read back; the last class is open above.
 fn steps_foot(metres: u32) -> u32
-    ensures { result ≡ footOf layerSteps metres }
+    ensures { result ≡ foot_of layer_steps metres }
 {
     let Figure::Is(figure) = layers::steps_figure(metres) else {
         return 21001;
@@ -24,7 +24,7 @@ fn steps_foot(metres: u32) -> u32
 
 // The same by bands.
 fn bands_foot(metres: u32) -> u32
-    ensures { result ≡ footOf layerBands metres }
+    ensures { result ≡ foot_of layer_bands metres }
 {
     let Figure::Is(figure) = layers::bands_figure(metres) else {
         return 2500;
@@ -36,7 +36,7 @@ fn bands_foot(metres: u32) -> u32
 }
 
 fn class_height(height: BaseHeight) -> BaseHeight
-    ensures { result ≡ classHeight height }
+    ensures { result ≡ class_height height }
 {
     match height {
         BaseHeight::Missing => BaseHeight::Missing,
@@ -47,7 +47,7 @@ fn class_height(height: BaseHeight) -> BaseHeight
 
 // Of one scale, is the first not above the second?
 fn not_above(first: BaseHeight, second: BaseHeight) -> bool
-    ensures { result ≡ notAbove first second }
+    ensures { result ≡ not_above first second }
 {
     match first {
         BaseHeight::Missing => true,

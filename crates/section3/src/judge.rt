@@ -1,7 +1,7 @@
 // What the writer judges of section 3 before it writes anything: the maximum, the minimum, the layers' count and the slots past it, then each layer, first
 // that it says something and its ranges, refusal 11, and then that its height does not fall, refusal 7.
 ghost use Rattle.std.specs.Prelude.{◌≡◌, [], ◌≤◌, take};
-ghost use Rattle.section3.specs.Write.{judgeEach, judgeLayers, judgeSection3};
+ghost use Rattle.section3.specs.Write.{judge_each, judge_layers, judge_section3};
 
 use crate::heights::may_follow;
 use record::surface::{CloudLayers, Section3};
@@ -12,7 +12,7 @@ use text::kinds::Judged;
 // The first n layers.
 fn judge_each(layers: CloudLayers, n: usize) -> Judged
     requires { n ≤ 4 }
-    ensures { result ≡ judgeEach [] (take n layers.items) }
+    ensures { result ≡ judge_each [] (take n layers.items) }
 {
     let items = layers.items;
     let mut i = 0;
@@ -28,7 +28,7 @@ fn judge_each(layers: CloudLayers, n: usize) -> Judged
 }
 
 fn judge_layers(layers: CloudLayers) -> Judged
-    ensures { result ≡ judgeLayers layers }
+    ensures { result ≡ judge_layers layers }
 {
     let n = layers.count;
     if n <= 4 {
@@ -40,7 +40,7 @@ fn judge_layers(layers: CloudLayers) -> Judged
 }
 
 pub fn judge_section3(s: Section3) -> Judged
-    ensures { result ≡ judgeSection3 s }
+    ensures { result ≡ judge_section3 s }
 {
     let maximum = s.maximum;
     let minimum = s.minimum;

@@ -1,8 +1,8 @@
 // Reading section 3, from behind 333 on, up to a group that stops it or up to the end of the text.
 ghost use Rattle.std.specs.Prelude.{◌≡◌};
-ghost use Rattle.synop_groups.specs.Reads.{saidAir};
-ghost use Rattle.section3.specs.Row.{airBy, toldBy, layerAt, addLayer};
-ghost use Rattle.section3.specs.Step.{Says, toldOnto, Section3Done};
+ghost use Rattle.synop_groups.specs.Reads.{said_air};
+ghost use Rattle.section3.specs.Row.{air_by, told_by, layer_at, add_layer};
+ghost use Rattle.section3.specs.Step.{Says, told_onto, Section3Done};
 
 use crate::heights::may_follow;
 use crate::kinds::{Section3Read, Told};
@@ -18,7 +18,7 @@ use text::kinds::{Cut, Refusal, Verdict};
 
 // What a group says, as section 3 takes it: a temperature is the minimum or the maximum.
 fn told_by(lowest: bool, said: Said) -> Told
-    ensures { result ≡ toldBy (airBy lowest) said }
+    ensures { result ≡ told_by (air_by lowest) said }
 {
     match said {
         Said::Refused(refusal) => Told::Refused(refusal),
@@ -36,7 +36,7 @@ fn told_by(lowest: bool, said: Said) -> Told
 
 // 8NChh after the layers before it. 8//// is no layer.
 fn say_layer(layers: CloudLayers, g: &[u8]) -> Told
-    ensures { result ≡ layerAt layers g.now }
+    ensures { result ≡ layer_at layers g.now }
 {
     if has_pattern(g, b"8////") {
         return Told::Nothing;
@@ -61,7 +61,7 @@ fn say_layer(layers: CloudLayers, g: &[u8]) -> Told
 
 // 2sTTT: "s 0 or 1", so that 29UUU is no humidity here.
 fn read_minimum(group: &[u8]) -> Said
-    ensures { result ≡ saidAir group.now }
+    ensures { result ≡ said_air group.now }
 {
     read::read_air(group)
 }
@@ -80,7 +80,7 @@ fn say_at(place: usize, layers: CloudLayers, g: &[u8]) -> Told
 
 // One more layer; past the fourth there is no room.
 fn add_layer(layers: CloudLayers, layer: CloudLayer) -> CloudLayers
-    ensures { result ≡ addLayer layer layers }
+    ensures { result ≡ add_layer layer layers }
 {
     let count = layers.count;
     if count < 4 {
@@ -97,7 +97,7 @@ fn add_layer(layers: CloudLayers, layer: CloudLayer) -> CloudLayers
 
 // The section with what a group says; a refusal adds nothing.
 fn with_told(told: Told, section3: Section3) -> Section3
-    ensures { result ≡ toldOnto told section3 }
+    ensures { result ≡ told_onto told section3 }
 {
     let mut s = section3;
     match told {

@@ -1,6 +1,6 @@
 // The tests of the row: what stops the reading inside section 3, which of the three shapes a group has, and what its turn is.
 ghost use Rattle.std.specs.Prelude.{◌≡◌};
-ghost use Rattle.places.specs.Turn.{turnAt};
+ghost use Rattle.places.specs.Turn.{turn_at};
 ghost use Rattle.section3.specs.Row.{row, halts};
 ghost use Rattle.section3.specs.Step.{shape_of, turn_of};
 
@@ -51,7 +51,7 @@ fn turn_of(place: usize, count: usize, shape: usize) -> Turn
 
 // The group's turn, where `count` groups stand at `place`. Any group with none of the three shapes stops the reading, and a stop word that has one too.
 pub fn decide(place: usize, count: usize, g: &[u8]) -> Turn
-    ensures { result ≡ turnAt row halts place count g.now }
+    ensures { result ≡ turn_at row halts place count g.now }
 {
     if 3 <= place {
         return Turn::Refused(Refusal::Shape);

@@ -3,8 +3,8 @@
 ghost use Rattle.std.specs.Prelude.{◌≡◌, map, min, take};
 ghost use Rattle.figures.specs.Put.{Put};
 ghost use Rattle.text.specs.Groups.{written};
-ghost use Rattle.synop_groups.specs.Shows.{showLayer};
-ghost use Rattle.section3.specs.Write.{isSilent, showSection3};
+ghost use Rattle.synop_groups.specs.Shows.{show_layer};
+ghost use Rattle.section3.specs.Write.{is_silent, show_section3};
 
 use record::surface::{CloudLayer, Section3};
 use synop_groups_write::write::{put_air, put_layer, put_minimum};
@@ -18,7 +18,7 @@ fn at_most_four(count: usize) -> usize
 
 // The first `count` slots; all where the count is too large.
 fn put_layers(out: &mut [u8], at: usize, items: [CloudLayer; 4], count: usize) -> usize
-    ensures { Put out.old at (written at (map showLayer (take count items))) result out.new }
+    ensures { Put out.old at (written at (map show_layer (take count items))) result out.new }
 {
     let end = at_most_four(count);
     let mut next = at;
@@ -32,7 +32,7 @@ fn put_layers(out: &mut [u8], at: usize, items: [CloudLayer; 4], count: usize) -
 
 // Has the section nothing to say?
 fn is_silent(s: Section3) -> bool
-    ensures { result ≡ isSilent s }
+    ensures { result ≡ is_silent s }
 {
     let maximum = s.maximum;
     let highest = maximum.temperature;
@@ -44,7 +44,7 @@ fn is_silent(s: Section3) -> bool
 }
 
 pub fn put_section3(out: &mut [u8], at: usize, s: Section3) -> usize
-    ensures { Put out.old at (written at (showSection3 s)) result out.new }
+    ensures { Put out.old at (written at (show_section3 s)) result out.new }
 {
     let maximum = s.maximum;
     let minimum = s.minimum;

@@ -10,48 +10,48 @@ use lib.IntN.{ℤ, pos, negsuc, nat_abs}
 use borrow.Author.Tests.{lt-ltb, le-ltb, le-leb, leb-true, eq-eqb, ne_eqb}
 use Rattle.figures.proofs.Impossible.{impossible}
 use Rattle.figures.specs.Signed.{negative}
-use Rattle.scales.specs.Degrees.{degreesFit, roundedDegrees, minusZero}
+use Rattle.scales.specs.Degrees.{degrees_fit, rounded_degrees, minus_zero}
 use Rattle.scales.specs.declared.kinds.Tenths.TheVariants as tenths
 use Rattle.scales.proofs.Laws.{reached}
 use Rattle.scales.proofs.DegreesLaws.{rounded-warm, rounded-cool, rounded-cold, plus-read, minus-read}
-use Rattle.seen_values.specs.Rounded.{spread, noDegrees, ofDegrees, seenCold, seenWarm, seenDegrees, WithinDegrees}
+use Rattle.seen_values.specs.Rounded.{spread, no_degrees, of_degrees, seen_cold, seen_warm, seen_degrees, WithinDegrees}
 use Rattle.seen_values.specs.declared.kinds.DegreesSeen.{DegreesSeen}
 use Rattle.seen_values.proofs.Rounds.{one-or-not}
 
 -- ---- by the magnitude of the reading
 module _ (near : ℕ) (around whole : DegreesSeen) (m : ℕ) where
-  pub at_zero : m ≡ near → around ≡ ofDegrees near around whole m
-  unfolding ofDegrees
+  pub at_zero : m ≡ near → around ≡ of_degrees near around whole m
+  unfolding of_degrees
   at_zero e = rw (eq-eqb m near e)
 
-  pub near-zero : (m ≡ near → ⊥) → m < 10 → noDegrees ≡ ofDegrees near around whole m
-  unfolding ofDegrees
+  pub near-zero : (m ≡ near → ⊥) → m < 10 → no_degrees ≡ of_degrees near around whole m
+  unfolding of_degrees
   near-zero n h = rw (ne_eqb m near n, lt-ltb m 10 h)
 
   module _ (i : near < 10) where
-    pub too_far : 990 < m → noDegrees ≡ ofDegrees near around whole m
-    unfolding ofDegrees
+    pub too_far : 990 < m → no_degrees ≡ of_degrees near around whole m
+    unfolding of_degrees
     too_far h = rw (ne_eqb m near (λ e. omega arith), le-ltb m 10 (omega arith), lt-ltb 990 m h)
 
-    pub whole-degree : 10 ≤ m → m ≤ 990 → m % 10 ≡ 0 → whole ≡ ofDegrees near around whole m
-    unfolding ofDegrees
+    pub whole-degree : 10 ≤ m → m ≤ 990 → m % 10 ≡ 0 → whole ≡ of_degrees near around whole m
+    unfolding of_degrees
     whole-degree l h z = rw (ne_eqb m near (λ e. omega arith), le-ltb m 10 l, le-ltb 990 m h, eq-eqb (m % 10) 0 z)
 
-    pub no-degree : 10 ≤ m → m ≤ 990 → (m % 10 ≡ 0 → ⊥) → noDegrees ≡ ofDegrees near around whole m
-    unfolding ofDegrees
+    pub no-degree : 10 ≤ m → m ≤ 990 → (m % 10 ≡ 0 → ⊥) → no_degrees ≡ of_degrees near around whole m
+    unfolding of_degrees
     no-degree l h n = rw (ne_eqb m near (λ e. omega arith), le-ltb m 10 l, le-ltb 990 m h, ne_eqb (m % 10) 0 n)
 
 -- the magnitude and the sign of t, asked of the same number u
 module _ {t u : ℤ} (same : u ≡ t) {m : ℕ} (size : m ≡ nat_abs u) {b : Bool} (sign : b ≡ negative u) where
-  pub below-zero : b ≡ true → seenCold m ≡ seenDegrees t
-  unfolding seenDegrees
+  pub below-zero : b ≡ true → seen_cold m ≡ seen_degrees t
+  unfolding seen_degrees
   below-zero is =
       let minus : negative t ≡ true = ap negative (sym same) ∙ sym sign ∙ is in
       let whole : m ≡ nat_abs t = size ∙ ap nat_abs same in
       rw (minus, whole)
 
-  pub from_zero : b ≡ false → seenWarm m ≡ seenDegrees t
-  unfolding seenDegrees
+  pub from_zero : b ≡ false → seen_warm m ≡ seen_degrees t
+  unfolding seen_degrees
   from_zero is =
       let plus : negative t ≡ false = ap negative (sym same) ∙ sym sign ∙ is in
       let whole : m ≡ nat_abs t = size ∙ ap nat_abs same in
@@ -71,16 +71,16 @@ cold-ends a b h k = rw (← minus-read 1 (suc a) refl (λ e. omega arith) h, ←
 data Warm (k : ℕ) : DegreesSeen → Type 0 where
   naught : k ≡ 0 → Warm k (ends (pos 0) (pos 4))
   warm : 10 ≤ k → k ≤ 990 → k % 10 ≡ 0 → Warm k (ends (pos (k - 5)) (pos (k + 4)))
-  hot : 990 < k → Warm k noDegrees
-  part : (k % 10 ≡ 0 → ⊥) → Warm k noDegrees
+  hot : 990 < k → Warm k no_degrees
+  part : (k % 10 ≡ 0 → ⊥) → Warm k no_degrees
 
 data Cold (k : ℕ) : DegreesSeen → Type 0 where
   frost : k ≡ 2 → Cold k (ends (negsuc 4) (negsuc 0))
   cold : 9 ≤ k → k ≤ 989 → k % 10 ≡ 9 → Cold k (ends (negsuc (k + 5)) (negsuc (k - 4)))
-  colder : 989 < k → Cold k noDegrees
-  between : (k ≡ 2 → ⊥) → (k % 10 ≡ 9 → ⊥) → Cold k noDegrees
+  colder : 989 < k → Cold k no_degrees
+  between : (k ≡ 2 → ⊥) → (k % 10 ≡ 9 → ⊥) → Cold k no_degrees
 
-warm-is : (k : ℕ) → Warm k (seenWarm k)
+warm-is : (k : ℕ) → Warm k (seen_warm k)
 warm-is k =
     let a = spread 0 0 4 in
     let b = spread 0 (k - 5) (k + 4) in
@@ -101,7 +101,7 @@ warm-is k =
     (one-or-not k 0))
     (reached 10 k)
 
-cold_is : (k : ℕ) → Cold k (seenCold (suc k))
+cold_is : (k : ℕ) → Cold k (seen_cold (suc k))
 cold_is k =
     let a = spread 1 5 1 in
     let b = spread 1 (suc k + 5) (suc k - 4) in
@@ -149,7 +149,7 @@ cold-warm k n _ (cold l g z) (a, b) = false≢true b
 cold-warm k n _ (colder g) (a, b) = a
 cold-warm k n _ (between x y) (a, b) = a
 
-cool-cold : (k n : ℕ) (s : DegreesSeen) → Cold k s → n < 5 → (minusZero ≡ negsuc k) ↔ WithinDegrees s (negsuc n)
+cool-cold : (k n : ℕ) (s : DegreesSeen) → Cold k s → n < 5 → (minus_zero ≡ negsuc k) ↔ WithinDegrees s (negsuc n)
 cool-cold k n _ (frost z) h = (λ e. (le-leb n 4 (omega arith), le-leb 0 n (omega arith)), λ (a, b). ap negsuc (sym z))
 cool-cold k n _ (cold l g z) h =
     (λ e. let f : 2 ≡ k = cc in absurd (omega arith), λ (a, b). absurd (omega (arith, leb-true (k - 4) n b)))
@@ -168,17 +168,17 @@ cold-cold k n _ (between x y) i h = (λ e. let f : (n - 5) / 10 * 10 + 9 ≡ k =
 
 -- Of the tenths that may be written, those that come back as m are those that may have been seen where m is read, and no others: -5 to -1 for M00, 0 to 4
 -- for 00, from -99.5 for M99 and to 99.4 for 99.
-pub degrees-seen : (m v : ℤ) → degreesFit v ≡ true → (roundedDegrees v ≡ m) ↔ WithinDegrees (seenDegrees m) v
-unfolding seenDegrees
-degrees-seen (pos k) (pos n) h = rw (rounded-warm n) (warm-warm k n (seenWarm k) (warm-is k) (leb-true n 994 h))
-degrees-seen (negsuc k) (pos n) h = rw (rounded-warm n) (λ e. impossible (cc), λ w. absurd (cold-warm k n (seenCold (suc k)) (cold_is k) w))
+pub degrees-seen : (m v : ℤ) → degrees_fit v ≡ true → (rounded_degrees v ≡ m) ↔ WithinDegrees (seen_degrees m) v
+unfolding seen_degrees
+degrees-seen (pos k) (pos n) h = rw (rounded-warm n) (warm-warm k n (seen_warm k) (warm-is k) (leb-true n 994 h))
+degrees-seen (negsuc k) (pos n) h = rw (rounded-warm n) (λ e. impossible (cc), λ w. absurd (cold-warm k n (seen_cold (suc k)) (cold_is k) w))
 degrees-seen m (negsuc n) h =
     ⊎_elim (λ l. rw (rounded-cold n l) (below l m)) (λ l. rw (rounded-cool n l) (frozen l m)) (reached 5 n)
   where
-    below : 5 ≤ n → (m : ℤ) → (negsuc ((n - 5) / 10 * 10 + 9) ≡ m) ↔ WithinDegrees (seenDegrees m) (negsuc n)
-    below l (pos k) = (λ e. impossible (cc), λ w. absurd (warm-cold k n (seenWarm k) (warm-is k) w))
-    below l (negsuc k) = cold-cold k n (seenCold (suc k)) (cold_is k) l (leb-true n 994 ((and-eq-true_iff (leb n 994) true).0 h).0)
+    below : 5 ≤ n → (m : ℤ) → (negsuc ((n - 5) / 10 * 10 + 9) ≡ m) ↔ WithinDegrees (seen_degrees m) (negsuc n)
+    below l (pos k) = (λ e. impossible (cc), λ w. absurd (warm-cold k n (seen_warm k) (warm-is k) w))
+    below l (negsuc k) = cold-cold k n (seen_cold (suc k)) (cold_is k) l (leb-true n 994 ((and-eq-true_iff (leb n 994) true).0 h).0)
 
-    frozen : n < 5 → (m : ℤ) → (minusZero ≡ m) ↔ WithinDegrees (seenDegrees m) (negsuc n)
-    frozen l (pos k) = (λ e. impossible (cc), λ w. absurd (warm-cold k n (seenWarm k) (warm-is k) w))
-    frozen l (negsuc k) = cool-cold k n (seenCold (suc k)) (cold_is k) l
+    frozen : n < 5 → (m : ℤ) → (minus_zero ≡ m) ↔ WithinDegrees (seen_degrees m) (negsuc n)
+    frozen l (pos k) = (λ e. impossible (cc), λ w. absurd (warm-cold k n (seen_warm k) (warm-is k) w))
+    frozen l (negsuc k) = cool-cold k n (seen_cold (suc k)) (cold_is k) l

@@ -8,12 +8,12 @@ use Prim.Native.Nat.{ℕ, ◌≤◌}
 use lib.Dec.{eqb}
 use lib.IntN.{ℤ}
 use borrow.Author.Tests.{le-leb}
-use Rattle.scales.specs.Scale.{Scale, figureOf}
-use Rattle.scales.specs.Metres.{metresFigure, metresReading, rangeFigure, rangeReading, land, sea, base, visibility, runway, cloud}
+use Rattle.scales.specs.Scale.{Scale, figure_of}
+use Rattle.scales.specs.Metres.{metres_figure, metres_reading, range_figure, range_reading, land, sea, base, visibility, runway, cloud}
 use Rattle.scales.specs.Depth.{depth}
-use Rattle.scales.specs.Layers.{layerSteps, layerBands}
-use Rattle.scales.specs.Rounded.{pressureFigure, pressureReading, rainFits, rainFigure, rainReading, directionFigure, directionReading}
-use Rattle.scales.specs.Degrees.{degreesFit, degreesOf, degreesReading}
+use Rattle.scales.specs.Layers.{layer_steps, layer_bands}
+use Rattle.scales.specs.Rounded.{pressure_figure, pressure_reading, rain_fits, rain_figure, rain_reading, direction_figure, direction_reading}
+use Rattle.scales.specs.Degrees.{degrees_fit, degrees_of, degrees_reading}
 use Rattle.scales.specs.declared.kinds.Figure.TheVariants as figure
 use Rattle.scales.specs.declared.kinds.Reading.TheVariants as reading
 use Rattle.scales.specs.declared.kinds.Range.{Range}
@@ -33,8 +33,8 @@ use Rattle.scales.proofs.PressureLaws.{pressure-rounds, pressure-written}
 use Rattle.scales.proofs.RainLaws.{rain-rounds, rain-written}
 use Rattle.scales.proofs.DirectionLaws.{direction-rounds, direction-written}
 use Rattle.scales.proofs.DegreesLaws.{Written, degrees-rounds, fit_written}
-use Rattle.seen_values.specs.Seen.{Within, seenOn}
-use Rattle.seen_values.specs.Rounded.{seenPressure, seenRain, WithinRain, seenDirection, WithinArc, seenDegrees, WithinDegrees}
+use Rattle.seen_values.specs.Seen.{Within, seen_on}
+use Rattle.seen_values.specs.Rounded.{seen_pressure, seen_rain, WithinRain, seen_direction, WithinArc, seen_degrees, WithinDegrees}
 use Rattle.seen_values.proofs.Exactly.{seen-exactly}
 use Rattle.seen_values.proofs.Rounds.{pressure-seen, rain-seen, direction-seen}
 use Rattle.seen_values.proofs.DegreesLaws.{degrees-seen}
@@ -52,12 +52,12 @@ module _ {A F : Type 0} {Writes : A → F → Type 0} {Reads : F → A → Type 
 
 -- ---- the six scales in metres, the depth of deposits and the heights of layers
 abbrev pub MetresFigures : Scale ℕ → Type 0
-MetresFigures s = (f m v : ℕ) → metresReading s f ≡ reading.Is m → v ≤ 99999 → (metresFigure s v ≡ figure.Is f) ↔ Within (seenOn s m) v
+MetresFigures s = (f m v : ℕ) → metres_reading s f ≡ reading.Is m → v ≤ 99999 → (metres_figure s v ≡ figure.Is f) ↔ Within (seen_on s m) v
 
 by-scale : (s : Scale ℕ) → Lawful eqb s → MetresRounds s → MetresFigures s
 by-scale s laws rounds f m v r h =
     Iff.trans
-    (written_as rounds (λ v f g a b. (cc)) (λ f a b x y. (cc)) f m v r (figureOf s v) (metres-written s v (le-leb v 99999 h)))
+    (written_as rounds (λ v f g a b. (cc)) (λ f a b x y. (cc)) f m v r (figure_of s v) (metres-written s v (le-leb v 99999 h)))
     (seen-exactly laws m v)
 
 pub land-figures : MetresFigures land
@@ -72,14 +72,14 @@ base-figures = by-scale base base-laws base-rounds
 pub visibility-figures : MetresFigures visibility
 visibility-figures = by-scale visibility visibility-laws visibility-rounds
 
-range-written : (v : ℕ) → v ≤ 99999 → rangeFigure v ≡ written.Is (figureOf runway v)
-unfolding rangeFigure
+range-written : (v : ℕ) → v ≤ 99999 → range_figure v ≡ written.Is (figure_of runway v)
+unfolding range_figure
 range-written v h = rw (le-leb v 99999 h)
 
-pub runway-figures : (f : Range) (m v : ℕ) → rangeReading f ≡ reading.Is m → v ≤ 99999 → (rangeFigure v ≡ written.Is f) ↔ Within (seenOn runway m) v
+pub runway-figures : (f : Range) (m v : ℕ) → range_reading f ≡ reading.Is m → v ≤ 99999 → (range_figure v ≡ written.Is f) ↔ Within (seen_on runway m) v
 runway-figures f m v r h =
     Iff.trans
-    (written_as runway-rounds (λ v f g a b. (cc)) (λ f a b x y. (cc)) f m v r (figureOf runway v) (range-written v h))
+    (written_as runway-rounds (λ v f g a b. (cc)) (λ f a b x y. (cc)) f m v r (figure_of runway v) (range-written v h))
     (seen-exactly runway-laws m v)
 
 pub cloud-figures : MetresFigures cloud
@@ -88,35 +88,35 @@ cloud-figures = by-scale cloud cloud-laws cloud-rounds
 pub depth-figures : MetresFigures depth
 depth-figures = by-scale depth depth-laws depth-rounds
 
-pub steps-figures : MetresFigures layerSteps
-steps-figures = by-scale layerSteps steps-laws steps-rounds
+pub steps-figures : MetresFigures layer_steps
+steps-figures = by-scale layer_steps steps-laws steps-rounds
 
-pub bands-figures : MetresFigures layerBands
-bands-figures = by-scale layerBands bands-laws bands-rounds
+pub bands-figures : MetresFigures layer_bands
+bands-figures = by-scale layer_bands bands-laws bands-rounds
 
 -- ---- Q, rain, direction, aerodrome temperature
-pub pressure-figures : (f m v : ℕ) → pressureReading f ≡ reading.Is m → v ≤ 99999 → (pressureFigure v ≡ figure.Is f) ↔ Within (seenPressure m) v
+pub pressure-figures : (f m v : ℕ) → pressure_reading f ≡ reading.Is m → v ≤ 99999 → (pressure_figure v ≡ figure.Is f) ↔ Within (seen_pressure m) v
 pressure-figures f m v r h =
     let w = pressure-written v (le-leb v 99999 h) in
     Iff.trans (written_as pressure-rounds (λ v f g a b. (cc)) (λ f a b x y. (cc)) f m v r w.0 w.1) (pressure-seen m v h)
 
-pub rain-figures : (f : ℕ) (m v : Rain) → rainReading f ≡ amount.Is m → rainFits v ≡ true → (rainFigure v ≡ figure.Is f) ↔ WithinRain (seenRain m) v
+pub rain-figures : (f : ℕ) (m v : Rain) → rain_reading f ≡ amount.Is m → rain_fits v ≡ true → (rain_figure v ≡ figure.Is f) ↔ WithinRain (seen_rain m) v
 rain-figures f m v r h =
     let w = rain-written v h in
     Iff.trans (written_as rain-rounds (λ v f g a b. (cc)) (λ f a b x y. (cc)) f m v r w.0 w.1) (rain-seen m v h)
 
-pub direction-figures : (f d v : ℕ) → directionReading f ≡ reading.Is d → v ≤ 359 → (directionFigure v ≡ figure.Is f) ↔ WithinArc (seenDirection d) v
+pub direction-figures : (f d v : ℕ) → direction_reading f ≡ reading.Is d → v ≤ 359 → (direction_figure v ≡ figure.Is f) ↔ WithinArc (seen_direction d) v
 direction-figures f d v r h =
     let w = direction-written v h in
     Iff.trans (written_as direction-rounds (λ v f g a b. (cc)) (λ f a b x y. (cc)) f d v r w.0 w.1) (direction-seen d v h)
 
-one-degree : (v : ℤ) (f g : Written) → degreesOf v ≡ degrees.Is f.0 f.1 → degreesOf v ≡ degrees.Is g.0 g.1 → f ≡ g
+one-degree : (v : ℤ) (f g : Written) → degrees_of v ≡ degrees.Is f.0 f.1 → degrees_of v ≡ degrees.Is g.0 g.1 → f ≡ g
 one-degree v f g a b =
     let minus : f.0 ≡ g.0 = cc in
     let whole : f.1 ≡ g.1 = cc in
     ap (λ (s : Bool). (s, f.1)) minus ∙ ap (λ (n : ℕ). (g.0, n)) whole
 
-pub degrees-figures : (f : Written) (m v : ℤ) → degreesReading f.0 f.1 ≡ tenths.Is m → degreesFit v ≡ true → (degreesOf v ≡ degrees.Is f.0 f.1) ↔ WithinDegrees (seenDegrees m) v
+pub degrees-figures : (f : Written) (m v : ℤ) → degrees_reading f.0 f.1 ≡ tenths.Is m → degrees_fit v ≡ true → (degrees_of v ≡ degrees.Is f.0 f.1) ↔ WithinDegrees (seen_degrees m) v
 degrees-figures f m v r h =
     let w = fit_written v h in
     Iff.trans (written_as degrees-rounds one-degree (λ f a b x y. (cc)) f m v r w.0 w.1) (degrees-seen m v h)

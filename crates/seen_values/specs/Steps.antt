@@ -7,16 +7,16 @@ use Rattle.seen_values.specs.declared.kinds.Seen.{Seen}
 use Rattle.seen_values.specs.declared.kinds.Seen.TheVariants as seen
 
 -- a foot is what its own figure is read as
-abbrev pub ifFoot : ℕ → Reading → Seen → Seen
-ifFoot m (reading.Is foot) class = cond (eqb foot m) class seen.Nothing
-ifFoot m reading.Unused class = seen.Nothing
+abbrev pub if_foot : ℕ → Reading → Seen → Seen
+if_foot m (reading.Is foot) class = cond (eqb foot m) class seen.Nothing
+if_foot m reading.Unused class = seen.Nothing
 
 -- the class of a foot, by limits of the feet and how far the classes below each limit go above their feet
-unfoldable pub classBy : List ℕ → List ℕ → ℕ → Seen
-classBy [] spans m = seen.From m
-classBy (l ∷ limits) [] m = seen.From m
-classBy (l ∷ limits) (s ∷ spans) m = cond (ltb m l) (seen.Between m (m + s)) (classBy limits spans m)
+unfoldable pub class_by : List ℕ → List ℕ → ℕ → Seen
+class_by [] spans m = seen.From m
+class_by (l ∷ limits) [] m = seen.From m
+class_by (l ∷ limits) (s ∷ spans) m = cond (ltb m l) (seen.Between m (m + s)) (class_by limits spans m)
 
 -- no sum of two such numbers is too large for the code
-abbrev pub isUpTo99999 : ℕ → Bool
-isUpTo99999 n = leb n 99999
+abbrev pub is_up_to99999 : ℕ → Bool
+is_up_to99999 n = leb n 99999

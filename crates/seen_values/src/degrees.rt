@@ -1,6 +1,6 @@
 // Aerodrome temperature: tenths that are written as one whole degree, five below it to four above; M00 and 00 share the ten tenths around zero.
 ghost use Rattle.std.specs.Prelude.{◌≡◌};
-ghost use Rattle.seen_values.specs.Rounded.{seenDegrees, seenCold, seenWarm, spread, noDegrees};
+ghost use Rattle.seen_values.specs.Rounded.{seen_degrees, seen_cold, seen_warm, spread, no_degrees};
 
 use crate::kinds::DegreesSeen;
 use figures::signed;
@@ -18,7 +18,7 @@ fn spread(sign: u32, least: u32, greatest: u32) -> DegreesSeen
 }
 
 fn nothing() -> DegreesSeen
-    ensures { result ≡ noDegrees }
+    ensures { result ≡ no_degrees }
 {
     DegreesSeen {
         least: Tenths::Unused,
@@ -28,7 +28,7 @@ fn nothing() -> DegreesSeen
 
 // Below zero, by the magnitude of the reading; -0.3 is that of M00.
 fn cold_seen(m: u32) -> DegreesSeen
-    ensures { result ≡ seenCold m }
+    ensures { result ≡ seen_cold m }
 {
     if m == 3 {
         spread(1, 5, 1)
@@ -45,7 +45,7 @@ fn cold_seen(m: u32) -> DegreesSeen
 
 // From zero on.
 fn warm_seen(m: u32) -> DegreesSeen
-    ensures { result ≡ seenWarm m }
+    ensures { result ≡ seen_warm m }
 {
     if m == 0 {
         spread(0, 0, 4)
@@ -61,7 +61,7 @@ fn warm_seen(m: u32) -> DegreesSeen
 }
 
 pub fn degrees_seen(tenths: i32) -> DegreesSeen
-    ensures { result ≡ seenDegrees tenths }
+    ensures { result ≡ seen_degrees tenths }
 {
     let m = signed::magnitude(tenths);
     if signed::is_negative(tenths) {

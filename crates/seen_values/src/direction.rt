@@ -1,11 +1,11 @@
 // Directions: ten degrees round a multiple of ten, on the circle.
 ghost use Rattle.std.specs.Prelude.{◌≡◌};
-ghost use Rattle.seen_values.specs.Rounded.{seenDirection};
+ghost use Rattle.seen_values.specs.Rounded.{seen_direction};
 
 use crate::kinds::Arc;
 
 pub fn direction_seen(degrees: u32) -> Arc
-    ensures { result ≡ seenDirection degrees }
+    ensures { result ≡ seen_direction degrees }
 {
     if 359 < degrees {
         Arc::Nothing

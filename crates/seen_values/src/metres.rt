@@ -3,9 +3,9 @@ ghost use Rattle.std.specs.Prelude.{◌≡◌, true};
 ghost use Rattle.figures.specs.Figures.{every};
 ghost use Rattle.scales.specs.Metres.{land, sea, base, visibility, runway, cloud};
 ghost use Rattle.scales.specs.Depth.{depth};
-ghost use Rattle.scales.specs.Layers.{layerSteps, layerBands};
-ghost use Rattle.seen_values.specs.Seen.{seenOn};
-ghost use Rattle.seen_values.specs.Steps.{ifFoot, classBy, isUpTo99999};
+ghost use Rattle.scales.specs.Layers.{layer_steps, layer_bands};
+ghost use Rattle.seen_values.specs.Seen.{seen_on};
+ghost use Rattle.seen_values.specs.Steps.{if_foot, class_by, is_up_to99999};
 
 use crate::kinds::Seen;
 use scales::kinds::{Figure, RangeFigure, Reading};
@@ -14,9 +14,9 @@ use scales::{depth, layers, metres};
 // The class that begins at a foot: with a foot below one of the limits, and not below those before it, a class goes up to the span above its foot;
 // the class that begins at the last limit is open above.
 fn class_by(foot: u32, limits: &[u32], spans: &[u32]) -> Seen
-    requires limits_value { every isUpTo99999 limits.now ≡ true }
-    requires spans_value { every isUpTo99999 spans.now ≡ true }
-    ensures { result ≡ classBy limits.now spans.now foot }
+    requires limits_value { every is_up_to99999 limits.now ≡ true }
+    requires spans_value { every is_up_to99999 spans.now ≡ true }
+    ensures { result ≡ class_by limits.now spans.now foot }
 {
     let mut i = 0;
     while (i < limits.len()) & (i < spans.len()) {
@@ -33,7 +33,7 @@ fn class_by(foot: u32, limits: &[u32], spans: &[u32]) -> Seen
 
 // A class, where the number is its foot: what its own figure is read as.
 fn if_foot(metres: u32, own: Reading, class: Seen) -> Seen
-    ensures { result ≡ ifFoot metres own class }
+    ensures { result ≡ if_foot metres own class }
 {
     match own {
         Reading::Is(foot) => { if foot == metres { class } else { Seen::Nothing } }
@@ -44,7 +44,7 @@ fn if_foot(metres: u32, own: Reading, class: Seen) -> Seen
 // ---- 4377 over land
 
 pub fn land_seen(metres: u32) -> Seen
-    ensures { result ≡ seenOn land metres }
+    ensures { result ≡ seen_on land metres }
 {
     let class = class_by(metres, &[5000, 30000, 70000, 70001], &[99, 999, 4999, 0]);
     match metres::land_figure(metres) {
@@ -56,7 +56,7 @@ pub fn land_seen(metres: u32) -> Seen
 // ---- 4377 at sea
 
 pub fn sea_seen(metres: u32) -> Seen
-    ensures { result ≡ seenOn sea metres }
+    ensures { result ≡ seen_on sea metres }
 {
     let class = class_by(
         metres,
@@ -72,7 +72,7 @@ pub fn sea_seen(metres: u32) -> Seen
 // ---- 1600 h
 
 pub fn base_seen(metres: u32) -> Seen
-    ensures { result ≡ seenOn base metres }
+    ensures { result ≡ seen_on base metres }
 {
     let class = class_by(
         metres,
@@ -88,7 +88,7 @@ pub fn base_seen(metres: u32) -> Seen
 // ---- VVVV
 
 pub fn visibility_seen(metres: u32) -> Seen
-    ensures { result ≡ seenOn visibility metres }
+    ensures { result ≡ seen_on visibility metres }
 {
     let class = class_by(metres, &[800, 5000, 10000], &[49, 99, 999]);
     match metres::visibility_figure(metres) {
@@ -100,7 +100,7 @@ pub fn visibility_seen(metres: u32) -> Seen
 // ---- the runway visual range
 
 pub fn runway_seen(metres: u32) -> Seen
-    ensures { result ≡ seenOn runway metres }
+    ensures { result ≡ seen_on runway metres }
 {
     let class = class_by(metres, &[50, 400, 800, 2000, 2001], &[49, 24, 49, 99, 0]);
     match metres::runway_figure(metres) {
@@ -112,7 +112,7 @@ pub fn runway_seen(metres: u32) -> Seen
 // ---- 1690
 
 pub fn cloud_seen(metres: u32) -> Seen
-    ensures { result ≡ seenOn cloud metres }
+    ensures { result ≡ seen_on cloud metres }
 {
     let class = class_by(metres, &[3000, 30000], &[29, 299]);
     match metres::cloud_figure(metres) {
@@ -124,7 +124,7 @@ pub fn cloud_seen(metres: u32) -> Seen
 // ---- 1079, in millimetres
 
 pub fn depth_seen(millimetres: u32) -> Seen
-    ensures { result ≡ seenOn depth millimetres }
+    ensures { result ≡ seen_on depth millimetres }
 {
     let class = class_by(millimetres, &[90, 100, 400], &[0, 9, 49]);
     match depth::depth_figure(millimetres) {
@@ -136,7 +136,7 @@ pub fn depth_seen(millimetres: u32) -> Seen
 // ---- 1677, by steps and by bands
 
 pub fn steps_seen(metres: u32) -> Seen
-    ensures { result ≡ seenOn layerSteps metres }
+    ensures { result ≡ seen_on layer_steps metres }
 {
     let class = class_by(
         metres,
@@ -151,7 +151,7 @@ pub fn steps_seen(metres: u32) -> Seen
 
 // The feet are those of 1600 h.
 pub fn bands_seen(metres: u32) -> Seen
-    ensures { result ≡ seenOn layerBands metres }
+    ensures { result ≡ seen_on layer_bands metres }
 {
     base_seen(metres)
 }

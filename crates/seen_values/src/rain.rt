@@ -1,12 +1,12 @@
 // Rain: a trace, exact tenths below 1.0 mm, from there on the values nearest to a whole millimetre.
 ghost use Rattle.std.specs.Prelude.{◌≡◌};
-ghost use Rattle.seen_values.specs.Rounded.{seenTenths, seenRain};
+ghost use Rattle.seen_values.specs.Rounded.{seen_tenths, seen_rain};
 
 use crate::kinds::{RainSeen, Seen};
 use scales::kinds::Rain;
 
 fn tenths_seen(tenths: u32) -> Seen
-    ensures { result ≡ seenTenths tenths }
+    ensures { result ≡ seen_tenths tenths }
 {
     if tenths == 0 {
         Seen::Nothing
@@ -35,7 +35,7 @@ fn tenths_seen(tenths: u32) -> Seen
 }
 
 pub fn rain_seen(rain: Rain) -> RainSeen
-    ensures { result ≡ seenRain rain }
+    ensures { result ≡ seen_rain rain }
 {
     match rain {
         Rain::Trace => RainSeen::Trace,

@@ -7,8 +7,8 @@ use Prim.Native.Nat.{ℕ, zero, suc, ◌<◌}
 use native.Mathlib.Omega.{arith}
 use lib.ListN.{length, drop, get_or}
 use borrow.Author.Tests.{not-true}
-use Rattle.shapes.specs.Pattern.{Pattern, fits, more, apart, hasPattern, hasAny}
-use Rattle.shapes.specs.Shape.{Part, begins, eachBefore, withEach, unled, unledEach}
+use Rattle.shapes.specs.Pattern.{Pattern, fits, more, apart, has_pattern, has_any}
+use Rattle.shapes.specs.Shape.{Part, begins, each_before, with_each, unled, unled_each}
 use Rattle.shapes.proofs.Patterns.{both, or_cases, or_right, apart_fits, starless}
 
 -- each byte of the group fits the pattern's own, and '*' is a character like any other
@@ -18,8 +18,8 @@ exact [] (b ∷ g) = false
 exact (p ∷ ps) [] = false
 exact (p ∷ ps) (b ∷ g) = fits p b && exact ps g
 
-pub exact-pattern : (p : Pattern) (g : List ℕ) → exact p g ≡ true → hasPattern g p ≡ true
-unfolding hasPattern
+pub exact-pattern : (p : Pattern) (g : List ℕ) → exact p g ≡ true → has_pattern g p ≡ true
+unfolding has_pattern
 exact-pattern [] [] h = refl
 exact-pattern [] (b ∷ g) h = absurd (false≢true h)
 exact-pattern (p ∷ ps) [] h = absurd (false≢true h)
@@ -27,8 +27,8 @@ exact-pattern (p ∷ ps) (b ∷ g) h =
     let t = both (fits p b) (exact ps g) h in or_right (more p) _ (rw t.0 (exact-pattern ps g t.1))
 
 -- where there is no '*' it is all the same
-pub exact-is : (p : Pattern) (g : List ℕ) → starless p ≡ true → exact p g ≡ hasPattern g p
-unfolding hasPattern
+pub exact-is : (p : Pattern) (g : List ℕ) → starless p ≡ true → exact p g ≡ has_pattern g p
+unfolding has_pattern
 exact-is [] [] s = refl
 exact-is [] (b ∷ g) s = refl
 exact-is (p ∷ ps) [] s = sym (not-true (more p) (both _ (starless ps) s).0)
@@ -85,53 +85,53 @@ unled-begins (e ∷ es) (x ∷ xs) (b ∷ g) u h =
 
 -- ---- one of several patterns
 
-abbrev pub exactAny : List Pattern → List ℕ → Bool
-exactAny [] g = false
-exactAny (p ∷ ps) g = exact p g || exactAny ps g
+abbrev pub exact_any : List Pattern → List ℕ → Bool
+exact_any [] g = false
+exact_any (p ∷ ps) g = exact p g || exact_any ps g
 
-pub any-pattern : (ps : List Pattern) (g : List ℕ) → exactAny ps g ≡ true → hasAny ps g ≡ true
-unfolding hasAny
+pub any-pattern : (ps : List Pattern) (g : List ℕ) → exact_any ps g ≡ true → has_any ps g ≡ true
+unfolding has_any
 any-pattern [] g h = absurd (false≢true h)
 any-pattern (p ∷ ps) g h =
-    or_cases (exact p g) (exactAny ps g) h
+    or_cases (exact p g) (exact_any ps g) h
     (λ k. rw (exact-pattern p g k))
-    (λ k. or_right (hasPattern g p) (hasAny ps g) (any-pattern ps g k))
+    (λ k. or_right (has_pattern g p) (has_any ps g) (any-pattern ps g k))
 
-pub unled-any : (e : Pattern) (xs : List Pattern) (g : List ℕ) → unledEach e xs ≡ true → exactAny xs g ≡ true → begins e g ≡ false
-unfolding unledEach
+pub unled-any : (e : Pattern) (xs : List Pattern) (g : List ℕ) → unled_each e xs ≡ true → exact_any xs g ≡ true → begins e g ≡ false
+unfolding unled_each
 unled-any e [] g u h = absurd (false≢true h)
 unled-any e (x ∷ xs) g u h =
-    let t = both (unled e x) (unledEach e xs) u in
-    or_cases (exact x g) (exactAny xs g) h (unled-begins e x g t.0) (unled-any e xs g t.1)
+    let t = both (unled e x) (unled_each e xs) u in
+    or_cases (exact x g) (exact_any xs g) h (unled-begins e x g t.0) (unled-any e xs g t.1)
 
-any_left : (ps qs : List Pattern) (g : List ℕ) → exactAny ps g ≡ true → exactAny (ps ++ qs) g ≡ true
+any_left : (ps qs : List Pattern) (g : List ℕ) → exact_any ps g ≡ true → exact_any (ps ++ qs) g ≡ true
 any_left [] qs g h = absurd (false≢true h)
 any_left (p ∷ ps) qs g h =
-    or_cases (exact p g) (exactAny ps g) h (λ k. rw k) (λ k. or_right (exact p g) _ (any_left ps qs g k))
+    or_cases (exact p g) (exact_any ps g) h (λ k. rw k) (λ k. or_right (exact p g) _ (any_left ps qs g k))
 
-any-right : (ps qs : List Pattern) (g : List ℕ) → exactAny qs g ≡ true → exactAny (ps ++ qs) g ≡ true
+any-right : (ps qs : List Pattern) (g : List ℕ) → exact_any qs g ≡ true → exact_any (ps ++ qs) g ≡ true
 any-right [] qs g h = h
 any-right (p ∷ ps) qs g h = or_right (exact p g) _ (any-right ps qs g h)
 
 -- ---- the spellings of a part and what follows it
 
 module _ (a : Pattern) (g y : List ℕ) (joins : (c : Pattern) → exact c y ≡ true → exact (a ++ c) g ≡ true) where
-  each-before : (cs : List Pattern) → exactAny cs y ≡ true → exactAny (eachBefore a cs) g ≡ true
+  each-before : (cs : List Pattern) → exact_any cs y ≡ true → exact_any (each_before a cs) g ≡ true
   each-before [] h = absurd (false≢true h)
   each-before (c ∷ cs) h =
-      or_cases (exact c y) (exactAny cs y) h
+      or_cases (exact c y) (exact_any cs y) h
       (λ k. rw (joins c k))
       (λ k. or_right (exact (a ++ c) g) _ (each-before cs k))
 
-  pub with_first : (p : Part) (cs : List Pattern) → exactAny cs y ≡ true → exactAny (withEach (a ∷ p) cs) g ≡ true
-  with_first p cs h = any_left (eachBefore a cs) (withEach p cs) g (each-before cs h)
+  pub with_first : (p : Part) (cs : List Pattern) → exact_any cs y ≡ true → exact_any (with_each (a ∷ p) cs) g ≡ true
+  with_first p cs h = any_left (each_before a cs) (with_each p cs) g (each-before cs h)
 
-pub with-later : (a : Pattern) (p : Part) (cs : List Pattern) (g : List ℕ) → exactAny (withEach p cs) g ≡ true → exactAny (withEach (a ∷ p) cs) g ≡ true
-with-later a p cs g h = any-right (eachBefore a cs) (withEach p cs) g h
+pub with-later : (a : Pattern) (p : Part) (cs : List Pattern) (g : List ℕ) → exact_any (with_each p cs) g ≡ true → exact_any (with_each (a ∷ p) cs) g ≡ true
+with-later a p cs g h = any-right (each_before a cs) (with_each p cs) g h
 
 -- alternative number i, and one of the continuations
-pub spelled : (p : Part) (i : ℕ) (cs : List Pattern) (x y : List ℕ) → i < length p → exact (get_or p i []) x ≡ true → exactAny cs y ≡ true
-    → exactAny (withEach p cs) (x ++ y) ≡ true
+pub spelled : (p : Part) (i : ℕ) (cs : List Pattern) (x y : List ℕ) → i < length p → exact (get_or p i []) x ≡ true → exact_any cs y ≡ true
+    → exact_any (with_each p cs) (x ++ y) ≡ true
 spelled [] i cs x y l h k = absurd (omega arith)
 spelled (a ∷ p) zero cs x y l h k = with_first a (x ++ y) y (λ c e. exact-append a c x y h e) p cs k
 spelled (a ∷ p) (suc i) cs x y l h k = with-later a p cs (x ++ y) (spelled p i cs x y (omega arith) h k)

@@ -11,11 +11,11 @@ use lib.Dec.{leb, eqb}
 use borrow.Author.Tests.{le-leb, leb-true, eqb-true}
 use Rattle.figures.specs.declared.kinds.Field.{Field}
 use Rattle.figures.specs.declared.kinds.Field.TheVariants.{Other}
-use Rattle.figures.specs.Figures.{every, field_at, fieldText}
+use Rattle.figures.specs.Figures.{every, field_at, field_text}
 use Rattle.figures.proofs.Figures.{field_back}
 use Rattle.shapes.specs.declared.kinds.Value.{Value}
 use Rattle.shapes.specs.Pattern.{Pattern, low, high, fits}
-use Rattle.shapes.specs.Shape.{Part, leading, runLength, fieldStart, fieldWidth, value_of, filled, plain, printable, printableEach, FieldOf}
+use Rattle.shapes.specs.Shape.{Part, leading, run_length, field_start, field_width, value_of, filled, plain, printable, printable_each, FieldOf}
 use Rattle.shapes.proofs.Patterns.{both, neither, starless, field-pattern}
 use Rattle.shapes.proofs.Splits.{lead-le}
 use Rattle.shapes.proofs.Exact.{exact, exact-is, exact-length, exact-append}
@@ -39,19 +39,19 @@ hashes-starless : (w : ℕ) → starless (replicate w 35) ≡ true
 hashes-starless zero = refl
 hashes-starless (suc w) = hashes-starless w
 
-field-exact : (w : ℕ) (f : Field) → w ≤ 5 → FieldOf w f → exact (replicate w 35) (fieldText w f) ≡ true
-unfolding fieldText
+field-exact : (w : ℕ) (f : Field) → w ≤ 5 → FieldOf w f → exact (replicate w 35) (field_text w f) ≡ true
+unfolding field_text
 field-exact zero f h e = rw e
 field-exact (suc w) f h e =
-    exact-is (replicate (suc w) 35) (fieldText (suc w) f) (hashes-starless (suc w)) ∙ field-pattern (suc w) f h e
+    exact-is (replicate (suc w) 35) (field_text (suc w) f) (hashes-starless (suc w)) ∙ field-pattern (suc w) f h e
 
-run-text : (a : Pattern) → take (runLength a) a ≡ replicate (runLength a) 35
+run-text : (a : Pattern) → take (run_length a) a ≡ replicate (run_length a) 35
 unfolding leading
 run-text [] = refl
 run-text (p ∷ a) = go (eqb p 35) refl (run-text a)
   where
-    go : (x : Bool) → eqb p 35 ≡ x → take (runLength a) a ≡ replicate (runLength a) 35
-        → take (cond x (suc (runLength a)) 0) (p ∷ a) ≡ replicate (cond x (suc (runLength a)) 0) 35
+    go : (x : Bool) → eqb p 35 ≡ x → take (run_length a) a ≡ replicate (run_length a) 35
+        → take (cond x (suc (run_length a)) 0) (p ∷ a) ≡ replicate (cond x (suc (run_length a)) 0) 35
     go true e ih = rw (eqb-true p 35 e, ih)
     go false e ih = refl
 
@@ -62,51 +62,51 @@ no_field s at = refl
 -- ---- the whole
 
 -- an alternative is the text before its field, the field, and the text after it
-pieces : (a : Pattern) → take (fieldStart a) a ++ (replicate (fieldWidth a) 35 ++ drop (fieldStart a + fieldWidth a) a) ≡ a
+pieces : (a : Pattern) → take (field_start a) a ++ (replicate (field_width a) 35 ++ drop (field_start a + field_width a) a) ≡ a
 pieces a =
-    rw (← run-text (drop (fieldStart a) a), ← drop-drop (fieldWidth a) (fieldStart a) a, take-append-drop (fieldWidth a) (drop (fieldStart a) a))
-    (take-append-drop (fieldStart a) a)
+    rw (← run-text (drop (field_start a) a), ← drop-drop (field_width a) (field_start a) a, take-append-drop (field_width a) (drop (field_start a) a))
+    (take-append-drop (field_start a) a)
 
-module _ (a : Pattern) (f : Field) (ok : printable a ≡ true) (said : FieldOf (fieldWidth a) f) where
-  parts : (every plain (take (fieldStart a) a) ≡ true) × (fieldWidth a ≤ 5) × (every plain (drop (fieldStart a + fieldWidth a) a) ≡ true)
+module _ (a : Pattern) (f : Field) (ok : printable a ≡ true) (said : FieldOf (field_width a) f) where
+  parts : (every plain (take (field_start a) a) ≡ true) × (field_width a ≤ 5) × (every plain (drop (field_start a + field_width a) a) ≡ true)
   unfolding printable
   parts =
-      let t = both (every plain (take (fieldStart a) a)) _ ok in
-      let u = both (leb (fieldWidth a) 5) _ t.1 in
+      let t = both (every plain (take (field_start a) a)) _ ok in
+      let u = both (leb (field_width a) 5) _ t.1 in
       (t.0, leb-true _ _ u.0, u.1)
 
   pub filled-exact : exact a (filled a f) ≡ true
   unfolding filled
   filled-exact =
-      ap (λ (p : Pattern). exact p (take (fieldStart a) a ++ (fieldText (fieldWidth a) f ++ drop (fieldStart a + fieldWidth a) a))) (sym (pieces a))
-      ∙ exact-append (take (fieldStart a) a) _ (take (fieldStart a) a) _ (plain-exact (take (fieldStart a) a) parts.0)
-      (exact-append (replicate (fieldWidth a) 35) _ (fieldText (fieldWidth a) f) _ (field-exact (fieldWidth a) f parts.1 said)
-      (plain-exact (drop (fieldStart a + fieldWidth a) a) parts.2))
+      ap (λ (p : Pattern). exact p (take (field_start a) a ++ (field_text (field_width a) f ++ drop (field_start a + field_width a) a))) (sym (pieces a))
+      ∙ exact-append (take (field_start a) a) _ (take (field_start a) a) _ (plain-exact (take (field_start a) a) parts.0)
+      (exact-append (replicate (field_width a) 35) _ (field_text (field_width a) f) _ (field-exact (field_width a) f parts.1 said)
+      (plain-exact (drop (field_start a + field_width a) a) parts.2))
 
   pub filled-length : length (filled a f) ≡ length a
   filled-length = exact-length a (filled a f) filled-exact
 
-  pub filled-field : (rest : List ℕ) → field_at (filled a f ++ rest) (fieldStart a) (fieldWidth a) ≡ f
+  pub filled-field : (rest : List ℕ) → field_at (filled a f ++ rest) (field_start a) (field_width a) ≡ f
   unfolding filled
-  filled-field rest = go (fieldWidth a) parts.1 said
+  filled-field rest = go (field_width a) parts.1 said
     where
       go : (w : ℕ) → w ≤ 5 → FieldOf w f
-          → field_at (take (fieldStart a) a ++ (fieldText w f ++ drop (fieldStart a + w) a) ++ rest) (fieldStart a) w ≡ f
-      go zero h e = no_field _ (fieldStart a) ∙ sym e
+          → field_at (take (field_start a) a ++ (field_text w f ++ drop (field_start a + w) a) ++ rest) (field_start a) w ≡ f
+      go zero h e = no_field _ (field_start a) ∙ sym e
       go (suc w) h e =
-          let pre = take (fieldStart a) a in
-          let post = drop (fieldStart a + suc w) a in
-          let shape : pre ++ (fieldText (suc w) f ++ post) ++ rest ≡ pre ++ fieldText (suc w) f ++ (post ++ rest) = simp append_assoc in
-          let len : length pre ≡ fieldStart a = length-take-le (fieldStart a) a (lead-le _ a) in
+          let pre = take (field_start a) a in
+          let post = drop (field_start a + suc w) a in
+          let shape : pre ++ (field_text (suc w) f ++ post) ++ rest ≡ pre ++ field_text (suc w) f ++ (post ++ rest) = simp append_assoc in
+          let len : length pre ≡ field_start a = length-take-le (field_start a) a (lead-le _ a) in
           rw shape (rw len at (field_back pre (post ++ rest) (suc w) f (omega arith) h e))
 
-pub filled-value : (v : Value) (a : Pattern) (rest : List ℕ) → printable a ≡ true → FieldOf (fieldWidth a) v.field
+pub filled-value : (v : Value) (a : Pattern) (rest : List ℕ) → printable a ≡ true → FieldOf (field_width a) v.field
     → value_of v.which a (filled a v.field ++ rest) ≡ v
 unfolding value_of
 filled-value v a rest ok said = rw (filled-field a v.field ok said rest)
 
 -- an alternative of a part that can be printed can be printed
-pub printable-at : (p : Part) (i : ℕ) → printableEach p ≡ true → i < length p → printable (get_or p i []) ≡ true
+pub printable-at : (p : Part) (i : ℕ) → printable_each p ≡ true → i < length p → printable (get_or p i []) ≡ true
 printable-at [] i h l = absurd (omega arith)
-printable-at (a ∷ p) zero h l = (both (printable a) (printableEach p) h).0
-printable-at (a ∷ p) (suc i) h l = printable-at p i (both (printable a) (printableEach p) h).1 (omega arith)
+printable-at (a ∷ p) zero h l = (both (printable a) (printable_each p) h).0
+printable-at (a ∷ p) (suc i) h l = printable-at p i (both (printable a) (printable_each p) h).1 (omega arith)

@@ -11,10 +11,10 @@ use lib.Dec.{leb, ltb, eqb, eqb-zero-suc, eqb-suc-suc}
 use borrow.Author.Tests.{le-leb, lt-leb, leb-true, ltb-true, ne_eqb, eqb-true, not-true}
 use Rattle.figures.specs.declared.kinds.Field.{Field}
 use Rattle.figures.specs.declared.kinds.Field.TheVariants.{Number, Missing, Mixed, Other}
-use Rattle.figures.specs.Figures.{isFigure, isSlash, every, figures, slashes, fieldText, Fits}
+use Rattle.figures.specs.Figures.{is_figure, is_slash, every, figures, slashes, field_text, Fits}
 use Rattle.figures.proofs.Fields.{next}
 use Rattle.figures.proofs.Figures.{length-figures, length-field, number-text, all-figures, all-slashes}
-use Rattle.shapes.specs.Pattern.{Pattern, low, high, fits, more, hasPattern, hasAny, apart, clash, clashEach, allApart}
+use Rattle.shapes.specs.Pattern.{Pattern, low, high, fits, more, has_pattern, has_any, apart, clash, clash_each, all_apart}
 
 -- ---- truth
 
@@ -41,37 +41,37 @@ neither false b e = (refl, not-true b e)
 -- ---- the steps of the test
 
 -- only nothing fits nothing
-rest : (i : ℕ) (g : List ℕ) → i ≤ length g → hasPattern (drop i g) [] ≡ eqb i (length g)
-unfolding hasPattern
+rest : (i : ℕ) (g : List ℕ) → i ≤ length g → has_pattern (drop i g) [] ≡ eqb i (length g)
+unfolding has_pattern
 rest zero [] h = refl
 rest zero (b ∷ g) h = sym (eqb-zero-suc (length g))
 rest (suc i) [] h = absurd (omega arith)
 rest (suc i) (b ∷ g) h = rest i g (omega arith) ∙ sym (eqb-suc-suc i (length g))
 
-star : (g ps : List ℕ) → hasPattern g (42 ∷ ps) ≡ true
-unfolding hasPattern
+star : (g ps : List ℕ) → has_pattern g (42 ∷ ps) ≡ true
+unfolding has_pattern
 star [] ps = refl
 star (b ∷ g) ps = refl
 
 -- at character i of the pattern, where what is left fits just where the whole does: '*' takes all that is left, any other character a byte
-module _ (g : List ℕ) (p : Pattern) (i : ℕ) (inv : hasPattern (drop i g) (drop i p) ≡ hasPattern g p) where
-  at : i < length p → hasPattern (drop i g) (get_or p i 0 ∷ drop (i + 1) p) ≡ hasPattern g p
+module _ (g : List ℕ) (p : Pattern) (i : ℕ) (inv : has_pattern (drop i g) (drop i p) ≡ has_pattern g p) where
+  at : i < length p → has_pattern (drop i g) (get_or p i 0 ∷ drop (i + 1) p) ≡ has_pattern g p
   at h = rw (next p i h) at inv
 
-  pub on-star : i < length p → get_or p i 0 ≡ 42 → true ≡ hasPattern g p
+  pub on-star : i < length p → get_or p i 0 ≡ 42 → true ≡ has_pattern g p
   on-star h e = rw (e, star (drop i g) (drop (i + 1) p)) at (at h)
 
-  pub on-spent : i < length p → (get_or p i 0 ≡ 42 → ⊥) → length g ≤ i → false ≡ hasPattern g p
-  unfolding hasPattern
+  pub on-spent : i < length p → (get_or p i 0 ≡ 42 → ⊥) → length g ≤ i → false ≡ has_pattern g p
+  unfolding has_pattern
   on-spent h n s = rw (drop_of_length-le g {i = i} s, ne_eqb (get_or p i 0) 42 n) at (at h)
 
   pub on-byte : i < length p → (get_or p i 0 ≡ 42 → ⊥) → i < length g
-      → (fits (get_or p i 0) (get_or g i 0) && hasPattern (drop (i + 1) g) (drop (i + 1) p)) ≡ hasPattern g p
-  unfolding hasPattern
+      → (fits (get_or p i 0) (get_or g i 0) && has_pattern (drop (i + 1) g) (drop (i + 1) p)) ≡ has_pattern g p
+  unfolding has_pattern
   on-byte h n k = rw (next g i k, ne_eqb (get_or p i 0) 42 n) at (at h)
 
-  pub on-end : length p ≤ i → i ≤ length g → eqb i (length g) ≡ hasPattern g p
-  on-end h k = sym (rest i g k) ∙ ap (hasPattern (drop i g)) (sym (drop_of_length-le p {i = i} h)) ∙ inv
+  pub on-end : length p ≤ i → i ≤ length g → eqb i (length g) ≡ has_pattern g p
+  on-end h k = sym (rest i g k) ∙ ap (has_pattern (drop i g)) (sym (drop_of_length-le p {i = i} h)) ∙ inv
 
 -- ---- pieces
 
@@ -81,8 +81,8 @@ starless [] = true
 starless (p ∷ ps) = not (more p) && starless ps
 
 -- a group is as long as such a pattern
-pub pattern-length : (g : List ℕ) (p : Pattern) → starless p ≡ true → hasPattern g p ≡ true → length g ≡ length p
-unfolding hasPattern
+pub pattern-length : (g : List ℕ) (p : Pattern) → starless p ≡ true → has_pattern g p ≡ true → length g ≡ length p
+unfolding has_pattern
 pattern-length [] [] s h = refl
 pattern-length [] (p ∷ ps) s h = absurd (false≢true (sym (not-true (more p) (both _ _ s).0) ∙ h))
 pattern-length (b ∷ g) [] s h = absurd (false≢true h)
@@ -92,37 +92,37 @@ pattern-length (b ∷ g) (p ∷ ps) s h =
 
 -- a group in two pieces, the first as long as its pattern
 pub pattern-append : (x y : List ℕ) (p q : Pattern) → starless p ≡ true → length x ≡ length p
-    → hasPattern (x ++ y) (p ++ q) ≡ (hasPattern x p && hasPattern y q)
-unfolding hasPattern
+    → has_pattern (x ++ y) (p ++ q) ≡ (has_pattern x p && has_pattern y q)
+unfolding has_pattern
 pattern-append [] y [] q s e = refl
 pattern-append [] y (p ∷ ps) q s e = absurd (omega arith)
 pattern-append (b ∷ x) y [] q s e = absurd (omega arith)
 pattern-append (b ∷ x) y (p ∷ ps) q s e =
     let t = both (not (more p)) (starless ps) s in
-    rw (not-true (more p) t.0, pattern-append x y ps q t.1 (suc_inj e)) (sym (and_assoc (fits p b) (hasPattern x ps) (hasPattern y q)))
+    rw (not-true (more p) t.0, pattern-append x y ps q t.1 (suc_inj e)) (sym (and_assoc (fits p b) (has_pattern x ps) (has_pattern y q)))
 
 -- ---- the pattern of a written number field
 
 -- figures and slashes fit '#'
-hash-figure : (b : ℕ) → isFigure b ≡ true → fits 35 b ≡ true
+hash-figure : (b : ℕ) → is_figure b ≡ true → fits 35 b ≡ true
 unfolding fits low high
 hash-figure b h = let t = both (leb 48 b) (leb b 57) h in rw (le-leb 47 b (omega (arith, leb-true 48 b t.0)), t.1)
 
-hash-slash : (b : ℕ) → isSlash b ≡ true → fits 35 b ≡ true
+hash-slash : (b : ℕ) → is_slash b ≡ true → fits 35 b ≡ true
 unfolding fits low high
 hash-slash b h = rw (eqb-true b 47 h)
 
 hashes : (f : ℕ → Bool) → ((b : ℕ) → f b ≡ true → fits 35 b ≡ true) → (x : List ℕ) → every f x ≡ true
-    → hasPattern x (replicate (length x) 35) ≡ true
-unfolding hasPattern
+    → has_pattern x (replicate (length x) 35) ≡ true
+unfolding has_pattern
 hashes f h [] e = refl
 hashes f h (b ∷ x) e = let t = both (f b) (every f x) e in rw (h b t.0) (hashes f h x t.1)
 
-pub field-pattern : (w : ℕ) (f : Field) → w ≤ 5 → Fits w f → hasPattern (fieldText w f) (replicate w 35) ≡ true
-unfolding fieldText
+pub field-pattern : (w : ℕ) (f : Field) → w ≤ 5 → Fits w f → has_pattern (field_text w f) (replicate w 35) ≡ true
+unfolding field_text
 field-pattern w (Number n) h f =
-    rw (number-text w n h) (rw (length-figures w n) at (hashes isFigure hash-figure (figures w n) (all-figures w n)))
-field-pattern w Missing h f = rw (length-field w Missing h f) at (hashes isSlash hash-slash (slashes w) (all-slashes w h))
+    rw (number-text w n h) (rw (length-figures w n) at (hashes is_figure hash-figure (figures w n) (all-figures w n)))
+field-pattern w Missing h f = rw (length-field w Missing h f) at (hashes is_slash hash-slash (slashes w) (all-slashes w h))
 field-pattern w Mixed h f = absurd f
 field-pattern w Other h f = absurd f
 
@@ -144,8 +144,8 @@ apart_fits p q b a f = go (ltb (high p) (low q)) refl
         rw (lt-leb b (high q) (omega (arith, within p b f))) (and-false (leb (low q) b))
 
 -- a group of the one pattern is not of the other
-pub excluded : (g : List ℕ) (p q : Pattern) → clash p q ≡ true → hasPattern g p ≡ true → hasPattern g q ≡ false
-unfolding hasPattern clash
+pub excluded : (g : List ℕ) (p q : Pattern) → clash p q ≡ true → has_pattern g p ≡ true → has_pattern g q ≡ false
+unfolding has_pattern clash
 excluded [] [] [] c h = absurd (false≢true c)
 excluded [] [] (q ∷ qs) c h = not-true (more q) c
 excluded [] (p ∷ ps) [] c h = absurd (false≢true (sym (not-true (more p) c) ∙ h))
@@ -156,24 +156,24 @@ excluded (b ∷ g) (p ∷ ps) [] c h = refl
 excluded (b ∷ g) (p ∷ ps) (q ∷ qs) c h =
     let t = both (not (more p || more q)) (apart p q || clash ps qs) c in
     let n = neither (more p) (more q) t.0 in
-    let f = both (fits p b) (hasPattern g ps) (rw n.0 at h) in
+    let f = both (fits p b) (has_pattern g ps) (rw n.0 at h) in
     rw n.1
     (or_cases (apart p q) (clash ps qs) t.1
     (λ e. rw (apart_fits p q b e f.0))
     (λ e. rw (excluded g ps qs e f.1) (and-false (fits q b))))
 
 -- nor of any of several
-pub excluded-each : (g : List ℕ) (p : Pattern) (qs : List Pattern) → clashEach p qs ≡ true → hasPattern g p ≡ true → hasAny qs g ≡ false
-unfolding hasAny clashEach
+pub excluded-each : (g : List ℕ) (p : Pattern) (qs : List Pattern) → clash_each p qs ≡ true → has_pattern g p ≡ true → has_any qs g ≡ false
+unfolding has_any clash_each
 excluded-each g p [] c h = refl
 excluded-each g p (q ∷ qs) c h =
-    let t = both (clash p q) (clashEach p qs) c in
+    let t = both (clash p q) (clash_each p qs) c in
     rw (excluded g p q t.0 h) (excluded-each g p qs t.1 h)
 
 -- and a group of one of several not of any of several others
-pub all-excluded : (g : List ℕ) (ps qs : List Pattern) → allApart ps qs ≡ true → hasAny ps g ≡ true → hasAny qs g ≡ false
-unfolding hasAny allApart
+pub all-excluded : (g : List ℕ) (ps qs : List Pattern) → all_apart ps qs ≡ true → has_any ps g ≡ true → has_any qs g ≡ false
+unfolding has_any all_apart
 all-excluded g [] qs c h = absurd (false≢true h)
 all-excluded g (p ∷ ps) qs c h =
-    let t = both (clashEach p qs) (allApart ps qs) c in
-    or_cases (hasPattern g p) (hasAny ps g) h (excluded-each g p qs t.0) (all-excluded g ps qs t.1)
+    let t = both (clash_each p qs) (all_apart ps qs) c in
+    or_cases (has_pattern g p) (has_any ps g) h (excluded-each g p qs t.0) (all-excluded g ps qs t.1)

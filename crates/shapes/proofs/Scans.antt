@@ -16,7 +16,7 @@ use Rattle.figures.proofs.Fields.{next}
 use Rattle.shapes.specs.declared.kinds.Value.{Value}
 use Rattle.shapes.specs.declared.kinds.Step.{Step}
 use Rattle.shapes.specs.Pattern.{Pattern, fits}
-use Rattle.shapes.specs.Shape.{Part, Pick, Alternative, Nothing, Values, Says, Unlike, also, leading, begins, parts_of, fieldStart, fieldWidth, value_of, pick_of, scanParts, answered, scanOf, misfit, padded, stepTo, scanEnd}
+use Rattle.shapes.specs.Shape.{Part, Pick, Alternative, Nothing, Values, Says, Unlike, also, leading, begins, parts_of, field_start, field_width, value_of, pick_of, scan_parts, answered, scan_of, misfit, padded, step_to, scan_end}
 use Rattle.shapes.proofs.Patterns.{both}
 
 -- ---- an alternative that was picked is there
@@ -42,76 +42,76 @@ pick-width (a ∷ p) g k {v} {w} e = go (begins a g) refl (pick-width p g (k + 1
 
 -- ---- part by part
 
-pub part_none : (p : Part) (ps : List Part) (g : List ℕ) → Nothing ≡ pick_of 0 p g → scanParts (p ∷ ps) g ≡ Unlike
-unfolding scanParts
-part_none p ps g e = rw (← e, scanParts)
+pub part_none : (p : Part) (ps : List Part) (g : List ℕ) → Nothing ≡ pick_of 0 p g → scan_parts (p ∷ ps) g ≡ Unlike
+unfolding scan_parts
+part_none p ps g e = rw (← e, scan_parts)
 
 pub part-some : (p : Part) (ps : List Part) (g : List ℕ) {v : Value} {w : ℕ} → Alternative v w ≡ pick_of 0 p g
-    → scanParts (p ∷ ps) g ≡ also v (scanParts ps (drop w g))
-unfolding scanParts
-part-some p ps g e = rw (← e, scanParts)
+    → scan_parts (p ∷ ps) g ≡ also v (scan_parts ps (drop w g))
+unfolding scan_parts
+part-some p ps g e = rw (← e, scan_parts)
 
 -- ---- one part as the code takes it: its alternatives in turn, and a position past the group's end where none is there
 
-unfoldable pub stepBy : ℕ → Part → List ℕ → ℕ → Step
-stepBy k [] g at = stepTo 0 Other (length g + 1)
-stepBy k (a ∷ others) g at = cond (begins a (drop at g)) (record { value = value_of k a (drop at g); past = at + length a }) (stepBy (k + 1) others g at)
+unfoldable pub step_by : ℕ → Part → List ℕ → ℕ → Step
+step_by k [] g at = step_to 0 Other (length g + 1)
+step_by k (a ∷ others) g at = cond (begins a (drop at g)) (record { value = value_of k a (drop at g); past = at + length a }) (step_by (k + 1) others g at)
 
 -- s is the step by these alternatives
 pub record StepBy (k : ℕ) (p : Part) (g : List ℕ) (at : ℕ) (s : Step) : Type 0 where
-  pub is : s ≡ stepBy k p g at
+  pub is : s ≡ step_by k p g at
 
 -- as the code comes to it: an alternative if it is there, with its number field or none, and otherwise a step by the later ones
 module _ {k : ℕ} {a : Pattern} {others : Part} {g : List ℕ} {at : ℕ} {s o : Step} (later : StepBy (k + 1) others g at o) where
-  pub figures-step : (lead width : ℕ) → fieldStart a ≡ lead → fieldWidth a ≡ width
-      → s ≡ cond (begins a (drop at g)) (stepTo k (field_at (drop at g) lead width) (at + length a)) o → StepBy k (a ∷ others) g at s
-  unfolding stepBy value_of
+  pub figures-step : (lead width : ℕ) → field_start a ≡ lead → field_width a ≡ width
+      → s ≡ cond (begins a (drop at g)) (step_to k (field_at (drop at g) lead width) (at + length a)) o → StepBy k (a ∷ others) g at s
+  unfolding step_by value_of
   figures-step lead width l w e = record { is = e ∙ rw (w, l, later.is) }
 
-  pub word-step : fieldWidth a ≡ 0 → s ≡ cond (begins a (drop at g)) (stepTo k Other (at + length a)) o → StepBy k (a ∷ others) g at s
-  unfolding stepBy value_of field_at
+  pub word-step : field_width a ≡ 0 → s ≡ cond (begins a (drop at g)) (step_to k Other (at + length a)) o → StepBy k (a ∷ others) g at s
+  unfolding step_by value_of field_at
   word-step w e = record { is = e ∙ rw (w, later.is) }
 
-pub nothing-step : {k : ℕ} {g : List ℕ} {at : ℕ} {s : Step} → s ≡ stepTo k Other at → StepBy k ([] ∷ []) g at s
-unfolding stepBy value_of field_at begins leading
+pub nothing-step : {k : ℕ} {g : List ℕ} {at : ℕ} {s : Step} → s ≡ step_to k Other at → StepBy k ([] ∷ []) g at s
+unfolding step_by value_of field_at begins leading
 nothing-step {at = at} e = record { is = rw (add-zero at) e }
 
-pub no_step : {k : ℕ} {g : List ℕ} {at : ℕ} {s : Step} → s ≡ stepTo 0 Other (length g + 1) → StepBy k [] g at s
-unfolding stepBy
+pub no_step : {k : ℕ} {g : List ℕ} {at : ℕ} {s : Step} → s ≡ step_to 0 Other (length g + 1) → StepBy k [] g at s
+unfolding step_by
 no_step e = record { is = e }
 
 -- a position past the group's end stays there
-step-over : (p : Part) (k : ℕ) (g : List ℕ) (at : ℕ) → length g < at → length g < (stepBy k p g at).past
-unfolding stepBy
+step-over : (p : Part) (k : ℕ) (g : List ℕ) (at : ℕ) → length g < at → length g < (step_by k p g at).past
+unfolding step_by
 step-over [] k g at h = omega arith
 step-over (a ∷ others) k g at h = go (begins a (drop at g)) (step-over others (k + 1) g at h)
   where
-    go : (b : Bool) → length g < (stepBy (k + 1) others g at).past
-        → length g < (cond {A = Step} b (record { value = value_of k a (drop at g); past = at + length a }) (stepBy (k + 1) others g at)).past
+    go : (b : Bool) → length g < (step_by (k + 1) others g at).past
+        → length g < (cond {A = Step} b (record { value = value_of k a (drop at g); past = at + length a }) (step_by (k + 1) others g at)).past
     go true ih = omega arith
     go false ih = ih
 
 -- it is the alternative that a scan picks, and none
 step-some : (p : Part) (g : List ℕ) (at k : ℕ) {v : Value} {w : ℕ} → pick_of k p (drop at g) ≡ Alternative v w
-    → stepBy k p g at ≡ record { value = v; past = at + w }
-unfolding stepBy pick_of
+    → step_by k p g at ≡ record { value = v; past = at + w }
+unfolding step_by pick_of
 step-some [] g at k e = let z : ◌≡◌ {A = ℕ} 0 1 = cc in absurd (omega arith)
 step-some (a ∷ others) g at k {v} {w} e = go (begins a (drop at g)) (step-some others g at (k + 1)) e
   where
-    go : (b : Bool) → (pick_of (k + 1) others (drop at g) ≡ Alternative v w → stepBy (k + 1) others g at ≡ record { value = v; past = at + w })
+    go : (b : Bool) → (pick_of (k + 1) others (drop at g) ≡ Alternative v w → step_by (k + 1) others g at ≡ record { value = v; past = at + w })
         → cond b (Alternative (value_of k a (drop at g)) (length a)) (pick_of (k + 1) others (drop at g)) ≡ Alternative v w
-        → cond {A = Step} b (record { value = value_of k a (drop at g); past = at + length a }) (stepBy (k + 1) others g at) ≡ record { value = v; past = at + w }
+        → cond {A = Step} b (record { value = value_of k a (drop at g); past = at + length a }) (step_by (k + 1) others g at) ≡ record { value = v; past = at + w }
     go true ih e = let s : length a ≡ w = cc in let t : value_of k a (drop at g) ≡ v = cc in rw (s, t)
     go false ih e = ih e
 
-step-none : (p : Part) (g : List ℕ) (at k : ℕ) → pick_of k p (drop at g) ≡ Nothing → (stepBy k p g at).past ≡ length g + 1
-unfolding stepBy pick_of
+step-none : (p : Part) (g : List ℕ) (at k : ℕ) → pick_of k p (drop at g) ≡ Nothing → (step_by k p g at).past ≡ length g + 1
+unfolding step_by pick_of
 step-none [] g at k e = refl
 step-none (a ∷ others) g at k e = go (begins a (drop at g)) (step-none others g at (k + 1)) e
   where
-    go : (b : Bool) → (pick_of (k + 1) others (drop at g) ≡ Nothing → (stepBy (k + 1) others g at).past ≡ length g + 1)
+    go : (b : Bool) → (pick_of (k + 1) others (drop at g) ≡ Nothing → (step_by (k + 1) others g at).past ≡ length g + 1)
         → cond b (Alternative (value_of k a (drop at g)) (length a)) (pick_of (k + 1) others (drop at g)) ≡ Nothing
-        → (cond {A = Step} b (record { value = value_of k a (drop at g); past = at + length a }) (stepBy (k + 1) others g at)).past ≡ length g + 1
+        → (cond {A = Step} b (record { value = value_of k a (drop at g); past = at + length a }) (step_by (k + 1) others g at)).past ≡ length g + 1
     go true ih e = let z : ◌≡◌ {A = ℕ} 0 1 = cc in absurd (omega arith)
     go false ih e = ih e
 
@@ -126,15 +126,15 @@ abbrev pub end_of : ℕ → List Step → ℕ
 end_of at [] = at
 end_of at (s ∷ ss) = end_of s.past ss
 
-abbrev pub saidIn : List Step → List Value
-saidIn [] = []
-saidIn (s ∷ ss) = s.value ∷ saidIn ss
+abbrev pub said_in : List Step → List Value
+said_in [] = []
+said_in (s ∷ ss) = s.value ∷ said_in ss
 
-abbrev upToEnd : Bool → List Value → Values
-upToEnd true vs = Says vs
-upToEnd false vs = Unlike
+abbrev up_to_end : Bool → List Value → Values
+up_to_end true vs = Says vs
+up_to_end false vs = Unlike
 
-also-end : (b : Bool) (v : Value) (vs : List Value) → also v (upToEnd b vs) ≡ upToEnd b (v ∷ vs)
+also-end : (b : Bool) (v : Value) (vs : List Value) → also v (up_to_end b vs) ≡ up_to_end b (v ∷ vs)
 also-end true v vs = refl
 also-end false v vs = refl
 
@@ -143,11 +143,11 @@ steps-over end h = h
 steps-over {g = g} {at = at} (◌then◌ {p = p} t ts) h = steps-over ts (rw t.is (step-over p 0 g at h))
 
 scan_steps : {g : List ℕ} {ps : List Part} {at : ℕ} {ss : List Step} → Steps g ps at ss → at ≤ length g
-    → scanParts ps (drop at g) ≡ upToEnd (eqb (end_of at ss) (length g)) (saidIn ss)
-unfolding scanParts
+    → scan_parts ps (drop at g) ≡ up_to_end (eqb (end_of at ss) (length g)) (said_in ss)
+unfolding scan_parts
 scan_steps {g = g} {at = at} end h = go (ltb at (length g)) refl
   where
-    go : (b : Bool) → ltb at (length g) ≡ b → scanParts [] (drop at g) ≡ upToEnd (eqb at (length g)) []
+    go : (b : Bool) → ltb at (length g) ≡ b → scan_parts [] (drop at g) ≡ up_to_end (eqb at (length g)) []
     go true e =
         let less = ltb-true at (length g) e in
         rw (next g at less, ne_eqb at (length g) (omega arith))
@@ -157,29 +157,29 @@ scan_steps {g = g} {at = at} end h = go (ltb at (length g)) refl
 scan_steps {g = g} {at = at} (◌then◌ {p = p} {ps = ps} {s = s} {ss = ss} t ts) h = go (pick_of 0 p (drop at g)) refl (scan_steps ts)
   where
     go : (x : Pick) → pick_of 0 p (drop at g) ≡ x
-        → (s.past ≤ length g → scanParts ps (drop s.past g) ≡ upToEnd (eqb (end_of s.past ss) (length g)) (saidIn ss))
-        → scanParts (p ∷ ps) (drop at g) ≡ upToEnd (eqb (end_of s.past ss) (length g)) (s.value ∷ saidIn ss)
+        → (s.past ≤ length g → scan_parts ps (drop s.past g) ≡ up_to_end (eqb (end_of s.past ss) (length g)) (said_in ss))
+        → scan_parts (p ∷ ps) (drop at g) ≡ up_to_end (eqb (end_of s.past ss) (length g)) (s.value ∷ said_in ss)
     go (Alternative v w) e ih =
         let wide = simp length-drop at (pick-width p (drop at g) 0 e) in
         let said : s ≡ record { value = v; past = at + w } = t.is ∙ step-some p g at 0 e in
         let there : s.past ≡ at + w = ap (λ (x : Step). x.past) said in
         part-some p ps (drop at g) (sym e)
-        ∙ rw (drop-drop w at g, ← there, ih (omega (arith, there)), also-end (eqb (end_of s.past ss) (length g)) v (saidIn ss), said)
+        ∙ rw (drop-drop w at g, ← there, ih (omega (arith, there)), also-end (eqb (end_of s.past ss) (length g)) v (said_in ss), said)
     go Nothing e ih =
         let past : s.past ≡ length g + 1 = ap (λ (x : Step). x.past) t.is ∙ step-none p g at 0 e in
         let more = steps-over ts (omega (arith, past)) in
         part_none p ps (drop at g) (sym e) ∙ rw (ne_eqb (end_of s.past ss) (length g) (omega (arith, more)))
 
-steps-length : {g : List ℕ} {ps : List Part} {at : ℕ} {ss : List Step} → Steps g ps at ss → length (saidIn ss) ≡ length ps
+steps-length : {g : List ℕ} {ps : List Part} {at : ℕ} {ss : List Step} → Steps g ps at ss → length (said_in ss) ≡ length ps
 steps-length end = refl
 steps-length (t then ts) = ap suc (steps-length ts)
 
 -- STEPS THROUGH THE PARTS OF A SHAPE, AT MOST EIGHT, GIVE WHAT THE SCAN GIVES.
 pub scan-by-steps : (shape g : List ℕ) {ss : List Step} → leb (length (parts_of shape)) 8 ≡ true → Steps g (parts_of shape) 0 ss
-    → scanEnd (end_of 0 ss) (length g) (padded (saidIn ss)) ≡ scanOf shape g
-unfolding scanOf answered
+    → scan_end (end_of 0 ss) (length g) (padded (said_in ss)) ≡ scan_of shape g
+unfolding scan_of answered
 scan-by-steps shape g {ss = ss} few ts = rw (scan_steps ts (omega arith)) (go (eqb (end_of 0 ss) (length g)))
   where
-    go : (b : Bool) → cond b (record { fits = true; values = padded (saidIn ss) }) misfit ≡ answered (upToEnd b (saidIn ss))
+    go : (b : Bool) → cond b (record { fits = true; values = padded (said_in ss) }) misfit ≡ answered (up_to_end b (said_in ss))
     go true = rw (steps-length ts, few)
     go false = refl

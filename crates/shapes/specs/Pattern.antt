@@ -21,16 +21,16 @@ abbrev pub more : ℕ → Bool
 more p = eqb p 42
 
 -- the whole group fits the pattern
-unfoldable pub hasPattern : List ℕ → Pattern → Bool
-hasPattern [] [] = true
-hasPattern [] (p ∷ ps) = more p
-hasPattern (b ∷ bs) [] = false
-hasPattern (b ∷ bs) (p ∷ ps) = more p || fits p b && hasPattern bs ps
+unfoldable pub has_pattern : List ℕ → Pattern → Bool
+has_pattern [] [] = true
+has_pattern [] (p ∷ ps) = more p
+has_pattern (b ∷ bs) [] = false
+has_pattern (b ∷ bs) (p ∷ ps) = more p || fits p b && has_pattern bs ps
 
 -- it fits one of the patterns
-unfoldable pub hasAny : List Pattern → List ℕ → Bool
-hasAny [] g = false
-hasAny (p ∷ ps) g = hasPattern g p || hasAny ps g
+unfoldable pub has_any : List Pattern → List ℕ → Bool
+has_any [] g = false
+has_any (p ∷ ps) g = has_pattern g p || has_any ps g
 
 -- Apartness, computed from the patterns alone: no byte may stand at both, no group fits both, no group fits one of each.
 abbrev pub apart : ℕ → ℕ → Bool
@@ -42,10 +42,10 @@ clash [] (q ∷ qs) = not (more q)
 clash (p ∷ ps) [] = not (more p)
 clash (p ∷ ps) (q ∷ qs) = not (more p || more q) && (apart p q || clash ps qs)
 
-unfoldable pub clashEach : Pattern → List Pattern → Bool
-clashEach p [] = true
-clashEach p (q ∷ qs) = clash p q && clashEach p qs
+unfoldable pub clash_each : Pattern → List Pattern → Bool
+clash_each p [] = true
+clash_each p (q ∷ qs) = clash p q && clash_each p qs
 
-unfoldable pub allApart : List Pattern → List Pattern → Bool
-allApart [] qs = true
-allApart (p ∷ ps) qs = clashEach p qs && allApart ps qs
+unfoldable pub all_apart : List Pattern → List Pattern → Bool
+all_apart [] qs = true
+all_apart (p ∷ ps) qs = clash_each p qs && all_apart ps qs

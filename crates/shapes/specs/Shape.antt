@@ -4,8 +4,8 @@
 use Rattle.std.specs.Prelude.{ℕ, zero, suc, ◌+◌, ◌-◌, ◌≡◌, Bool, true, false, cond, not, ◌&&◌, ◌||◌, List, [], ◌∷◌, ◌++◌, map, length, get_or, take, drop, replicate, leb, ltb, eqb}
 use Rattle.figures.specs.declared.kinds.Field.{Field}
 use Rattle.figures.specs.declared.kinds.Field.TheVariants.{Other}
-use Rattle.figures.specs.Figures.{field_at, fieldText, Fits, every}
-use Rattle.shapes.specs.Pattern.{Pattern, fits, more, apart, allApart}
+use Rattle.figures.specs.Figures.{field_at, field_text, Fits, every}
+use Rattle.shapes.specs.Pattern.{Pattern, fits, more, apart, all_apart}
 use Rattle.shapes.specs.declared.kinds.Value.{Value}
 use Rattle.shapes.specs.declared.kinds.Scan.{Scan}
 use Rattle.shapes.specs.declared.kinds.Step.{Step}
@@ -43,18 +43,18 @@ begins (p ∷ ps) [] = false
 begins (p ∷ ps) (b ∷ bs) = fits p b && begins ps bs
 
 -- the number field of an alternative is its first run of '#' (35): where it begins, and how long it is
-abbrev pub fieldStart : Pattern → ℕ
-fieldStart a = up_to 35 a
+abbrev pub field_start : Pattern → ℕ
+field_start a = up_to 35 a
 
-abbrev pub runLength : Pattern → ℕ
-runLength a = leading (λ b. eqb b 35) a
+abbrev pub run_length : Pattern → ℕ
+run_length a = leading (λ b. eqb b 35) a
 
-abbrev pub fieldWidth : Pattern → ℕ
-fieldWidth a = runLength (drop (fieldStart a) a)
+abbrev pub field_width : Pattern → ℕ
+field_width a = run_length (drop (field_start a) a)
 
 -- what a group that begins with alternative number k, a, says there
 unfoldable pub value_of : ℕ → Pattern → List ℕ → Value
-value_of k a g = record { which = k; field = field_at g (fieldStart a) (fieldWidth a) }
+value_of k a g = record { which = k; field = field_at g (field_start a) (field_width a) }
 
 -- The alternative of a part that a group begins with: what the group says there, and how many bytes it takes.
 pub data Pick : Type 0 where
@@ -75,71 +75,71 @@ abbrev pub also : Value → Values → Values
 also v (Says vs) = Says (v ∷ vs)
 also v Unlike = Unlike
 
-unfoldable pub scanParts : List Part → List ℕ → Values
-scanParts [] [] = Says []
-scanParts [] (b ∷ g) = Unlike
-scanParts (p ∷ ps) g =
+unfoldable pub scan_parts : List Part → List ℕ → Values
+scan_parts [] [] = Says []
+scan_parts [] (b ∷ g) = Unlike
+scan_parts (p ∷ ps) g =
     elim (pick_of 0 p g) [
-      | Alternative v w ↦ also v (scanParts ps (drop w g))
+      | Alternative v w ↦ also v (scan_parts ps (drop w g))
       | Nothing ↦ Unlike
     ]
 
 -- the code's answer: the values in an array of eight, the rest of it blank; a shape of more than eight parts is no shape
-abbrev pub blankValue : Value
-blankValue = record { which = 0; field = Other }
+abbrev pub blank_value : Value
+blank_value = record { which = 0; field = Other }
 
 abbrev pub misfit : Scan
-misfit = record { fits = false; values = replicate 8 blankValue }
+misfit = record { fits = false; values = replicate 8 blank_value }
 
 -- one part as the code takes it: the alternative's number, its number field, and where the group goes on
-abbrev pub stepTo : ℕ → Field → ℕ → Step
-stepTo k f past = record { value = record { which = k; field = f }; past = past }
+abbrev pub step_to : ℕ → Field → ℕ → Step
+step_to k f past = record { value = record { which = k; field = f }; past = past }
 
 -- and all of them: values that lead to the position `past` of a group of n bytes
-abbrev pub scanEnd : ℕ → ℕ → List Value → Scan
-scanEnd past n values = cond (eqb past n) (record { fits = true; values = values }) misfit
+abbrev pub scan_end : ℕ → ℕ → List Value → Scan
+scan_end past n values = cond (eqb past n) (record { fits = true; values = values }) misfit
 
 abbrev pub padded : List Value → List Value
-padded vs = vs ++ replicate (8 - length vs) blankValue
+padded vs = vs ++ replicate (8 - length vs) blank_value
 
 unfoldable pub answered : Values → Scan
 answered (Says vs) = cond (leb (length vs) 8) (record { fits = true; values = padded vs }) misfit
 answered Unlike = misfit
 
-unfoldable pub scanOf : List ℕ → List ℕ → Scan
-scanOf shape g = answered (scanParts (parts_of shape) g)
+unfoldable pub scan_of : List ℕ → List ℕ → Scan
+scan_of shape g = answered (scan_parts (parts_of shape) g)
 
-unfoldable pub hasShape : List ℕ → List ℕ → Bool
-hasShape shape g = (scanOf shape g).fits
+unfoldable pub has_shape : List ℕ → List ℕ → Bool
+has_shape shape g = (scan_of shape g).fits
 
 -- ---- printing
 
 -- an alternative with its number field filled in
 unfoldable pub filled : Pattern → Field → List ℕ
-filled a f = take (fieldStart a) a ++ (fieldText (fieldWidth a) f ++ drop (fieldStart a + fieldWidth a) a)
+filled a f = take (field_start a) a ++ (field_text (field_width a) f ++ drop (field_start a + field_width a) a)
 
-unfoldable pub printParts : List Part → List Value → List ℕ
-printParts [] vs = []
-printParts (p ∷ ps) [] = []
-printParts (p ∷ ps) (v ∷ vs) = filled (get_or p v.which []) v.field ++ printParts ps vs
+unfoldable pub print_parts : List Part → List Value → List ℕ
+print_parts [] vs = []
+print_parts (p ∷ ps) [] = []
+print_parts (p ∷ ps) (v ∷ vs) = filled (get_or p v.which []) v.field ++ print_parts ps vs
 
-unfoldable pub printOf : List ℕ → List Value → List ℕ
-printOf shape vs = printParts (parts_of shape) vs
+unfoldable pub print_of : List ℕ → List Value → List ℕ
+print_of shape vs = print_parts (parts_of shape) vs
 
 -- ---- the groups of a shape, and when a shape can be scanned
 
 -- every way to take one alternative of each part
-abbrev pub eachBefore : Pattern → List Pattern → List Pattern
-eachBefore a [] = []
-eachBefore a (c ∷ cs) = (a ++ c) ∷ eachBefore a cs
+abbrev pub each_before : Pattern → List Pattern → List Pattern
+each_before a [] = []
+each_before a (c ∷ cs) = (a ++ c) ∷ each_before a cs
 
-abbrev pub withEach : Part → List Pattern → List Pattern
-withEach [] cs = []
-withEach (a ∷ others) cs = eachBefore a cs ++ withEach others cs
+abbrev pub with_each : Part → List Pattern → List Pattern
+with_each [] cs = []
+with_each (a ∷ others) cs = each_before a cs ++ with_each others cs
 
 unfoldable pub spellings : List Part → List Pattern
 spellings [] = [] ∷ []
-spellings (p ∷ ps) = withEach p (spellings ps)
+spellings (p ∷ ps) = with_each p (spellings ps)
 
 -- nothing that fits the pattern x begins with e
 unfoldable pub unled : Pattern → Pattern → Bool
@@ -147,37 +147,37 @@ unled [] xs = false
 unled (e ∷ es) [] = true
 unled (e ∷ es) (x ∷ xs) = apart x e || unled es xs
 
-unfoldable pub unledEach : Pattern → List Pattern → Bool
-unledEach e [] = true
-unledEach e (x ∷ xs) = unled e x && unledEach e xs
+unfoldable pub unled_each : Pattern → List Pattern → Bool
+unled_each e [] = true
+unled_each e (x ∷ xs) = unled e x && unled_each e xs
 
 -- no group that takes a later alternative of a part begins with an earlier one
-abbrev pub clearPart : Part → List Pattern → Bool
-clearPart [] cs = true
-clearPart (a ∷ others) cs = unledEach a (withEach others cs) && clearPart others cs
+abbrev pub clear_part : Part → List Pattern → Bool
+clear_part [] cs = true
+clear_part (a ∷ others) cs = unled_each a (with_each others cs) && clear_part others cs
 
 unfoldable pub clear : List Part → Bool
 clear [] = true
-clear (p ∷ ps) = clearPart p (spellings ps) && clear ps
+clear (p ∷ ps) = clear_part p (spellings ps) && clear ps
 
 -- an alternative can be printed: a number field of at most 5 figures, and characters that stand for themselves before and after it
 abbrev pub plain : ℕ → Bool
 plain p = not (eqb p 35 || (eqb p 64 || (eqb p 63 || more p)))
 
 unfoldable pub printable : Pattern → Bool
-printable a = every plain (take (fieldStart a) a) && (leb (fieldWidth a) 5 && every plain (drop (fieldStart a + fieldWidth a) a))
+printable a = every plain (take (field_start a) a) && (leb (field_width a) 5 && every plain (drop (field_start a + field_width a) a))
 
-abbrev pub printableEach : Part → Bool
-printableEach [] = true
-printableEach (a ∷ others) = printable a && printableEach others
+abbrev pub printable_each : Part → Bool
+printable_each [] = true
+printable_each (a ∷ others) = printable a && printable_each others
 
-abbrev pub printableAll : List Part → Bool
-printableAll [] = true
-printableAll (p ∷ ps) = printableEach p && printableAll ps
+abbrev pub printable_all : List Part → Bool
+printable_all [] = true
+printable_all (p ∷ ps) = printable_each p && printable_all ps
 
 -- Computed from the shape alone: what is printed by it is scanned back.
 unfoldable pub sound : List ℕ → Bool
-sound shape = clear (parts_of shape) && (printableAll (parts_of shape) && leb (length (parts_of shape)) 8)
+sound shape = clear (parts_of shape) && (printable_all (parts_of shape) && leb (length (parts_of shape)) 8)
 
 -- The values that a shape prints and scans back: an alternative that is there, and its number field, or none where it has none.
 abbrev pub FieldOf : ℕ → Field → Type 0
@@ -188,8 +188,8 @@ abbrev pub Sayable : List Part → List Value → Type 0
 Sayable [] [] = Unit {0}
 Sayable [] (v ∷ vs) = ⊥
 Sayable (p ∷ ps) [] = ⊥
-Sayable (p ∷ ps) (v ∷ vs) = ((ltb v.which (length p) ≡ true) × FieldOf (fieldWidth (get_or p v.which [])) v.field) × Sayable ps vs
+Sayable (p ∷ ps) (v ∷ vs) = ((ltb v.which (length p) ≡ true) × FieldOf (field_width (get_or p v.which [])) v.field) × Sayable ps vs
 
 -- no group has both shapes
-unfoldable pub shapesApart : List ℕ → List ℕ → Bool
-shapesApart s t = allApart (spellings (parts_of s)) (spellings (parts_of t))
+unfoldable pub shapes_apart : List ℕ → List ℕ → Bool
+shapes_apart s t = all_apart (spellings (parts_of s)) (spellings (parts_of t))

@@ -6,7 +6,7 @@ pub mod print;
 pub mod scan;
 
 ghost use Rattle.std.specs.Prelude.{◌≡◌};
-ghost use Rattle.shapes.specs.Pattern.{low, high, fits, hasPattern};
+ghost use Rattle.shapes.specs.Pattern.{low, high, fits, has_pattern};
 
 // The least and the greatest byte that may stand where a pattern has p.
 fn lowest(p: u8) -> u8
@@ -42,7 +42,7 @@ fn fits_at(p: u8, b: u8) -> bool
 
 // The whole group fits the pattern.
 pub fn has_pattern(g: &[u8], pattern: &[u8]) -> bool
-    ensures { result ≡ hasPattern g.now pattern.now }
+    ensures { result ≡ has_pattern g.now pattern.now }
 {
     let mut i = 0;
     while i < pattern.len() {

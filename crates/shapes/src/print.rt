@@ -1,7 +1,7 @@
 // The printer: a group put together by its shape.
 ghost use Rattle.std.specs.Prelude.{◌≡◌, [], ◌≤◌, length, get_or};
 ghost use Rattle.figures.specs.Put.{Put};
-ghost use Rattle.shapes.specs.Shape.{up_to, runLength, split, filled, printOf};
+ghost use Rattle.shapes.specs.Shape.{up_to, run_length, split, filled, print_of};
 
 use crate::kinds::Value;
 use figures::kinds::Field;
@@ -22,7 +22,7 @@ fn up_to(s: &[u8], c: u8) -> usize
 
 // How many '#' the pattern begins with.
 fn run_length(pattern: &[u8]) -> usize
-    ensures { (result ≡ runLength pattern.now) × (result ≤ length pattern.now) }
+    ensures { (result ≡ run_length pattern.now) × (result ≤ length pattern.now) }
 {
     let mut i = 0;
     while i < pattern.len() {
@@ -68,7 +68,7 @@ fn put_filled(out: &mut [u8], at: usize, a: &[u8], f: Field) -> usize
 
 // The group that says the values at the parts of the shape, put over out from `at`.
 pub fn put_shape(out: &mut [u8], at: usize, shape: &[u8], values: [Value; 8]) -> usize
-    ensures { Put out.old at (printOf shape.now values) result out.new }
+    ensures { Put out.old at (print_of shape.now values) result out.new }
 {
     let mut next = at;
     let mut from = 0;

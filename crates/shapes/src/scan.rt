@@ -4,7 +4,7 @@
 ghost use Rattle.std.specs.Prelude.{◌≡◌, cond, ◌∷◌, [], ◌+◌, length, drop};
 ghost use Rattle.figures.specs.Figures.{field_at};
 ghost use Rattle.figures.specs.declared.kinds.Field.TheVariants.{Other};
-ghost use Rattle.shapes.specs.Shape.{begins, blankValue, stepTo, scanEnd, padded};
+ghost use Rattle.shapes.specs.Shape.{begins, blank_value, step_to, scan_end, padded};
 
 use crate::kinds::{Scan, Step, Value};
 use figures::kinds::Field;
@@ -40,14 +40,14 @@ pub fn rest_from(g: &[u8], at: usize) -> &[u8]
 
 // None of a part's alternatives is there.
 pub fn absent(g: &[u8]) -> Step
-    ensures { result ≡ stepTo 0 Other (length g.now + 1) }
+    ensures { result ≡ step_to 0 Other (length g.now + 1) }
 {
     nothing(0, g.len() + 1)
 }
 
 // A part's last alternative, number `which`, is nothing, which is always there.
 pub fn nothing(which: usize, at: usize) -> Step
-    ensures { result ≡ stepTo which Other at }
+    ensures { result ≡ step_to which Other at }
 {
     let field = Field::Other;
     let value = Value { which, field };
@@ -56,7 +56,7 @@ pub fn nothing(which: usize, at: usize) -> Step
 
 // Alternative number `which`, a word, if the group has it there.
 pub fn word_or(g: &[u8], at: usize, which: usize, a: &[u8], otherwise: Step) -> Step
-    ensures { result ≡ cond (begins a.now (drop at g.now)) (stepTo which Other (at + length a.now)) otherwise }
+    ensures { result ≡ cond (begins a.now (drop at g.now)) (step_to which Other (at + length a.now)) otherwise }
 {
     if begins_with(rest_from(g, at), a) {
         nothing(which, at + a.len())
@@ -75,7 +75,7 @@ pub fn figures_or(
     width: usize,
     otherwise: Step,
 ) -> Step
-    ensures { result ≡ cond (begins a.now (drop at g.now)) (stepTo which (field_at (drop at g.now) lead width) (at + length a.now)) otherwise }
+    ensures { result ≡ cond (begins a.now (drop at g.now)) (step_to which (field_at (drop at g.now) lead width) (at + length a.now)) otherwise }
 {
     let rest = rest_from(g, at);
     if begins_with(rest, a) {
@@ -92,7 +92,7 @@ pub fn figures_or(
 
 // What is said at a part that is not there.
 fn blank() -> Value
-    ensures { result ≡ blankValue }
+    ensures { result ≡ blank_value }
 {
     let field = Field::Other;
     Value { which: 0, field }
@@ -100,7 +100,7 @@ fn blank() -> Value
 
 // The scan of a group whose parts, up to six, say what these steps do and lead to the position `past`: it has the shape just where that is its end.
 pub fn scanned(g: &[u8], past: usize, a: Step, b: Step, c: Step, d: Step, e: Step, f: Step) -> Scan
-    ensures { result ≡ scanEnd past (length g.now) (padded (a.value ∷ b.value ∷ c.value ∷ d.value ∷ e.value ∷ f.value ∷ [])) }
+    ensures { result ≡ scan_end past (length g.now) (padded (a.value ∷ b.value ∷ c.value ∷ d.value ∷ e.value ∷ f.value ∷ [])) }
 {
     let none = blank();
     if past == g.len() {

@@ -11,12 +11,12 @@ use Rattle.record.specs.declared.aerodrome.Cover.{Cover}
 use Rattle.record.specs.declared.aerodrome.Cover.TheVariants as cover
 use Rattle.record.specs.declared.aerodrome.Sky.{Sky}
 use Rattle.record.proofs.Near.{NumberDown, number-down}
-use Rattle.elements.specs.Sky.{writtenHeight, classLayer, classCover, classSky}
+use Rattle.elements.specs.Sky.{written_height, class_layer, class_cover, class_sky}
 
 -- ---- how far off
 
 -- a height in metres and its reading
-pub height-read : (h : Number) → NumberDown cloud h (writtenHeight h)
+pub height-read : (h : Number) → NumberDown cloud h (written_height h)
 height-read = number-down cloud-laws
 
 -- ---- the sky that is read back
@@ -42,16 +42,16 @@ pub record SkyBack (s q : Sky) : Type 0 where
   pub layers : LayersBack s.layers q.layers
   pub count : q.count ≡ s.count
 
-cover-read : (c : Cover) → CoverBack c (classCover c)
+cover-read : (c : Cover) → CoverBack c (class_cover c)
 cover-read cover.Layers = layers
 cover-read cover.Clear = clear
 cover-read cover.NoneSignificant = none-significant
 cover-read cover.NoneDetected = none-detected
 cover-read (cover.Vertical h) = vertical (height-read h)
 
-layers-read : (ls : List Layer) → LayersBack ls (map classLayer ls)
+layers-read : (ls : List Layer) → LayersBack ls (map class_layer ls)
 layers-read [] = none
 layers-read (l ∷ ls) = one_more (record { amount = refl; height = height-read l.height; convective = refl }) (layers-read ls)
 
-pub sky-read : (s : Sky) → SkyBack s (classSky s)
+pub sky-read : (s : Sky) → SkyBack s (class_sky s)
 sky-read s = record { cover = cover-read s.cover; layers = layers-read s.layers; count = refl }

@@ -20,35 +20,35 @@ use Rattle.elements.specs.declared.kinds.LayerRead.{LayerRead}
 use Rattle.elements.specs.declared.kinds.LayerRead.TheVariants as layer
 use Rattle.elements.specs.declared.kinds.CoverRead.{CoverRead}
 use Rattle.elements.specs.declared.kinds.CoverRead.TheVariants as cover
-use Rattle.elements.specs.Answers.{asLayer, asCover}
-use Rattle.elements.specs.Sky.{layerBy, notAbove, rises}
+use Rattle.elements.specs.Answers.{as_layer, as_cover}
+use Rattle.elements.specs.Sky.{layer_by, not_above, rises}
 use Rattle.sky.specs.declared.read.HeightRead.{HeightRead}
 use Rattle.sky.specs.declared.read.HeightRead.TheVariants as height
-use Rattle.sky.specs.Answers.{asHeight}
+use Rattle.sky.specs.Answers.{as_height}
 
 -- ---- x, answered as r
 
-pub height-good : (x : Read Number) {r : HeightRead} {n : Number} → r ≡ asHeight x → r ≡ height.Good n → x ≡ Good n
+pub height-good : (x : Read Number) {r : HeightRead} {n : Number} → r ≡ as_height x → r ≡ height.Good n → x ≡ Good n
 height-good (Good m) {n = n} e i = let j : m ≡ n = cc in ap Good j
 height-good (Bad f) e i = impossible (cc)
 
-pub height-bad : (x : Read Number) {r : HeightRead} {f : Refusal} → r ≡ asHeight x → r ≡ height.Bad f → x ≡ Bad f
+pub height-bad : (x : Read Number) {r : HeightRead} {f : Refusal} → r ≡ as_height x → r ≡ height.Bad f → x ≡ Bad f
 height-bad (Good m) e i = impossible (cc)
 height-bad (Bad g) {f = f} e i = let j : g ≡ f = cc in ap Bad j
 
-pub layer-good : (x : Read Layer) {r : LayerRead} {l : Layer} → r ≡ asLayer x → r ≡ layer.Good l → x ≡ Good l
+pub layer-good : (x : Read Layer) {r : LayerRead} {l : Layer} → r ≡ as_layer x → r ≡ layer.Good l → x ≡ Good l
 layer-good (Good m) {l = l} e i = let j : m ≡ l = cc in ap Good j
 layer-good (Bad f) e i = impossible (cc)
 
-pub layer-bad : (x : Read Layer) {r : LayerRead} {f : Refusal} → r ≡ asLayer x → r ≡ layer.Bad f → x ≡ Bad f
+pub layer-bad : (x : Read Layer) {r : LayerRead} {f : Refusal} → r ≡ as_layer x → r ≡ layer.Bad f → x ≡ Bad f
 layer-bad (Good m) e i = impossible (cc)
 layer-bad (Bad g) {f = f} e i = let j : g ≡ f = cc in ap Bad j
 
-pub cover-good : (x : Read Cover) {r : CoverRead} {c : Cover} → r ≡ asCover x → r ≡ cover.Good c → x ≡ Good c
+pub cover-good : (x : Read Cover) {r : CoverRead} {c : Cover} → r ≡ as_cover x → r ≡ cover.Good c → x ≡ Good c
 cover-good (Good m) {c = c} e i = let j : m ≡ c = cc in ap Good j
 cover-good (Bad f) e i = impossible (cc)
 
-pub cover-bad : (x : Read Cover) {r : CoverRead} {f : Refusal} → r ≡ asCover x → r ≡ cover.Bad f → x ≡ Bad f
+pub cover-bad : (x : Read Cover) {r : CoverRead} {f : Refusal} → r ≡ as_cover x → r ≡ cover.Bad f → x ≡ Bad f
 cover-bad (Good m) e i = impossible (cc)
 cover-bad (Bad g) {f = f} e i = let j : g ≡ f = cc in ap Bad j
 
@@ -62,7 +62,7 @@ any-default (a ∷ l) (suc i) d e h = any-default l i d e (omega arith)
 
 -- the layer of three parts that are there
 pub parts-there : (forecast : Bool) (vs : List Value) (d e : Value) → 2 < length vs
-    → asLayer (layerBy forecast (get_or vs 0 d) (get_or vs 1 d) (get_or vs 2 d)) ≡ asLayer (layerBy forecast (get_or vs 0 e) (get_or vs 1 e) (get_or vs 2 e))
+    → as_layer (layer_by forecast (get_or vs 0 d) (get_or vs 1 d) (get_or vs 2 d)) ≡ as_layer (layer_by forecast (get_or vs 0 e) (get_or vs 1 e) (get_or vs 2 e))
 parts-there forecast vs d e h =
     rw (any-default vs 0 d e (omega arith), any-default vs 1 d e (omega arith), any-default vs 2 d e (omega arith))
 
@@ -77,11 +77,11 @@ past_all l k i h =
 -- ---- the heights of the first k layers, from number i on
 
 module _ (layers : List Layer) (k i : ℕ) (h : Number) where
-  pub rises_next : (d : Layer) → i < k → i < length layers → notAbove (get_or layers i d).height h ≡ true
+  pub rises_next : (d : Layer) → i < k → i < length layers → not_above (get_or layers i d).height h ≡ true
       → rises (drop i (take k layers)) h ≡ rises (drop (i + 1) (take k layers)) h
   rises_next d m j e = rw (next_of layers k i d m j, e)
 
-  pub rises-stop : (d : Layer) → i < k → i < length layers → notAbove (get_or layers i d).height h ≡ false → rises (drop i (take k layers)) h ≡ false
+  pub rises-stop : (d : Layer) → i < k → i < length layers → not_above (get_or layers i d).height h ≡ false → rises (drop i (take k layers)) h ≡ false
   rises-stop d m j e = rw (next_of layers k i d m j, e)
 
   pub rises-end : (k ≤ i) ⊎ (length layers ≤ i) → rises (drop i (take k layers)) h ≡ true

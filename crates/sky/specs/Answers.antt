@@ -7,14 +7,14 @@ use Rattle.record.specs.declared.values.Number.{Number}
 use Rattle.record.specs.declared.aerodrome.Cover.{Cover}
 use Rattle.record.specs.declared.aerodrome.Cover.TheVariants as cover
 use Rattle.elements.specs.Parts.{then}
-use Rattle.elements.specs.Sky.{heightOf}
+use Rattle.elements.specs.Sky.{height_of}
 use Rattle.sky.specs.declared.read.HeightRead.{HeightRead}
 use Rattle.sky.specs.declared.read.HeightRead.TheVariants as height
 
-abbrev pub asHeight : Read Number → HeightRead
-asHeight (Good x) = height.Good x
-asHeight (Bad f) = height.Bad f
+abbrev pub as_height : Read Number → HeightRead
+as_height (Good x) = height.Good x
+as_height (Bad f) = height.Bad f
 
 -- the vertical visibility that a number field says
-abbrev pub verticalBy : Bool → Field → Read Cover
-verticalBy forecast f = then (heightOf forecast f) (λ h. Good (cover.Vertical h))
+abbrev pub vertical_by : Bool → Field → Read Cover
+vertical_by forecast f = then (height_of forecast f) (λ h. Good (cover.Vertical h))

@@ -4,6 +4,6 @@ use Rattle.record.specs.declared.values.Number.{Number}
 use Rattle.record.specs.declared.values.Number.TheVariants as number
 
 -- the last height so far, missing ones passed over: the greatest, where heights rise
-abbrev pub lastHeight : Number → Number → Number
-lastHeight before number.Missing = before
-lastHeight before (number.Is m) = number.Is m
+abbrev pub last_height : Number → Number → Number
+last_height before number.Missing = before
+last_height before (number.Is m) = number.Is m

@@ -2,9 +2,9 @@
 // agreement (refusal 7).
 ghost use Rattle.std.specs.Prelude.{◌≡◌, not, ◌&&◌, [], take};
 ghost use Rattle.text.specs.Judge.{judge};
-ghost use Rattle.elements.specs.Judge.{metresFit};
-ghost use Rattle.elements.specs.Sky.{notAbove, coverFits, judgeCover, hasAmount, writtenHeight, judgeLayers, judgeSky};
-ghost use Rattle.sky.specs.Judge.{lastHeight};
+ghost use Rattle.elements.specs.Judge.{metres_fit};
+ghost use Rattle.elements.specs.Sky.{not_above, cover_fits, judge_cover, has_amount, written_height, judge_layers, judge_sky};
+ghost use Rattle.sky.specs.Judge.{last_height};
 
 use crate::read::not_above;
 use crate::write::cloud_number;
@@ -17,7 +17,7 @@ use text::judge::{and_then, judge};
 use text::kinds::Judged;
 
 fn cover_fits(forecast: bool, c: Cover) -> bool
-    ensures { result ≡ coverFits forecast c }
+    ensures { result ≡ cover_fits forecast c }
 {
     match c {
         Cover::Layers => true,
@@ -29,14 +29,14 @@ fn cover_fits(forecast: bool, c: Cover) -> bool
 }
 
 fn judge_cover(forecast: bool, cavok: bool, c: Cover) -> Judged
-    ensures { result ≡ judgeCover forecast cavok c }
+    ensures { result ≡ judge_cover forecast cavok c }
 {
     judge(cover_fits(forecast, c), !cavok | c.is_layers())
 }
 
 // A height as it would be read back.
 fn written_height(h: Number) -> Number
-    ensures { result ≡ writtenHeight h }
+    ensures { result ≡ written_height h }
 {
     match h {
         Number::Missing => Number::Missing,
@@ -52,7 +52,7 @@ fn written_height(h: Number) -> Number
 
 // A layer whose height would be written as `height`, where the last height before it is `last`.
 fn judge_layer(forecast: bool, beside: bool, last: Number, l: Layer, height: Number) -> Judged
-    ensures { result ≡ judge (hasAmount l.amount && metresFit forecast l.height) (not beside && notAbove last height) }
+    ensures { result ≡ judge (has_amount l.amount && metres_fit forecast l.height) (not beside && not_above last height) }
 {
     let a = l.amount;
     let h = l.height;
@@ -64,7 +64,7 @@ fn judge_layer(forecast: bool, beside: bool, last: Number, l: Layer, height: Num
 
 // The last height so far, missing ones passed over.
 fn last_height(before: Number, h: Number) -> Number
-    ensures { result ≡ lastHeight before h }
+    ensures { result ≡ last_height before h }
 {
     match h {
         Number::Missing => before,
@@ -74,7 +74,7 @@ fn last_height(before: Number, h: Number) -> Number
 
 // The first `count` layers: as heights rise, the last one so far is the greatest.
 fn judge_layers(forecast: bool, beside: bool, layers: [Layer; 4], count: usize) -> Judged
-    ensures { result ≡ judgeLayers forecast beside [] (take count layers) }
+    ensures { result ≡ judge_layers forecast beside [] (take count layers) }
 {
     let mut last = Number::Missing;
     let mut i = 0;
@@ -96,7 +96,7 @@ fn judge_layers(forecast: bool, beside: bool, layers: [Layer; 4], count: usize) 
 }
 
 pub fn judge_sky(forecast: bool, cavok: bool, s: Sky) -> Judged
-    ensures { result ≡ judgeSky forecast cavok s }
+    ensures { result ≡ judge_sky forecast cavok s }
 {
     let c = s.cover;
     let layers = s.layers;

@@ -1,11 +1,11 @@
 // A sky group read beside the sky that the groups before it gave.
 ghost use Rattle.std.specs.Prelude.{◌≡◌, get_or, take};
-ghost use Rattle.shapes.specs.Pattern.{hasAny};
-ghost use Rattle.shapes.specs.Shape.{hasShape, scanOf, blankValue};
+ghost use Rattle.shapes.specs.Pattern.{has_any};
+ghost use Rattle.shapes.specs.Shape.{has_shape, scan_of, blank_value};
 ghost use Rattle.places.specs.Engine.{Good};
-ghost use Rattle.elements.specs.Answers.{asLayer, asCover, layerSaid, aloneSaid, skySaid};
-ghost use Rattle.elements.specs.Sky.{layerShape, aloneShapes, hasSky, heightOf, amountOf, convectiveOf, layerBy, readAlone, notAbove, rises, addLayer};
-ghost use Rattle.sky.specs.Answers.{asHeight, verticalBy};
+ghost use Rattle.elements.specs.Answers.{as_layer, as_cover, layer_said, alone_said, sky_said};
+ghost use Rattle.elements.specs.Sky.{layer_shape, alone_shapes, has_sky, height_of, amount_of, convective_of, layer_by, read_alone, not_above, rises, add_layer};
+ghost use Rattle.sky.specs.Answers.{as_height, vertical_by};
 
 use elements::kinds::{CoverRead, LayerRead, Said};
 use figures::field;
@@ -28,7 +28,7 @@ enum HeightRead {
 
 // FEW, SCT, BKN or OVC, hhh, and CB or TCU or nothing: by code made for the shape.
 fn scan_layer(g: &[u8]) -> Scan
-    ensures { result ≡ scanOf layerShape g.now }
+    ensures { result ≡ scan_of layer_shape g.now }
 {
     let none = absent(g);
     let overcast = word_or(g, 0, 3, b"OVC", none);
@@ -54,28 +54,28 @@ fn scan_layer(g: &[u8]) -> Scan
 
 // The same as a test.
 fn is_layer(g: &[u8]) -> bool
-    ensures { result ≡ hasShape layerShape g.now }
+    ensures { result ≡ has_shape layer_shape g.now }
 {
     let s = scan_layer(g);
     s.fits
 }
 
 fn stands_alone(g: &[u8]) -> bool
-    ensures { result ≡ hasAny aloneShapes g.now }
+    ensures { result ≡ has_any alone_shapes g.now }
 {
     has_pattern(g, b"SKC")
         | (has_pattern(g, b"NSC") | (has_pattern(g, b"NCD") | has_pattern(g, b"VV###")))
 }
 
 pub fn has_sky(g: &[u8]) -> bool
-    ensures { result ≡ hasSky g.now }
+    ensures { result ≡ has_sky g.now }
 {
     is_layer(g) | stands_alone(g)
 }
 
 // hhh, by table 1690; in a TAF a height is not missing.
 fn height_of(forecast: bool, f: Field) -> HeightRead
-    ensures { result ≡ asHeight (heightOf forecast f) }
+    ensures { result ≡ as_height (height_of forecast f) }
 {
     match f {
         Field::Number(n) => {
@@ -98,7 +98,7 @@ fn height_of(forecast: bool, f: Field) -> HeightRead
 }
 
 fn amount_of(which: usize) -> Amount
-    ensures { result ≡ amountOf which }
+    ensures { result ≡ amount_of which }
 {
     if which == 0 {
         Amount::Few
@@ -112,7 +112,7 @@ fn amount_of(which: usize) -> Amount
 }
 
 fn convective_of(which: usize) -> Convective
-    ensures { result ≡ convectiveOf which }
+    ensures { result ≡ convective_of which }
 {
     if which == 0 {
         Convective::Cumulonimbus
@@ -125,7 +125,7 @@ fn convective_of(which: usize) -> Convective
 
 // The layer that a group's three parts say.
 fn layer_by(forecast: bool, amount: Value, height: Value, convective: Value) -> LayerRead
-    ensures { result ≡ asLayer (layerBy forecast amount height convective) }
+    ensures { result ≡ as_layer (layer_by forecast amount height convective) }
 {
     let a = amount_of(amount.which);
     let c = convective_of(convective.which);
@@ -143,14 +143,14 @@ fn layer_by(forecast: bool, amount: Value, height: Value, convective: Value) -> 
 
 // The layer of a group that was scanned by the shape of a layer.
 fn read_layer(forecast: bool, values: [Value; 8]) -> LayerRead
-    ensures { result ≡ asLayer (layerBy forecast (get_or values 0 blankValue) (get_or values 1 blankValue) (get_or values 2 blankValue)) }
+    ensures { result ≡ as_layer (layer_by forecast (get_or values 0 blank_value) (get_or values 1 blank_value) (get_or values 2 blank_value)) }
 {
     layer_by(forecast, values[0], values[1], values[2])
 }
 
 // VVhhh
 fn read_vertical(forecast: bool, f: Field) -> CoverRead
-    ensures { result ≡ asCover (verticalBy forecast f) }
+    ensures { result ≡ as_cover (vertical_by forecast f) }
 {
     let h = height_of(forecast, f);
     match h {
@@ -160,7 +160,7 @@ fn read_vertical(forecast: bool, f: Field) -> CoverRead
 }
 
 fn read_alone(forecast: bool, g: &[u8]) -> CoverRead
-    ensures { result ≡ asCover (readAlone forecast g.now) }
+    ensures { result ≡ as_cover (read_alone forecast g.now) }
 {
     if has_pattern(g, b"SKC") {
         CoverRead::Good(Cover::Clear)
@@ -175,7 +175,7 @@ fn read_alone(forecast: bool, g: &[u8]) -> CoverRead
 
 // A missing height is above none and below none.
 pub fn not_above(a: Number, b: Number) -> bool
-    ensures { result ≡ notAbove a b }
+    ensures { result ≡ not_above a b }
 {
     match a {
         Number::Missing => true,
@@ -208,7 +208,7 @@ fn rises(layers: [Layer; 4], k: usize, h: Number) -> bool
 
 // One more layer where k stand; past the fourth there is no room.
 pub fn add_layer(k: usize, s: Sky, l: Layer) -> Sky
-    ensures { result ≡ addLayer k s l }
+    ensures { result ≡ add_layer k s l }
 {
     if k < 4 {
         let mut layers = s.layers;
@@ -225,7 +225,7 @@ pub fn add_layer(k: usize, s: Sky, l: Layer) -> Sky
 
 // A layer, where it agrees with what stands already: CAVOK stands for the clouds, what stands alone for the layers, and heights rise.
 fn say_layer(cavok: bool, k: usize, s: Sky, l: Layer) -> Said
-    ensures { result ≡ layerSaid cavok k s (Good l) }
+    ensures { result ≡ layer_said cavok k s (Good l) }
 {
     let c = s.cover;
     let layers = s.layers;
@@ -238,7 +238,7 @@ fn say_layer(cavok: bool, k: usize, s: Sky, l: Layer) -> Said
 }
 
 fn read_as_layer(forecast: bool, cavok: bool, k: usize, scanned: Scan, s: Sky) -> Said
-    ensures { result ≡ layerSaid cavok k s (layerBy forecast (get_or scanned.values 0 blankValue) (get_or scanned.values 1 blankValue) (get_or scanned.values 2 blankValue)) }
+    ensures { result ≡ layer_said cavok k s (layer_by forecast (get_or scanned.values 0 blank_value) (get_or scanned.values 1 blank_value) (get_or scanned.values 2 blank_value)) }
 {
     let values = scanned.values;
     let read = read_layer(forecast, values);
@@ -250,7 +250,7 @@ fn read_as_layer(forecast: bool, cavok: bool, k: usize, scanned: Scan, s: Sky) -
 
 // What stands alone, where nothing stands already.
 fn read_as_alone(forecast: bool, cavok: bool, k: usize, g: &[u8]) -> Said
-    ensures { result ≡ aloneSaid cavok k (readAlone forecast g.now) }
+    ensures { result ≡ alone_said cavok k (read_alone forecast g.now) }
 {
     let read = read_alone(forecast, g);
     match read {
@@ -267,7 +267,7 @@ fn read_as_alone(forecast: bool, cavok: bool, k: usize, g: &[u8]) -> Said
 
 // What the group says beside the sky that the groups before it gave, k of them.
 pub fn read_sky(forecast: bool, cavok: bool, k: usize, g: &[u8], s: Sky) -> Said
-    ensures { result ≡ skySaid forecast cavok k g.now s }
+    ensures { result ≡ sky_said forecast cavok k g.now s }
 {
     let scanned = scan_layer(g);
     if scanned.fits {

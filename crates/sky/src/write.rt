@@ -1,14 +1,14 @@
 // How a sky is written over a lent buffer: each group with what parts it from the group before it. Every function answers the position after
 // its text.
 ghost use Rattle.std.specs.Prelude.{◌≡◌, ◌∷◌, [], ◌++◌, map, take};
-ghost use Rattle.figures.specs.Figures.{fieldText};
+ghost use Rattle.figures.specs.Figures.{field_text};
 ghost use Rattle.figures.specs.Put.{Put};
 ghost use Rattle.figures.specs.Quote.{bytes};
-ghost use Rattle.scales.specs.Scale.{figureOf};
+ghost use Rattle.scales.specs.Scale.{figure_of};
 ghost use Rattle.scales.specs.Metres.{cloud};
 ghost use Rattle.text.specs.Groups.{written};
 ghost use Rattle.elements.specs.Wind.{chosen};
-ghost use Rattle.elements.specs.Sky.{heightField, amountValue, convectiveValue, showLayer, coverGroups, showSky};
+ghost use Rattle.elements.specs.Sky.{height_field, amount_value, convective_value, show_layer, cover_groups, show_sky};
 
 use figures::kinds::Field;
 use figures::put::{put_field, put_text};
@@ -22,7 +22,7 @@ use text::write::open_group;
 
 // The figure of a height; the last class is open above.
 pub fn cloud_number(metres: u32) -> u32
-    ensures { result ≡ figureOf cloud metres }
+    ensures { result ≡ figure_of cloud metres }
 {
     let f = cloud_figure(metres);
     match f {
@@ -32,7 +32,7 @@ pub fn cloud_number(metres: u32) -> u32
 }
 
 fn height_field(h: Number) -> Field
-    ensures { result ≡ heightField h }
+    ensures { result ≡ height_field h }
 {
     match h {
         Number::Missing => Field::Missing,
@@ -49,7 +49,7 @@ fn chosen(which: usize) -> Value
 }
 
 fn amount_value(a: Amount) -> Value
-    ensures { result ≡ amountValue a }
+    ensures { result ≡ amount_value a }
 {
     match a {
         Amount::None => chosen(4),
@@ -61,7 +61,7 @@ fn amount_value(a: Amount) -> Value
 }
 
 fn convective_value(c: Convective) -> Value
-    ensures { result ≡ convectiveValue c }
+    ensures { result ≡ convective_value c }
 {
     match c {
         Convective::None => chosen(2),
@@ -72,7 +72,7 @@ fn convective_value(c: Convective) -> Value
 
 // Amount, hhh, and CB or TCU or nothing.
 fn put_layer(out: &mut [u8], at: usize, l: Layer) -> usize
-    ensures { Put out.old at (written at (showLayer l ∷ [])) result out.new }
+    ensures { Put out.old at (written at (show_layer l ∷ [])) result out.new }
 {
     let a = l.amount;
     let h = l.height;
@@ -88,7 +88,7 @@ fn put_layer(out: &mut [u8], at: usize, l: Layer) -> usize
 
 // The first `count` layers.
 fn put_layers(out: &mut [u8], at: usize, layers: [Layer; 4], count: usize) -> usize
-    ensures { Put out.old at (written at (map showLayer (take count layers))) result out.new }
+    ensures { Put out.old at (written at (map show_layer (take count layers))) result out.new }
 {
     let mut next = at;
     let mut i = 0;
@@ -113,7 +113,7 @@ fn put_word(out: &mut [u8], at: usize, word: &[u8]) -> usize
 
 // VVhhh
 fn put_vertical(out: &mut [u8], at: usize, h: Number) -> usize
-    ensures { Put out.old at (written at ((bytes "VV" ++ fieldText 3 (heightField h)) ∷ [])) result out.new }
+    ensures { Put out.old at (written at ((bytes "VV" ++ field_text 3 (height_field h)) ∷ [])) result out.new }
 {
     let opened = open_group(out, at);
     let begun = put_text(out, opened, b"VV");
@@ -122,7 +122,7 @@ fn put_vertical(out: &mut [u8], at: usize, h: Number) -> usize
 
 // What stands in the place of layers.
 fn put_cover(out: &mut [u8], at: usize, c: Cover) -> usize
-    ensures { Put out.old at (written at (coverGroups c)) result out.new }
+    ensures { Put out.old at (written at (cover_groups c)) result out.new }
 {
     match c {
         Cover::Layers => at,
@@ -134,7 +134,7 @@ fn put_cover(out: &mut [u8], at: usize, c: Cover) -> usize
 }
 
 pub fn put_sky(out: &mut [u8], at: usize, s: Sky) -> usize
-    ensures { Put out.old at (written at (showSky s)) result out.new }
+    ensures { Put out.old at (written at (show_sky s)) result out.new }
 {
     let c = s.cover;
     let layers = s.layers;

@@ -8,7 +8,7 @@ use mathlib.Core.List.{List, [], ◌∷◌}
 use lib.Dec.{eqb}
 use borrow.Author.Tests.{eqb-true, eqb-false, ne_eqb}
 use Rattle.figures.proofs.Impossible.{impossible}
-use Rattle.places.specs.Engine.{Group, Read, Good, Bad, then, Place, nowhere, placeAt}
+use Rattle.places.specs.Engine.{Group, Read, Good, Bad, then, Place, nowhere, place_at}
 use Rattle.sources.proofs.Rows.{Item}
 
 -- of one and then of the others
@@ -75,29 +75,29 @@ module _ {R : Type 0} (fs : Fields) (fields : R → Tuple fs) where
   pub only-put : (j : ℕ) (a a' : R) (x : TypeAt fs j) → fields a' ≡ put fs j x (fields a) → Only j a a'
   only-put j a a' x is m o = rw is (look-put fs m j x (fields a) o)
 
-  module _ (row : List (Place R)) (only : (j n : ℕ) (g : Group) (a a' : R) → (placeAt row j).read n g a ≡ Good a' → Only j a a') where
+  module _ (row : List (Place R)) (only : (j n : ℕ) (g : Group) (a a' : R) → (place_at row j).read n g a ≡ Good a' → Only j a a') where
     -- an item where several groups may stand
     pub listed-item : {A : Type 0} {missing : A} (i k : ℕ) (get : TypeAt fs i → A) (says : Group → A → Type 0) (fair : TypeAt fs i → Type 0)
-        → ((g : Group) (a a' : R) → fair (look fs i (fields a)) → (placeAt row i).read k g a ≡ Good a' → says g (get (look fs i (fields a'))))
-        → ((n : ℕ) (g : Group) (a a' : R) → n < (placeAt row i).most → eqb k n ≡ false → fair (look fs i (fields a)) → (placeAt row i).read n g a ≡ Good a'
+        → ((g : Group) (a a' : R) → fair (look fs i (fields a)) → (place_at row i).read k g a ≡ Good a' → says g (get (look fs i (fields a'))))
+        → ((n : ℕ) (g : Group) (a a' : R) → n < (place_at row i).most → eqb k n ≡ false → fair (look fs i (fields a)) → (place_at row i).read n g a ≡ Good a'
         → get (look fs i (fields a')) ≡ get (look fs i (fields a)))
-        → ((n : ℕ) (g : Group) (a a' : R) → fair (look fs i (fields a)) → (placeAt row i).read n g a ≡ Good a' → fair (look fs i (fields a')))
+        → ((n : ℕ) (g : Group) (a a' : R) → fair (look fs i (fields a)) → (place_at row i).read n g a ≡ Good a' → fair (look fs i (fields a')))
         → Item row i k (λ r. get (look fs i (fields r))) says (λ r. fair (look fs i (fields r))) missing
     listed-item i k get says fair tells others stays =
         record { tells = tells; kept = λ j n g a a' few o before f e. kept j n g a a' few (eqb i j) refl o f e; stays = λ j n g a a' f e. still j n g a a' (eqb i j) refl f e }
       where
-        kept : (j n : ℕ) (g : Group) (a a' : R) → n < (placeAt row j).most → (b : Bool) → eqb i j ≡ b → (b && eqb k n) ≡ false → fair (look fs i (fields a))
-            → (placeAt row j).read n g a ≡ Good a' → get (look fs i (fields a')) ≡ get (look fs i (fields a))
+        kept : (j n : ℕ) (g : Group) (a a' : R) → n < (place_at row j).most → (b : Bool) → eqb i j ≡ b → (b && eqb k n) ≡ false → fair (look fs i (fields a))
+            → (place_at row j).read n g a ≡ Good a' → get (look fs i (fields a')) ≡ get (look fs i (fields a))
         kept j n g a a' few true is o f e = let same : j ≡ i = sym (eqb-true i j is) in others n g a a' (rw (← same) few) o f (rw (← same) e)
         kept j n g a a' few false is o f e = ap get (only j n g a a' e i is)
 
-        still : (j n : ℕ) (g : Group) (a a' : R) (b : Bool) → eqb i j ≡ b → fair (look fs i (fields a)) → (placeAt row j).read n g a ≡ Good a' → fair (look fs i (fields a'))
+        still : (j n : ℕ) (g : Group) (a a' : R) (b : Bool) → eqb i j ≡ b → fair (look fs i (fields a)) → (place_at row j).read n g a ≡ Good a' → fair (look fs i (fields a'))
         still j n g a a' true is f e = let same : j ≡ i = sym (eqb-true i j is) in stays n g a a' f (rw (← same) e)
         still j n g a a' false is f e = subst fair (sym (only j n g a a' e i is)) f
 
     -- one where one group may stand
-    pub single-item : {A : Type 0} {missing : A} (i : ℕ) (get : TypeAt fs i → A) (says : Group → A → Type 0) → (placeAt row i).most ≡ 1
-        → ((g : Group) (a a' : R) → (placeAt row i).read 0 g a ≡ Good a' → says g (get (look fs i (fields a'))))
+    pub single-item : {A : Type 0} {missing : A} (i : ℕ) (get : TypeAt fs i → A) (says : Group → A → Type 0) → (place_at row i).most ≡ 1
+        → ((g : Group) (a a' : R) → (place_at row i).read 0 g a ≡ Good a' → says g (get (look fs i (fields a'))))
         → Item row i 0 (λ r. get (look fs i (fields r))) says (λ r. Unit {0}) missing
     single-item i get says one tells =
         listed-item i 0 get says (λ x. Unit {0}) (λ g a a' f e. tells g a a' e)
@@ -120,11 +120,11 @@ module _ {R : Type 0} (Of : ℕ → Place R → Type 0) where
   index-sum i zero = omega arith
   index-sum i (suc j) = index-sum (suc i) j ∙ omega arith
 
-  at : (ps : List (Place R)) (i : ℕ) → Rows i ps → ((j : ℕ) → Of j nowhere) → (j : ℕ) → Of (index i j) (placeAt ps j)
+  at : (ps : List (Place R)) (i : ℕ) → Rows i ps → ((j : ℕ) → Of j nowhere) → (j : ℕ) → Of (index i j) (place_at ps j)
   unfolding index
   at [] i x none j = none (index i j)
   at (p ∷ ps) i (x, xs) none zero = x
   at (p ∷ ps) i (x, xs) none (suc j) = at ps (suc i) xs none j
 
-  pub row_at : (ps : List (Place R)) → Rows 0 ps → ((j : ℕ) → Of j nowhere) → (j : ℕ) → Of j (placeAt ps j)
-  row_at ps xs none j = subst (λ (i : ℕ). Of i (placeAt ps j)) (index-sum 0 j ∙ omega arith) (at ps 0 xs none j)
+  pub row_at : (ps : List (Place R)) → Rows 0 ps → ((j : ℕ) → Of j nowhere) → (j : ℕ) → Of j (place_at ps j)
+  row_at ps xs none j = subst (λ (i : ℕ). Of i (place_at ps j)) (index-sum 0 j ∙ omega arith) (at ps 0 xs none j)

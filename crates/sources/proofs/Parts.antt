@@ -16,15 +16,15 @@ use Rattle.text.specs.declared.kinds.Tail.TheVariants.{Clear, Junk}
 use Rattle.text.specs.Groups.{Piece}
 use Rattle.places.specs.declared.kinds.Turn.{Turn}
 use Rattle.places.specs.declared.kinds.Turn.TheVariants as turn
-use Rattle.places.specs.Engine.{Group, Read, Good, Bad, Place, placeAt, onward, taken, Step, On, Halt, Stop, Outcome, Done, Fault, finish}
-use Rattle.places.specs.Turn.{turnAt}
-use Rattle.places.specs.Parts.{stepBy, carryTo, runTo, Begun, Word, Ends, Opens, Bars, Part, Parts, Further, turned, ended, unless, owes, partExits, partFrom, afterFirst, begins, opened, further, reportOf}
-use Rattle.places.proofs.Loop.{turnStep, turn-steps}
+use Rattle.places.specs.Engine.{Group, Read, Good, Bad, Place, place_at, onward, taken, Step, On, Halt, Stop, Outcome, Done, Fault, finish}
+use Rattle.places.specs.Turn.{turn_at}
+use Rattle.places.specs.Parts.{step_by, carry_to, run_to, Begun, Word, Ends, Opens, Bars, Part, Parts, Further, turned, ended, unless, owes, part_exits, part_from, after_first, begins, opened, further, report_of}
+use Rattle.places.proofs.Loop.{turn_step, turn-steps}
 use Rattle.sources.specs.declared.kinds.Spot.{Spot}
 use Rattle.sources.specs.declared.kinds.Spot.TheVariants as spot
-use Rattle.sources.specs.Trail.{Mark, Move, Takes, Joins, Taken, front, afterMove, trail}
+use Rattle.sources.specs.Trail.{Mark, Move, Takes, Joins, Taken, front, after_move, trail}
 use Rattle.sources.specs.Trail as walk
-use Rattle.sources.specs.Route.{Route, moveBy, moveMain, movePart, move_on}
+use Rattle.sources.specs.Route.{Route, move_by, move_main, move_part, move_on}
 use Rattle.sources.proofs.Rows.{Entry, Went, done, on}
 
 module _ {T : Type 0} where
@@ -49,7 +49,7 @@ module _ {T P W R : Type 0} (tail : Tail) (end : ℕ) (part : Part T P W R) (mor
   -- where a part ends: the groups are over, or a word follows
   pub data Ending (c k : ℕ) (r : R) : List Piece → Type 0 where
     groups-over : rest ≡ end → t ≡ part.takes r → Ending c k r []
-    word-met : {g : Piece} {gs : List Piece} → turnAt part.row part.halts c k g.bytes ≡ turn.Halt
+    word-met : {g : Piece} {gs : List Piece} → turn_at part.row part.halts c k g.bytes ≡ turn.Halt
         → turned more (part.takes r) g gs (part.word (part.takes r) g.bytes) ≡ Done rest t → Ending c k r (g ∷ gs)
 
   pub record PartDone (c k : ℕ) (r : R) (gs : List Piece) : Type 0 where
@@ -61,30 +61,30 @@ module _ {T P W R : Type 0} (tail : Tail) (end : ℕ) (part : Part T P W R) (mor
     pub went : Went part.row part.halts place count record' left c k r gs entries
     pub ending : Ending place count record' left
 
-  pub part-done : (gs : List Piece) (c k : ℕ) (r : R) → partFrom tail end part more c k r gs ≡ Done rest t → PartDone c k r gs
-  unfolding runTo
+  pub part-done : (gs : List Piece) (c k : ℕ) (r : R) → part_from tail end part more c k r gs ≡ Done rest t → PartDone c k r gs
+  unfolding run_to
   part-done [] c k r e =
       let (a, b) = has_ended tail end rest (owes part c k r) (part.takes r) t e in
       record { place = c; count = k; record' = r; left = []; entries = []; went = done; ending = groups-over a b }
   part-done (g ∷ gs) c k r e =
-      go (turnAt part.row part.halts c k g.bytes) refl (λ c' k' r'. part-done gs c' k' r')
+      go (turn_at part.row part.halts c k g.bytes) refl (λ c' k' r'. part-done gs c' k' r')
       (rw (turn-steps part.row part.halts c k g.bytes r) at e)
     where
-      took : (i n : ℕ) → turnAt part.row part.halts c k g.bytes ≡ turn.At i n
-          → ((c' k' : ℕ) (r' : R) → partFrom tail end part more c' k' r' gs ≡ Done rest t → PartDone c' k' r' gs)
-          → (x : Read R) → (placeAt part.row i).read n g.bytes r ≡ x
-          → carryTo (taken (onward part.row i) (n + 1) x) (partExits tail end part more) c k r g gs (λ c' k' r'. partFrom tail end part more c' k' r' gs) ≡ Done rest t
+      took : (i n : ℕ) → turn_at part.row part.halts c k g.bytes ≡ turn.At i n
+          → ((c' k' : ℕ) (r' : R) → part_from tail end part more c' k' r' gs ≡ Done rest t → PartDone c' k' r' gs)
+          → (x : Read R) → (place_at part.row i).read n g.bytes r ≡ x
+          → carry_to (taken (onward part.row i) (n + 1) x) (part_exits tail end part more) c k r g gs (λ c' k' r'. part_from tail end part more c' k' r' gs) ≡ Done rest t
           → PartDone c k r (g ∷ gs)
       took i n is again (Good r') reads e =
           let d = again (onward part.row i) (n + 1) r' e in
           record { place = d.place; count = d.count; record' = d.record'; left = d.left; entries = _; went = on is reads d.went; ending = d.ending }
       took i n is again (Bad f) reads e = impossible (cc)
 
-      go : (u : Turn) → turnAt part.row part.halts c k g.bytes ≡ u
-          → ((c' k' : ℕ) (r' : R) → partFrom tail end part more c' k' r' gs ≡ Done rest t → PartDone c' k' r' gs)
-          → carryTo (turnStep part.row r g.bytes u) (partExits tail end part more) c k r g gs (λ c' k' r'. partFrom tail end part more c' k' r' gs) ≡ Done rest t
+      go : (u : Turn) → turn_at part.row part.halts c k g.bytes ≡ u
+          → ((c' k' : ℕ) (r' : R) → part_from tail end part more c' k' r' gs ≡ Done rest t → PartDone c' k' r' gs)
+          → carry_to (turn_step part.row r g.bytes u) (part_exits tail end part more) c k r g gs (λ c' k' r'. part_from tail end part more c' k' r' gs) ≡ Done rest t
           → PartDone c k r (g ∷ gs)
-      go (turn.At i n) is again e = took i n is again ((placeAt part.row i).read n g.bytes r) refl e
+      go (turn.At i n) is again e = took i n is again ((place_at part.row i).read n g.bytes r) refl e
       go turn.Halt is again e =
           record {
             place = c;
@@ -99,13 +99,13 @@ module _ {T P W R : Type 0} (tail : Tail) (end : ℕ) (part : Part T P W R) (mor
 
 -- ---- a report, by its route: what a word comes to, how the report takes a part in, and what a part lacks
 
-abbrev pub asTaken : ℕ → Entry → Taken
-asTaken m e = record { part = m; spot = spot.At e.place e.count; piece = e.piece }
+abbrev pub as_taken : ℕ → Entry → Taken
+as_taken m e = record { part = m; spot = spot.At e.place e.count; piece = e.piece }
 
-module _ {T M P W : Type 0} (route : Route M P W) (word : T → Group → Word W P) (mainTakes : M → T) (mainLacks : M → Bool) (takes : T → W → P → T)
+module _ {T M P W : Type 0} (route : Route M P W) (word : T → Group → Word W P) (main_takes : M → T) (main_lacks : M → Bool) (takes : T → W → P → T)
     (lacks : T → W → P → Bool) where
-  abbrev pub mainOf : Part T P W M
-  mainOf = record { row = route.main; halts = route.mainHalts; lacks = mainLacks; takes = mainTakes; word = word }
+  abbrev pub main_of : Part T P W M
+  main_of = record { row = route.main; halts = route.main_halts; lacks = main_lacks; takes = main_takes; word = word }
 
   abbrev pub parts_of : Parts T P W
   parts_of =
@@ -126,7 +126,7 @@ module _ {T M P W : Type 0} (route : Route M P W) (word : T → Group → Word W
   -- the first of the groups left, if any, halts the row
   abbrev pub Halted : {R : Type 0} → List (Place R) → (Group → Bool) → ℕ → ℕ → List Piece → Type 0
   Halted row halts c k [] = Unit {0}
-  Halted row halts c k (g ∷ gs) = turnAt row halts c k g.bytes ≡ turn.Halt
+  Halted row halts c k (g ∷ gs) = turn_at row halts c k g.bytes ≡ turn.Halt
 
   -- FROM THE END OF PART m ON, the report t being read so far: the parts that follow, each from its word on, up to the unread rest and the whole report.
   pub data After (end rest : ℕ) (whole : T) : ℕ → T → List Piece → List Taken → Type 0 where
@@ -135,13 +135,13 @@ module _ {T M P W : Type 0} (route : Route M P W) (word : T → Group → Word W
     one : {m c k : ℕ} {t : T} {w : W} {p p' : P} {g : Piece} {gs left : List Piece} {es : List Entry} {xs : List Taken} → Opened t g w p → Plain w 0 0 gs
         → Went (route.row w) route.halts c k p' left 0 0 p gs es → Halted (route.row w) route.halts c k left
         → After end rest whole (m + 1) (takes t w p') left xs
-        → After end rest whole m t (g ∷ gs) (record { part = m + 1; spot = spot.Opening; piece = g } ∷ (map (asTaken (m + 1)) es ++ xs))
+        → After end rest whole m t (g ∷ gs) (record { part = m + 1; spot = spot.Opening; piece = g } ∷ (map (as_taken (m + 1)) es ++ xs))
     two : {m c k : ℕ} {t : T} {w : W} {p p' : P} {g h : Piece} {gs left : List Piece} {es : List Entry} {xs : List Taken} → Opened t g w p
         → route.joins w h.bytes ≡ true
         → Went (route.row (route.joined w)) route.halts c k p' left 0 0 p gs es → Halted (route.row (route.joined w)) route.halts c k left
         → After end rest whole (m + 1) (takes t (route.joined w) p') left xs
         → After end rest whole m t (g ∷ h ∷ gs)
-        (record { part = m + 1; spot = spot.Opening; piece = g } ∷ record { part = m + 1; spot = spot.Joined; piece = h } ∷ (map (asTaken (m + 1)) es ++ xs))
+        (record { part = m + 1; spot = spot.Opening; piece = g } ∷ record { part = m + 1; spot = spot.Joined; piece = h } ∷ (map (as_taken (m + 1)) es ++ xs))
 
   -- ---- what the machine comes to
 
@@ -168,7 +168,7 @@ module _ {T M P W : Type 0} (route : Route M P W) (word : T → Group → Word W
     Further-done n = (m : ℕ) (t : T) (g : Piece) (gs : List Piece) → turned (more n) t g gs (word t g.bytes) ≡ Done rest whole → Follows m t (g ∷ gs)
 
     read-on : {R : Type 0} (part : Part T P W R) → part.word ≡ word → (n m : ℕ) → Further-done n → (r : R) (gs : List Piece)
-        → partFrom tail end part (more n) 0 0 r gs ≡ Done rest whole → Read-on part m r gs
+        → part_from tail end part (more n) 0 0 r gs ≡ Done rest whole → Read-on part m r gs
     read-on part same n m next r gs e = let d = part-done tail end part (more n) rest whole gs 0 0 r e in go d d.left refl d.ending
       where
         go : (d : PartDone tail end part (more n) rest whole 0 0 r gs) (left : List Piece) → left ≡ d.left
@@ -198,19 +198,19 @@ module _ {T M P W : Type 0} (route : Route M P W) (word : T → Group → Word W
 
     -- the part that a word opens, with the word
     open-one : (n m : ℕ) → Further-done n → (t : T) (g : Piece) (w : W) (p : P) (gs : List Piece) → Opened t g w p → Plain w 0 0 gs
-        → partFrom tail end (parts_of.part t w) (more n) 0 0 p gs ≡ Done rest whole → Follows m t (g ∷ gs)
+        → part_from tail end (parts_of.part t w) (more n) 0 0 p gs ≡ Done rest whole → Follows m t (g ∷ gs)
     open-one n m next t g w p gs is plain e =
         let d = read-on (parts_of.part t w) refl n (m + 1) next p gs e in
         record { taken = _; after = one is plain d.went d.halted d.follows.after }
 
     open-two : (n m : ℕ) → Further-done n → (t : T) (g h : Piece) (w : W) (p : P) (gs : List Piece) → Opened t g w p → route.joins w h.bytes ≡ true
-        → partFrom tail end (parts_of.part t (route.joined w)) (more n) 0 0 p gs ≡ Done rest whole → Follows m t (g ∷ h ∷ gs)
+        → part_from tail end (parts_of.part t (route.joined w)) (more n) 0 0 p gs ≡ Done rest whole → Follows m t (g ∷ h ∷ gs)
     open-two n m next t g h w p gs is joins e =
         let d = read-on (parts_of.part t (route.joined w)) refl n (m + 1) next p gs e in
         record { taken = _; after = two is joins d.went d.halted d.follows.after }
 
     first-joins : (n m : ℕ) → Further-done n → (t : T) (g h : Piece) (w : W) (p : P) (gs : List Piece) → Opened t g w p → (b : Bool) → route.joins w h.bytes ≡ b
-        → afterFirst tail end parts_of b (more n) t w p h gs ≡ Done rest whole → Follows m t (g ∷ h ∷ gs)
+        → after_first tail end parts_of b (more n) t w p h gs ≡ Done rest whole → Follows m t (g ∷ h ∷ gs)
     first-joins n m next t g h w p gs is true j e = open-two n m next t g h w p gs is j e
     first-joins n m next t g h w p gs is false j e = open-one n m next t g w p (h ∷ gs) is j e
 
@@ -236,9 +236,9 @@ module _ {T M P W : Type 0} (route : Route M P W) (word : T → Group → Word W
         go (Bars f) is next e = impossible (cc)
 
     -- THE REPORT: its main part, and what follows it.
-    pub report-done : (n : ℕ) (m : M) (gs : List Piece) → reportOf tail end parts_of n mainOf m gs ≡ Done rest whole → Read-on mainOf 0 m gs
-    unfolding reportOf
-    report-done n m gs e = read-on mainOf refl n 0 (further-done n) m gs e
+    pub report-done : (n : ℕ) (m : M) (gs : List Piece) → report_of tail end parts_of n main_of m gs ≡ Done rest whole → Read-on main_of 0 m gs
+    unfolding report_of
+    report-done n m gs e = read-on main_of refl n 0 (further-done n) m gs e
 
   -- ---- and that its trail is the groups so taken
 
@@ -255,22 +255,22 @@ module _ {T M P W : Type 0} (route : Route M P W) (word : T → Group → Word W
     not_first m = ne_eqb (m + 1) 0 (omega arith)
 
     -- one group
-    main-takes : (w : W) (c k i n : ℕ) (g : Group) → turnAt route.main route.mainHalts c k g ≡ turn.At i n
+    main-takes : (w : W) (c k i n : ℕ) (g : Group) → turn_at route.main route.main_halts c k g ≡ turn.At i n
         → move_on route (mark 0 w c k) g ≡ Takes i n (onward route.main i)
     unfolding move_on
     main-takes w c k i n g e = rw e
 
-    main-word : (w : W) (c k : ℕ) (g : Group) → turnAt route.main route.mainHalts c k g ≡ turn.Halt → move_on route (mark 0 w c k) g ≡ route.opens g
+    main-word : (w : W) (c k : ℕ) (g : Group) → turn_at route.main route.main_halts c k g ≡ turn.Halt → move_on route (mark 0 w c k) g ≡ route.opens g
     unfolding move_on
     main-word w c k g e = rw e
 
     part-takes : (m : ℕ) (w : W) (c k i n : ℕ) (g : Group) → ((eqb c 0 && eqb k 0) && route.joins w g) ≡ false
-        → turnAt (route.row w) route.halts c k g ≡ turn.At i n → move_on route (mark (m + 1) w c k) g ≡ Takes i n (onward (route.row w) i)
+        → turn_at (route.row w) route.halts c k g ≡ turn.At i n → move_on route (mark (m + 1) w c k) g ≡ Takes i n (onward (route.row w) i)
     unfolding move_on
     part-takes m w c k i n g plain e = rw (not_first m, plain, e)
 
     part-word : (m : ℕ) (w : W) (c k : ℕ) (g : Group) → ((eqb c 0 && eqb k 0) && route.joins w g) ≡ false
-        → turnAt (route.row w) route.halts c k g ≡ turn.Halt → move_on route (mark (m + 1) w c k) g ≡ route.opens g
+        → turn_at (route.row w) route.halts c k g ≡ turn.Halt → move_on route (mark (m + 1) w c k) g ≡ route.opens g
     unfolding move_on
     part-word m w c k g plain e = rw (not_first m, plain, e)
 
@@ -286,8 +286,8 @@ module _ {T M P W : Type 0} (route : Route M P W) (word : T → Group → Word W
         go false = refl
 
     -- the groups of a part, and then those left
-    main-walked : (w : W) {c k c₁ k₁ : ℕ} {r r₁ : M} {gs left : List Piece} {es : List Entry} → Went route.main route.mainHalts c₁ k₁ r₁ left c k r gs es
-        → walked (mark 0 w c k) gs ≡ map (asTaken 0) es ++ walked (mark 0 w c₁ k₁) left
+    main-walked : (w : W) {c k c₁ k₁ : ℕ} {r r₁ : M} {gs left : List Piece} {es : List Entry} → Went route.main route.main_halts c₁ k₁ r₁ left c k r gs es
+        → walked (mark 0 w c k) gs ≡ map (as_taken 0) es ++ walked (mark 0 w c₁ k₁) left
     unfolding trail
     main-walked w done = refl
     main-walked w {c} {k} (on {i = i} {n = n} {g = g} t e v) = rw (main-takes w c k i n g.bytes t, main-walked w v)
@@ -298,7 +298,7 @@ module _ {T M P W : Type 0} (route : Route M P W) (word : T → Group → Word W
 
     part-walked : (m : ℕ) (w : W) {c k c₁ k₁ : ℕ} {r r₁ : P} {gs left : List Piece} {es : List Entry}
         → Went (route.row w) route.halts c₁ k₁ r₁ left c k r gs es → Plain w c k gs
-        → (walked (mark (m + 1) w c k) gs ≡ map (asTaken (m + 1)) es ++ walked (mark (m + 1) w c₁ k₁) left) × Plain w c₁ k₁ left
+        → (walked (mark (m + 1) w c k) gs ≡ map (as_taken (m + 1)) es ++ walked (mark (m + 1) w c₁ k₁) left) × Plain w c₁ k₁ left
     unfolding trail
     part-walked m w done plain = (refl, plain)
     part-walked m w {c} {k} (on {i = i} {n = n} {g = g} {gs = gs} t e v) plain =
@@ -314,7 +314,7 @@ module _ {T M P W : Type 0} (route : Route M P W) (word : T → Group → Word W
     part-at-word m w c k [] plain h = tt
     part-at-word m w c k (g ∷ gs) plain h = part-word m w c k g.bytes plain h
 
-    main-at-word : (w : W) (c k : ℕ) (gs : List Piece) → Halted route.main route.mainHalts c k gs → AtWord (mark 0 w c k) gs
+    main-at-word : (w : W) (c k : ℕ) (gs : List Piece) → Halted route.main route.main_halts c k gs → AtWord (mark 0 w c k) gs
     main-at-word w c k [] h = tt
     main-at-word w c k (g ∷ gs) h = main-word w c k g.bytes h
 
@@ -335,9 +335,9 @@ module _ {T M P W : Type 0} (route : Route M P W) (word : T → Group → Word W
         rw (at, opens t g.bytes v p is, part-joins m v h.bytes joins, q, after-walked after (route.joined v) d n (part-at-word m (route.joined v) d n left plain' halted))
 
     -- THE TRAIL OF A REPORT IS THE GROUPS THAT ITS READING TOOK: those of the main part, then those of each part from its word on.
-    pub report-walked : {tail : Tail} {end rest : ℕ} {whole : T} {m : M} {gs : List Piece} (d : Read-on tail end rest whole mainOf 0 m gs) (w : W)
-        → walked (front 0 w) gs ≡ map (asTaken 0) d.entries ++ d.follows.taken
+    pub report-walked : {tail : Tail} {end rest : ℕ} {whole : T} {m : M} {gs : List Piece} (d : Read-on tail end rest whole main_of 0 m gs) (w : W)
+        → walked (front 0 w) gs ≡ map (as_taken 0) d.entries ++ d.follows.taken
     report-walked d w =
         main-walked w d.went
-        ∙ ap (λ (xs : List Taken). map (asTaken 0) d.entries ++ xs)
+        ∙ ap (λ (xs : List Taken). map (as_taken 0) d.entries ++ xs)
         (after-walked d.follows.after w d.place d.count (main-at-word w d.place d.count d.left d.halted))

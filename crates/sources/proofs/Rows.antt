@@ -16,9 +16,9 @@ use Rattle.places.specs.declared.kinds.Found.{Found}
 use Rattle.places.specs.declared.kinds.Found.TheVariants.{Take, Skips, Full, Earlier, Unknown}
 use Rattle.places.specs.declared.kinds.Turn.{Turn}
 use Rattle.places.specs.declared.kinds.Turn.TheVariants as turn
-use Rattle.places.specs.Seek.{Stand, seek, anywhere, orEarlier, findOf}
-use Rattle.places.specs.Engine.{Group, Read, Good, Bad, Place, placeAt, standsOf, onward}
-use Rattle.places.specs.Turn.{turnBy, turnAt}
+use Rattle.places.specs.Seek.{Stand, seek, anywhere, or_earlier, find_of}
+use Rattle.places.specs.Engine.{Group, Read, Good, Bad, Place, place_at, stands_of, onward}
+use Rattle.places.specs.Turn.{turn_by, turn_at}
 use Rattle.places.proofs.Rows.{taken-open}
 
 -- ---- places are taken forwards
@@ -47,11 +47,11 @@ seeks (p ∷ ps) c k late i n e = go (p.has && ltb k p.most) (p.has && ltb 1 p.m
     go false true l rest e = impossible (cc)
     go false false l rest e = next (rest e)
 
-found-forward : (ps : List Stand) (c k i n : ℕ) → findOf ps c k ≡ Take i n → Forward c k i n
-unfolding findOf
+found-forward : (ps : List Stand) (c k i n : ℕ) → find_of ps c k ≡ Take i n → Forward c k i n
+unfolding find_of
 found-forward ps c k i n e = go (anywhere ps) (seek c k false (drop c ps)) refl e
   where
-    go : (b : Bool) (f : Found) → seek c k false (drop c ps) ≡ f → orEarlier b f ≡ Take i n → Forward c k i n
+    go : (b : Bool) (f : Found) → seek c k false (drop c ps) ≡ f → or_earlier b f ≡ Take i n → Forward c k i n
     go b (Take j m) is e = seeks (drop c ps) c k false i n (is ∙ e)
     go b Skips is e = impossible (cc)
     go b Full is e = impossible (cc)
@@ -59,7 +59,7 @@ found-forward ps c k i n e = go (anywhere ps) (seek c k false (drop c ps)) refl 
     go true Unknown is e = impossible (cc)
     go false Unknown is e = impossible (cc)
 
-taken_at : (f : Found) (i j : ℕ) → turnBy f ≡ turn.At i j → f ≡ Take i j
+taken_at : (f : Found) (i j : ℕ) → turn_by f ≡ turn.At i j → f ≡ Take i j
 taken_at (Take m n) i j e =
     let p : m ≡ i = cc in
     let q : n ≡ j = cc in
@@ -76,24 +76,24 @@ pub record Entry : Type 0 where
   pub piece : Piece
 
 module _ {R : Type 0} (row : List (Place R)) (halts : Group → Bool) where
-  pub at-found : (c k : ℕ) (g : Group) (i n : ℕ) → turnAt row halts c k g ≡ turn.At i n → findOf (standsOf row g) c k ≡ Take i n
-  unfolding turnAt
+  pub at-found : (c k : ℕ) (g : Group) (i n : ℕ) → turn_at row halts c k g ≡ turn.At i n → find_of (stands_of row g) c k ≡ Take i n
+  unfolding turn_at
   at-found c k g i n e = go (leb (length row) c) (halts g) e
     where
-      go : (past halt : Bool) → cond past (turn.Refused refusal.Shape) (cond halt turn.Halt (turnBy (findOf (standsOf row g) c k))) ≡ turn.At i n
-          → findOf (standsOf row g) c k ≡ Take i n
+      go : (past halt : Bool) → cond past (turn.Refused refusal.Shape) (cond halt turn.Halt (turn_by (find_of (stands_of row g) c k))) ≡ turn.At i n
+          → find_of (stands_of row g) c k ≡ Take i n
       go true halt e = impossible (cc)
       go false true e = impossible (cc)
-      go false false e = taken_at (findOf (standsOf row g) c k) i n e
+      go false false e = taken_at (find_of (stands_of row g) c k) i n e
 
   -- a group that is taken goes forwards, to a place of the row with room and with its shape
-  pub turn-forward : (c k : ℕ) (g : Group) (i n : ℕ) → turnAt row halts c k g ≡ turn.At i n → Forward c k i n
-  turn-forward c k g i n e = found-forward (standsOf row g) c k i n (at-found c k g i n e)
+  pub turn-forward : (c k : ℕ) (g : Group) (i n : ℕ) → turn_at row halts c k g ≡ turn.At i n → Forward c k i n
+  turn-forward c k g i n e = found-forward (stands_of row g) c k i n (at-found c k g i n e)
 
-  pub turn-within : (c k : ℕ) (g : Group) (i n : ℕ) → turnAt row halts c k g ≡ turn.At i n → (i < length row) × (n < (placeAt row i).most)
+  pub turn-within : (c k : ℕ) (g : Group) (i n : ℕ) → turn_at row halts c k g ≡ turn.At i n → (i < length row) × (n < (place_at row i).most)
   turn-within c k g i n e = let o = taken-open row g c k i n (at-found c k g i n e) in (o.within, o.room)
 
-  pub turn-shaped : (c k : ℕ) (g : Group) (i n : ℕ) → turnAt row halts c k g ≡ turn.At i n → (placeAt row i).has g ≡ true
+  pub turn-shaped : (c k : ℕ) (g : Group) (i n : ℕ) → turn_at row halts c k g ≡ turn.At i n → (place_at row i).has g ≡ true
   turn-shaped c k g i n e = (taken-open row g c k i n (at-found c k g i n e)).shaped
 
   -- ---- a row read group by group
@@ -101,8 +101,8 @@ module _ {R : Type 0} (row : List (Place R)) (halts : Group → Bool) where
   -- FROM PLACE c, WHERE k GROUPS STAND, WITH THE RECORD r, each of these groups was taken and read, up to the groups that are left.
   pub data Went (c₁ k₁ : ℕ) (r₁ : R) (left : List Piece) : ℕ → ℕ → R → List Piece → List Entry → Type 0 where
     done : Went c₁ k₁ r₁ left c₁ k₁ r₁ left []
-    on : {c k i n : ℕ} {r r' : R} {g : Piece} {gs : List Piece} {es : List Entry} → turnAt row halts c k g.bytes ≡ turn.At i n
-        → (placeAt row i).read n g.bytes r ≡ Good r' → Went c₁ k₁ r₁ left (onward row i) (n + 1) r' gs es
+    on : {c k i n : ℕ} {r r' : R} {g : Piece} {gs : List Piece} {es : List Entry} → turn_at row halts c k g.bytes ≡ turn.At i n
+        → (place_at row i).read n g.bytes r ≡ Good r' → Went c₁ k₁ r₁ left (onward row i) (n + 1) r' gs es
         → Went c₁ k₁ r₁ left c k r (g ∷ gs) (record { place = i; count = n; piece = g } ∷ es)
 
   -- no group is lost: those taken, then those left
@@ -117,10 +117,10 @@ module _ {R A : Type 0} where
   -- What a place says of its k-th group, a record that is `fair` (arrays of their length) read so far; every other group leaves it as it was, one of an
   -- earlier place at least where it is still missing.
   pub record Item (row : List (Place R)) (i k : ℕ) (get : R → A) (says : Group → A → Type 0) (fair : R → Type 0) (missing : A) : Type 0 where
-    pub tells : (g : Group) (a a' : R) → fair a → (placeAt row i).read k g a ≡ Good a' → says g (get a')
-    pub kept : (j n : ℕ) (g : Group) (a a' : R) → n < (placeAt row j).most → (eqb i j && eqb k n) ≡ false → (j < i → get a ≡ missing) → fair a → (placeAt row j).read n g a ≡ Good a'
+    pub tells : (g : Group) (a a' : R) → fair a → (place_at row i).read k g a ≡ Good a' → says g (get a')
+    pub kept : (j n : ℕ) (g : Group) (a a' : R) → n < (place_at row j).most → (eqb i j && eqb k n) ≡ false → (j < i → get a ≡ missing) → fair a → (place_at row j).read n g a ≡ Good a'
         → get a' ≡ get a
-    pub stays : (j n : ℕ) (g : Group) (a a' : R) → fair a → (placeAt row j).read n g a ≡ Good a' → fair a'
+    pub stays : (j n : ℕ) (g : Group) (a a' : R) → fair a → (place_at row j).read n g a ≡ Good a' → fair a'
 
 -- what one group alone may say
 pub first : {R A : Type 0} {row : List (Place R)} {missing : A} (i k : ℕ) (get : R → A) (says : Group → A → Type 0) → k < 1 → Item row i 0 get says (λ r. Unit {0}) missing
@@ -138,12 +138,12 @@ Told says missing i k (e ∷ es) = If (eqb i e.place && eqb k e.count) (says e.p
 
 -- A GROUP THAT WAS TAKEN AT A PLACE HAS ITS SHAPE.
 pub shape-told : {R : Type 0} (row : List (Place R)) (halts : Group → Bool) {missing : Type 0} {c₁ k₁ c n : ℕ} {r₁ r : R} {left gs : List Piece} {es : List Entry} (i k : ℕ)
-    → Went row halts c₁ k₁ r₁ left c n r gs es → missing → Told (λ g. (placeAt row i).has g.bytes ≡ true) missing i k es
+    → Went row halts c₁ k₁ r₁ left c n r gs es → missing → Told (λ g. (place_at row i).has g.bytes ≡ true) missing i k es
 shape-told row halts i k done none = none
 shape-told row halts {missing} {c = c} {n = n} i k (on {i = j} {n = m} {g = g} {es = es} t e w) none = go (eqb i j) (eqb k m) refl (shape-told row halts i k w none)
   where
-    go : (a b : Bool) → eqb i j ≡ a → Told (λ h. (placeAt row i).has h.bytes ≡ true) missing i k es
-        → If (a && b) ((placeAt row i).has g.bytes ≡ true) (Told (λ h. (placeAt row i).has h.bytes ≡ true) missing i k es)
+    go : (a b : Bool) → eqb i j ≡ a → Told (λ h. (place_at row i).has h.bytes ≡ true) missing i k es
+        → If (a && b) ((place_at row i).has g.bytes ≡ true) (Told (λ h. (place_at row i).has h.bytes ≡ true) missing i k es)
     go true true is told = rw (eqb-true i j is) (turn-shaped row halts c n g.bytes j m t)
     go true false is told = told
     go false b is told = told
@@ -154,8 +154,8 @@ module _ {R : Type 0} (row : List (Place R)) (halts : Group → Bool) where
     place-past : i < c → Past i k c n
     count_past : i ≡ c → k < n → Past i k c n
 
-  pub past_next : (i k c n j m : ℕ) (g : Group) → Past i k c n → turnAt row halts c n g ≡ turn.At j m → Past i k (onward row j) (m + 1) × ((eqb i j && eqb k m) ≡ false) × (i ≤ j)
-  past_next i k c n j m g p e = go (turn-forward row halts c n g j m e) (turn-within row halts c n g j m e).0 (placeAt row j).ends p
+  pub past_next : (i k c n j m : ℕ) (g : Group) → Past i k c n → turn_at row halts c n g ≡ turn.At j m → Past i k (onward row j) (m + 1) × ((eqb i j && eqb k m) ≡ false) × (i ≤ j)
+  past_next i k c n j m g p e = go (turn-forward row halts c n g j m e) (turn-within row halts c n g j m e).0 (place_at row j).ends p
     where
       left : (b : Bool) → eqb i j ≡ false → (eqb i j && b) ≡ false
       left b h = rw h
@@ -178,8 +178,8 @@ module _ {R : Type 0} (row : List (Place R)) (halts : Group → Bool) where
       go (later l) h x (place-past q) = (onwards x h (omega arith), left (eqb k m) (ne_eqb i j (omega arith)), omega arith)
       go (later l) h x (count_past d q) = (onwards x h (omega arith), left (eqb k m) (ne_eqb i j (omega arith)), omega arith)
 
-  pub past-taken : (i k c n : ℕ) (g : Group) → turnAt row halts c n g ≡ turn.At i k → Past i k (onward row i) (k + 1)
-  past-taken i k c n g e = go (placeAt row i).ends (turn-within row halts c n g i k e).0
+  pub past-taken : (i k c n : ℕ) (g : Group) → turn_at row halts c n g ≡ turn.At i k → Past i k (onward row i) (k + 1)
+  past-taken i k c n g e = go (place_at row i).ends (turn-within row halts c n g i k e).0
     where
       go : (b : Bool) → i < length row → Past i k (cond b (length row) i) (k + 1)
       go true h = place-past h
@@ -206,8 +206,8 @@ module _ {R : Type 0} (row : List (Place R)) (halts : Group → Bool) where
 
         took : i ≡ j → k ≡ m → says g.bytes (get r₁)
         took a b =
-            let t' : turnAt row halts c n g.bytes ≡ turn.At i k = rw (a, b) t in
-            let e' : (placeAt row i).read k g.bytes r ≡ Good r' = rw (a, b) e in
+            let t' : turn_at row halts c n g.bytes ≡ turn.At i k = rw (a, b) t in
+            let e' : (place_at row i).read k g.bytes r ≡ Good r' = rw (a, b) e in
             let w' : Went row halts c₁ k₁ r₁ left (onward row i) (k + 1) r' gs es = rw (a, b) w in
             subst (says g.bytes) (sym (past-kept w' (past-taken i k c n g.bytes t') fair')) (item.tells g.bytes r r' f e')
 

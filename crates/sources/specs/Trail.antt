@@ -37,39 +37,39 @@ module _ {W : Type 0} where
   abbrev pub front : ℕ → W → Mark W
   front part w = record { part = part; word = w; place = 0; count = 0 }
 
-  abbrev pub afterMove : Mark W → Piece → (Mark W → List Taken) → Move W → List Taken
-  afterMove m g go (Takes i n past) =
+  abbrev pub after_move : Mark W → Piece → (Mark W → List Taken) → Move W → List Taken
+  after_move m g go (Takes i n past) =
       record { part = m.part; spot = spot.At i n; piece = g } ∷ go (record { part = m.part; word = m.word; place = past; count = n + 1 })
-  afterMove m g go (Opens w) = record { part = m.part + 1; spot = spot.Opening; piece = g } ∷ go (front (m.part + 1) w)
-  afterMove m g go (Joins w) = record { part = m.part; spot = spot.Joined; piece = g } ∷ go (front m.part w)
-  afterMove m g go Ends = []
+  after_move m g go (Opens w) = record { part = m.part + 1; spot = spot.Opening; piece = g } ∷ go (front (m.part + 1) w)
+  after_move m g go (Joins w) = record { part = m.part; spot = spot.Joined; piece = g } ∷ go (front m.part w)
+  after_move m g go Ends = []
 
   -- THE TRAIL: each group up to the unread rest, in order, with where it was taken.
   unfoldable pub trail : (Mark W → Group → Move W) → Mark W → List Piece → List Taken
   trail move m [] = []
-  trail move m (g ∷ gs) = afterMove m g (λ m'. trail move m' gs) (move m g.bytes)
+  trail move m (g ∷ gs) = after_move m g (λ m'. trail move m' gs) (move m g.bytes)
 
 -- ---- the group that an item was read from
 
-abbrev pub sameSpot : Spot → Spot → Bool
-sameSpot spot.Opening spot.Opening = true
-sameSpot spot.Opening spot.Joined = false
-sameSpot spot.Opening (spot.At i k) = false
-sameSpot spot.Joined spot.Opening = false
-sameSpot spot.Joined spot.Joined = true
-sameSpot spot.Joined (spot.At i k) = false
-sameSpot (spot.At i k) spot.Opening = false
-sameSpot (spot.At i k) spot.Joined = false
-sameSpot (spot.At i k) (spot.At j n) = eqb i j && eqb k n
+abbrev pub same_spot_lem : Spot → Spot → Bool
+same_spot_lem spot.Opening spot.Opening = true
+same_spot_lem spot.Opening spot.Joined = false
+same_spot_lem spot.Opening (spot.At i k) = false
+same_spot_lem spot.Joined spot.Opening = false
+same_spot_lem spot.Joined spot.Joined = true
+same_spot_lem spot.Joined (spot.At i k) = false
+same_spot_lem (spot.At i k) spot.Opening = false
+same_spot_lem (spot.At i k) spot.Joined = false
+same_spot_lem (spot.At i k) (spot.At j n) = eqb i j && eqb k n
 
 -- the first group of a trail that was taken at a spot of a part, if any
 pub data Origin : Type 0 where
   nowhere : Origin
   group : Piece → Origin
 
-unfoldable pub originIn : ℕ → Spot → List Taken → Origin
-originIn part s [] = nowhere
-originIn part s (x ∷ xs) = cond (eqb part x.part && sameSpot s x.spot) (group x.piece) (originIn part s xs)
+unfoldable pub origin_in : ℕ → Spot → List Taken → Origin
+origin_in part s [] = nowhere
+origin_in part s (x ∷ xs) = cond (eqb part x.part && same_spot_lem s x.spot) (group x.piece) (origin_in part s xs)
 
 -- by where it stands in its text
 abbrev pub source_of : Origin → Source

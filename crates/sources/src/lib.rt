@@ -3,13 +3,13 @@ pub mod kinds;
 
 ghost use Rattle.std.specs.Prelude.{◌≡◌, length};
 ghost use Rattle.text.specs.Part.{PartAt};
-ghost use Rattle.sources.specs.Trail.{sameSpot, start_of, end_of};
+ghost use Rattle.sources.specs.Trail.{same_spot, start_of, end_of};
 
 use kinds::{Source, Spot};
 
 // Are two spots of a part the same?
 pub fn is_same(one: Spot, other: Spot) -> bool
-    ensures { result ≡ sameSpot one other }
+    ensures { result ≡ same_spot one other }
 {
     match one {
         Spot::Opening => match other {

@@ -7,101 +7,101 @@ use Rattle.text.specs.declared.kinds.Judged.{Judged}
 use Rattle.text.specs.declared.kinds.Judged.TheVariants as judged
 use Rattle.text.specs.declared.kinds.Written.{Written}
 use Rattle.text.specs.Judge.{and_then}
-use Rattle.text.specs.Write.{answerBy, bufferBy}
+use Rattle.text.specs.Write.{answer_by, buffer_by}
 use Rattle.text.specs.Groups.{join}
 use Rattle.places.specs.Engine.{Group, written}
 use Rattle.record.specs.declared.surface.Surface.{Surface}
 use Rattle.record.specs.declared.surface.Synop.{Synop}
-use Rattle.synop_groups.specs.Shows.{showTime, showStation, showSign, showLatitude, showLongitude, showIndicators, showWind}
-use Rattle.record.specs.Missing.{isMissing}
-use Rattle.record.specs.SilentSurface.{noSign, noPosition, noSurface, noSection3}
-use Rattle.synop_groups.specs.Judge.{judgeTime, judgeStation, judgeSign, judgePosition, judgeIndicators, judgeWind, judgeAir, judgeMoisture, judgePressure, judgeLevel, judgeTendency, judgeRainfall, judgeWeather, judgeClouds, judgeClock}
-use Rattle.synop_groups.specs.Classes.{classIndicators, classWind, classRainfall}
-use Rattle.section3.specs.Write.{judgeSection3, showSection3, classSection3}
+use Rattle.synop_groups.specs.Shows.{show_time, show_station, show_sign, show_latitude, show_longitude, show_indicators, show_wind}
+use Rattle.record.specs.Missing.{is_missing}
+use Rattle.record.specs.SilentSurface.{no_sign, no_position, no_surface, no_section3}
+use Rattle.synop_groups.specs.Judge.{judge_time, judge_station, judge_sign, judge_position, judge_indicators, judge_wind, judge_air, judge_moisture, judge_pressure, judge_level, judge_tendency, judge_rainfall, judge_weather, judge_clouds, judge_clock}
+use Rattle.synop_groups.specs.Classes.{class_indicators, class_wind, class_rainfall}
+use Rattle.section3.specs.Write.{judge_section3, show_section3, class_section3}
 use Rattle.synop_row.specs.declared.kinds.Needs.{Needs}
-use Rattle.synop_row.specs.Row.{needsOf, row}
+use Rattle.synop_row.specs.Row.{needs_of, row}
 
 -- ---- foreign fields: "a field foreign to the kind (or to NIL, CNL) that is not blank"
 
 -- a land report has no call sign and no position, a ship no station number and no NIL; a NIL report has nothing after its station, so no section 3 either
-unfoldable pub foreignBlank : Synop → Bool
-foreignBlank r =
-    cond r.ship (isMissing r.site.station && not r.site.nil) (noSign r.site.sign && noPosition r.site.position)
-    && (not r.site.nil || (noSurface r.surface && noSection3 r.section3))
+unfoldable pub foreign_blank : Synop → Bool
+foreign_blank r =
+    cond r.ship (is_missing r.site.station && not r.site.nil) (no_sign r.site.sign && no_position r.site.position)
+    && (not r.site.nil || (no_surface r.surface && no_section3 r.section3))
 
 -- ---- "The writer judges foreign fields first, then the others in written order, 11 before 7 at each"
 
 abbrev pub foreign : Synop → Judged
-foreign r = cond (foreignBlank r) judged.Fine (judged.Refused refusal.Value)
+foreign r = cond (foreign_blank r) judged.Fine (judged.Refused refusal.Value)
 
-unfoldable pub judgeSite : Synop → Judged
-judgeSite r =
-    cond r.ship (and_then (judgeSign r.site.sign) (and_then (judgeTime r.site.time) (judgePosition r.site.position)))
-    (and_then (judgeTime r.site.time) (judgeStation r.site.station))
+unfoldable pub judge_site : Synop → Judged
+judge_site r =
+    cond r.ship (and_then (judge_sign r.site.sign) (and_then (judge_time r.site.time) (judge_position r.site.position)))
+    (and_then (judge_time r.site.time) (judge_station r.site.station))
 
-unfoldable pub judgeSection : Needs → Surface → Judged
-judgeSection n s =
-    and_then (judgeAir s.air)
-    (and_then (judgeMoisture s.moisture)
-    (and_then (judgePressure s.pressure)
-    (and_then (judgeLevel s.level)
-    (and_then (judgeTendency s.tendency)
-    (and_then (judgeRainfall (not n.rain) s.rainfall)
-    (and_then (judgeWeather (not n.weather) s.weather) (and_then (judgeClouds s.clouds) (judgeClock s.clock))))))))
+unfoldable pub judge_section : Needs → Surface → Judged
+judge_section n s =
+    and_then (judge_air s.air)
+    (and_then (judge_moisture s.moisture)
+    (and_then (judge_pressure s.pressure)
+    (and_then (judge_level s.level)
+    (and_then (judge_tendency s.tendency)
+    (and_then (judge_rainfall (not n.rain) s.rainfall)
+    (and_then (judge_weather (not n.weather) s.weather) (and_then (judge_clouds s.clouds) (judge_clock s.clock))))))))
 
-unfoldable pub judgeSurface : Surface → Judged
-judgeSurface s = and_then (judgeIndicators s.indicators) (and_then (judgeWind s.wind) (judgeSection (needsOf s) s))
+unfoldable pub judge_surface : Surface → Judged
+judge_surface s = and_then (judge_indicators s.indicators) (and_then (judge_wind s.wind) (judge_section (needs_of s) s))
 
-unfoldable pub judgeOf : Synop → Judged
-judgeOf r =
+unfoldable pub judge_of : Synop → Judged
+judge_of r =
     and_then (foreign r)
-    (and_then (judgeSite r) (cond r.site.nil judged.Fine (and_then (judgeSurface r.surface) (judgeSection3 r.section3))))
+    (and_then (judge_site r) (cond r.site.nil judged.Fine (and_then (judge_surface r.surface) (judge_section3 r.section3))))
 
 -- ---- THE CANONICAL TEXT OF A RECORD
 
-unfoldable pub siteGroups : Synop → List Group
-siteGroups r =
+unfoldable pub site_groups : Synop → List Group
+site_groups r =
     cond r.ship
-    (bytes "BBXX" ∷ showSign r.site.sign ∷ showTime r.site.time ∷ showLatitude r.site.position ∷ showLongitude r.site.position ∷ [])
-    (bytes "AAXX" ∷ showTime r.site.time ∷ showStation r.site.station ∷ [])
+    (bytes "BBXX" ∷ show_sign r.site.sign ∷ show_time r.site.time ∷ show_latitude r.site.position ∷ show_longitude r.site.position ∷ [])
+    (bytes "AAXX" ∷ show_time r.site.time ∷ show_station r.site.station ∷ [])
 
-unfoldable pub surfaceGroups : Surface → List Group
-surfaceGroups s = showIndicators s.indicators ∷ showWind s.wind ∷ written (row (needsOf s)) s
+unfoldable pub surface_groups : Surface → List Group
+surface_groups s = show_indicators s.indicators ∷ show_wind s.wind ∷ written (row (needs_of s)) s
 
 unfoldable pub groups_of : Synop → List Group
-groups_of r = siteGroups r ++ cond r.site.nil (bytes "NIL" ∷ []) (surfaceGroups r.surface ++ showSection3 r.section3)
+groups_of r = site_groups r ++ cond r.site.nil (bytes "NIL" ∷ []) (surface_groups r.surface ++ show_section3 r.section3)
 
-unfoldable pub canonicalOf : Synop → List ℕ
-canonicalOf r = join (groups_of r)
+unfoldable pub canonical_of : Synop → List ℕ
+canonical_of r = join (groups_of r)
 
 -- ---- the record that it is read back as: each rounded number the reading of its class, all else as it is
 
-unfoldable pub classedOf : Synop → Synop
-classedOf r =
+unfoldable pub classed_of : Synop → Synop
+classed_of r =
     record {
       ship = r.ship;
       site = r.site;
       surface =
           record {
-            indicators = classIndicators r.surface.indicators;
-            wind = classWind r.surface.wind;
+            indicators = class_indicators r.surface.indicators;
+            wind = class_wind r.surface.wind;
             air = r.surface.air;
             moisture = r.surface.moisture;
             pressure = r.surface.pressure;
             level = r.surface.level;
             tendency = r.surface.tendency;
-            rainfall = classRainfall r.surface.rainfall;
+            rainfall = class_rainfall r.surface.rainfall;
             weather = r.surface.weather;
             clouds = r.surface.clouds;
             clock = r.surface.clock;
           };
-      section3 = classSection3 r.section3;
+      section3 = class_section3 r.section3;
     }
 
 -- ---- the writer's answer, and the lent buffer afterwards
 
 unfoldable pub written_of : Synop → ℕ → Written
-written_of r room = answerBy (judgeOf r) (canonicalOf r) room
+written_of r room = answer_by (judge_of r) (canonical_of r) room
 
-unfoldable pub bufferOf : Synop → List ℕ → List ℕ
-bufferOf r b = bufferBy (judgeOf r) (canonicalOf r) b
+unfoldable pub buffer_of : Synop → List ℕ → List ℕ
+buffer_of r b = buffer_by (judge_of r) (canonical_of r) b

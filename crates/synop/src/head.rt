@@ -1,8 +1,8 @@
 // The groups of a SYNOP or SHIP that are known by their position alone: which post each stands at, its shape, and what it says.
 ghost use Rattle.std.specs.Prelude.{◌≡◌, ◌&&◌, get_or, length};
-ghost use Rattle.record.specs.Set.{setStation};
-ghost use Rattle.synop.specs.Read.{isCallSign, sign_of, siteOnto, isNil};
-ghost use Rattle.synop.specs.Head.{named, post_of, saidBy};
+ghost use Rattle.record.specs.Set.{set_station};
+ghost use Rattle.synop.specs.Read.{is_call_sign, sign_of, site_onto, is_nil};
+ghost use Rattle.synop.specs.Head.{named, post_of, said_by};
 
 use crate::kinds::Post;
 use figures::byte_at;
@@ -15,7 +15,7 @@ use synop_groups::sign::slots_fit;
 
 // A call sign has 3 to 9 letters and figures.
 pub fn is_call_sign(g: &[u8]) -> bool
-    ensures { result ≡ isCallSign g.now }
+    ensures { result ≡ is_call_sign g.now }
 {
     let right = slots_fit(true, g);
     (3 <= g.len()) & (g.len() <= 9) & right
@@ -82,7 +82,7 @@ pub fn has_shape(post: Post, g: &[u8]) -> bool
 
 // Does NIL stand for the group of its post?
 pub fn is_nil(post: Post, g: &[u8]) -> bool
-    ensures { result ≡ ((post_of post).nil && isNil g.now) }
+    ensures { result ≡ ((post_of post).nil && is_nil g.now) }
 {
     match post {
         Post::Indicators { land } => land & has_pattern(g, b"NIL"),
@@ -91,7 +91,7 @@ pub fn is_nil(post: Post, g: &[u8]) -> bool
 }
 
 fn with_station(n: u32, s: Site) -> Site
-    ensures { result ≡ setStation (Number.Is n) s }
+    ensures { result ≡ set_station (Number.Is n) s }
 {
     let sign = s.sign;
     let position = s.position;
@@ -107,7 +107,7 @@ fn with_station(n: u32, s: Site) -> Site
 
 // The site with what a group says of it.
 pub fn with_site(said: Said, site: Site) -> Site
-    ensures { result ≡ siteOnto said site }
+    ensures { result ≡ site_onto said site }
 {
     match said {
         Said::Time(x) => {
@@ -127,7 +127,7 @@ pub fn with_site(said: Said, site: Site) -> Site
 
 // What the group at a post says, after a position whose signs are still to come.
 pub fn said_by(post: Post, position: Position, g: &[u8]) -> Said
-    ensures { result ≡ saidBy post position g.now }
+    ensures { result ≡ said_by post position g.now }
 {
     match post {
         Post::Time => read::read_time(g),

@@ -1,10 +1,10 @@
 // Reading a SYNOP or SHIP, from behind AAXX or BBXX on: the groups known by position, then section 1 or what follows NIL.
 ghost use Rattle.std.specs.Prelude.{◌≡◌, map, length};
-ghost use Rattle.text.specs.Text.{tailOf};
-ghost use Rattle.text.specs.Groups.{groupsFrom};
+ghost use Rattle.text.specs.Text.{tail_of};
+ghost use Rattle.text.specs.Groups.{groups_from};
 ghost use Rattle.synop_section.specs.Answer.{answer};
-ghost use Rattle.synop.specs.Read.{cutShort, afterNil, walk, groupsRead};
-ghost use Rattle.synop.specs.Head.{named, post_of, synopOf};
+ghost use Rattle.synop.specs.Read.{cut_short, after_nil, walk, groups_read};
+ghost use Rattle.synop.specs.Head.{named, post_of, synop_of};
 
 use crate::head;
 use record::surface::{Section3, Site, Surface, Synop};
@@ -15,7 +15,7 @@ use text::kinds::{Cut, Refusal, Tail};
 
 // After NIL only what may follow an "=" is left.
 fn read_nil(text: &[u8], at: usize, report: Synop) -> Reading
-    ensures { result ≡ answer (afterNil (tailOf text.now) (length text.now) report (groupsFrom text.now at)) }
+    ensures { result ≡ answer (after_nil (tail_of text.now) (length text.now) report (groups_from text.now at)) }
 {
     let next = text::next_group(text, at);
     match next {
@@ -38,7 +38,7 @@ fn read_nil(text: &[u8], at: usize, report: Synop) -> Reading
 
 // The groups are over before a required one: what follows the "=" is refused first.
 fn end_short(text: &[u8]) -> Reading
-    ensures { result ≡ answer (cutShort (tailOf text.now) (length text.now)) }
+    ensures { result ≡ answer (cut_short (tail_of text.now) (length text.now)) }
 {
     let tail = text::tail(text);
     match tail {
@@ -48,7 +48,7 @@ fn end_short(text: &[u8]) -> Reading
 }
 
 fn synop_of(ship: bool, site: Site, surface: Surface, section3: Section3) -> Synop
-    ensures { result ≡ synopOf ship site surface section3 }
+    ensures { result ≡ synop_of ship site surface section3 }
 {
     Synop {
         ship,
@@ -60,7 +60,7 @@ fn synop_of(ship: bool, site: Site, surface: Surface, section3: Section3) -> Syn
 
 // The groups known by position, a ship's call sign apart, then section 1. What each group says goes into the loop's own site and surface.
 fn read_posts(text: &[u8], at: usize, report: Synop) -> Reading
-    ensures { result ≡ answer (walk (map post_of (named report.ship)) report (tailOf text.now) (length text.now) (groupsFrom text.now at)) }
+    ensures { result ≡ answer (walk (map post_of (named report.ship)) report (tail_of text.now) (length text.now) (groups_from text.now at)) }
 {
     let ship = report.ship;
     let mut site = report.site;
@@ -98,7 +98,7 @@ fn read_posts(text: &[u8], at: usize, report: Synop) -> Reading
 // What the groups come to, from a position behind AAXX or, of a ship, BBXX on. A ship's call sign comes before the groups known by position, which are
 // read by one call for both, so that the compiler makes the record where it is answered and copies none.
 pub fn read_from(text: &[u8], at: usize, ship: bool) -> Reading
-    ensures { result ≡ answer (groupsRead ship (tailOf text.now) (length text.now) (groupsFrom text.now at)) }
+    ensures { result ≡ answer (groups_read ship (tail_of text.now) (length text.now) (groups_from text.now at)) }
 {
     let mut report = answer::begin(ship);
     let mut from = at;

@@ -3,13 +3,13 @@
 use mathlib.Core.Path.{◌≡◌, refl}
 use mathlib.Core.List.{map}
 use Rattle.figures.specs.Figures.{figures, scan, field_at}
-use Rattle.scales.specs.Scale.{run, classIn, readIn}
-use Rattle.scales.specs.Metres.{land, base, visibility, runway, cloud, metresFigure, metresReading, rangeFigure}
-use Rattle.scales.specs.Rounded.{rainFigure, directionFigure}
-use Rattle.scales.specs.Degrees.{wholeDegrees, degreesOf, signedReading}
-use Rattle.synop_groups.specs.Reads.{airIs, saidAir, indicatorsOf, saidIndicators}
-use Rattle.synop_groups.specs.MarkedRows.{Row, markedRows}
+use Rattle.scales.specs.Scale.{run, class_in, read_in}
+use Rattle.scales.specs.Metres.{land, base, visibility, runway, cloud, metres_figure, metres_reading, range_figure}
+use Rattle.scales.specs.Rounded.{rain_figure, direction_figure}
+use Rattle.scales.specs.Degrees.{whole_degrees, degrees_of, signed_reading}
+use Rattle.synop_groups.specs.Reads.{air_is, said_air, indicators_of, said_indicators}
+use Rattle.synop_groups.specs.MarkedRows.{Row, marked_rows}
 
-pub marked : map (λ (r : Row). r.given) markedRows ≡ map (λ (r : Row). r.stated) markedRows
-unfolding markedRows figures scan field_at airIs saidAir indicatorsOf saidIndicators run classIn readIn land base visibility runway cloud metresFigure metresReading rangeFigure rainFigure directionFigure wholeDegrees degreesOf signedReading
+pub marked : map (λ (r : Row). r.given) marked_rows ≡ map (λ (r : Row). r.stated) marked_rows
+unfolding marked_rows figures scan field_at air_is said_air indicators_of said_indicators run class_in read_in land base visibility runway cloud metres_figure metres_reading range_figure rain_figure direction_figure whole_degrees degrees_of signed_reading
 marked = refl

@@ -28,8 +28,8 @@ use Rattle.figures.proofs.Figures.{field-small}
 use Rattle.figures.proofs.Signs.{signed-in, magnitude-fits}
 use Rattle.scales.specs.declared.kinds.Reading.{Reading}
 use Rattle.scales.specs.declared.kinds.Reading.TheVariants as reading
-use Rattle.scales.specs.Metres.{land, sea, base, metresReading}
-use Rattle.scales.specs.Layers.{layerSteps, layerBands}
+use Rattle.scales.specs.Metres.{land, sea, base, metres_reading}
+use Rattle.scales.specs.Layers.{layer_steps, layer_bands}
 use Rattle.record.specs.declared.values.Number.{Number}
 use Rattle.record.specs.declared.values.Number.TheVariants as number
 use Rattle.record.specs.declared.surface.Sight.{Sight}
@@ -43,8 +43,8 @@ use Rattle.synop_groups.specs.declared.read.Seen.{Seen}
 use Rattle.synop_groups.specs.declared.read.Seen.TheVariants as sights
 use Rattle.synop_groups.specs.declared.read.Based.{Based}
 use Rattle.synop_groups.specs.declared.read.Based.TheVariants as bases
-use Rattle.synop_groups.specs.Reads.{Group, wrong, figured, mayMiss, missing, part, used, base_of, sight_of, heightOf, agree}
-use Rattle.synop_groups.specs.Parts.{part_of, heightPart, basePart, seenBy, sightFor, sightPart, basedBy, heightFor, layerPart}
+use Rattle.synop_groups.specs.Reads.{Group, wrong, figured, may_miss, missing, part, used, base_of, sight_of, height_of, agree}
+use Rattle.synop_groups.specs.Parts.{part_of, height_part, base_part, seen_by, sight_for, sight_part, based_by, height_for, layer_part}
 
 -- ---- a number field e, found to be f
 
@@ -64,16 +64,16 @@ module _ {r : Said} {f e : Field} (k : ℕ → Said) (asked : f ≡ e) where
 
   -- it may be missing
   module _ (a : Said) where
-    pub there : {n : ℕ} → f ≡ field.Number n → r ≡ k n → r ≡ mayMiss e a k
+    pub there : {n : ℕ} → f ≡ field.Number n → r ≡ k n → r ≡ may_miss e a k
     there is h = rw (← asked, is) h
 
-    pub absent : f ≡ field.Missing → r ≡ a → r ≡ mayMiss e a k
+    pub absent : f ≡ field.Missing → r ≡ a → r ≡ may_miss e a k
     absent is h = rw (← asked, is) h
 
-    pub neither : OneOf (2 ∷ 3 ∷ []) (tag_of the_type f) → r ≡ wrong → r ≡ mayMiss e a k
+    pub neither : OneOf (2 ∷ 3 ∷ []) (tag_of the_type f) → r ≡ wrong → r ≡ may_miss e a k
     neither = rw (← asked) (by f)
       where
-        by : (f : Field) → OneOf (2 ∷ 3 ∷ []) (tag_of the_type f) → r ≡ wrong → r ≡ mayMiss f a k
+        by : (f : Field) → OneOf (2 ∷ 3 ∷ []) (tag_of the_type f) → r ≡ wrong → r ≡ may_miss f a k
         by (field.Number n) h w = absurd (miss (2 ∷ 3 ∷ []) 0 tt h)
         by field.Missing h w = absurd (miss (2 ∷ 3 ∷ []) 1 tt h)
         by field.Mixed h w = w
@@ -106,13 +106,13 @@ part-is field.Missing k = refl
 part-is field.Mixed k = refl
 part-is field.Other k = refl
 
-height-is : (x : Reading) (k : Number → Said) → used x (λ m. k (number.Is m)) ≡ given (heightPart x) k
+height-is : (x : Reading) (k : Number → Said) → used x (λ m. k (number.Is m)) ≡ given (height_part x) k
 height-is (reading.Is m) k = refl
 height-is reading.Unused k = refl
 
-base-is : (f : Field) (k : Number → Said) → base_of f k ≡ given (basePart f) k
-unfolding basePart
-base-is (field.Number n) k = height-is (metresReading base n) k
+base-is : (f : Field) (k : Number → Said) → base_of f k ≡ given (base_part f) k
+unfolding base_part
+base-is (field.Number n) k = height-is (metres_reading base n) k
 base-is field.Missing k = refl
 base-is field.Mixed k = refl
 base-is field.Other k = refl
@@ -124,35 +124,35 @@ module _ {r : Said} {p : Part} (e : Field) (k : Number → Said) where
   pub unknown : p ≡ part_of e → p ≡ parts.Wrong → r ≡ wrong → r ≡ part e k
   unknown asked is h = rw (part-is e k, ← asked, is) h
 
-  pub base-known : {x : Number} → p ≡ basePart e → p ≡ parts.Known x → r ≡ k x → r ≡ base_of e k
+  pub base-known : {x : Number} → p ≡ base_part e → p ≡ parts.Known x → r ≡ k x → r ≡ base_of e k
   base-known asked is h = rw (base-is e k, ← asked, is) h
 
-  pub base-unknown : p ≡ basePart e → p ≡ parts.Wrong → r ≡ wrong → r ≡ base_of e k
+  pub base-unknown : p ≡ base_part e → p ≡ parts.Wrong → r ≡ wrong → r ≡ base_of e k
   base-unknown asked is h = rw (base-is e k, ← asked, is) h
 
 -- ---- a visibility e, found to be v
 
-abbrev seenAs : Seen → (Sight → Said) → Said
-seenAs (sights.Known x) k = k x
-seenAs sights.Wrong k = wrong
+abbrev seen_as : Seen → (Sight → Said) → Said
+seen_as (sights.Known x) k = k x
+seen_as sights.Wrong k = wrong
 
-metres-is : (scale : ℕ → Sight) (x : Reading) (k : Sight → Said) → used x (λ m. k (scale m)) ≡ seenAs (seenBy scale x) k
+metres-is : (scale : ℕ → Sight) (x : Reading) (k : Sight → Said) → used x (λ m. k (scale m)) ≡ seen_as (seen_by scale x) k
 metres-is scale (reading.Is m) k = refl
 metres-is scale reading.Unused k = refl
 
 either_is : (b : Bool) (x y : Reading) (k : Sight → Said)
-    → cond b (used x (λ m. k (sight.Sea m))) (used y (λ m. k (sight.Land m))) ≡ seenAs (cond b (seenBy sight.Sea x) (seenBy sight.Land y)) k
+    → cond b (used x (λ m. k (sight.Sea m))) (used y (λ m. k (sight.Land m))) ≡ seen_as (cond b (seen_by sight.Sea x) (seen_by sight.Land y)) k
 either_is true x y k = metres-is sight.Sea x k
 either_is false x y k = metres-is sight.Land y k
 
-sight-is : (f : Field) (k : Sight → Said) → sight_of f k ≡ seenAs (sightPart f) k
-unfolding sightPart sightFor
-sight-is (field.Number n) k = either_is (leb 90 n) (metresReading sea n) (metresReading land n) k
+sight-is : (f : Field) (k : Sight → Said) → sight_of f k ≡ seen_as (sight_part f) k
+unfolding sight_part sight_for
+sight-is (field.Number n) k = either_is (leb 90 n) (metres_reading sea n) (metres_reading land n) k
 sight-is field.Missing k = refl
 sight-is field.Mixed k = refl
 sight-is field.Other k = refl
 
-module _ {r : Said} {v : Seen} (e : Field) (k : Sight → Said) (asked : v ≡ sightPart e) where
+module _ {r : Said} {v : Seen} (e : Field) (k : Sight → Said) (asked : v ≡ sight_part e) where
   pub sight-known : {x : Sight} → v ≡ sights.Known x → r ≡ k x → r ≡ sight_of e k
   sight-known is h = rw (sight-is e k, ← asked, is) h
 
@@ -161,31 +161,31 @@ module _ {r : Said} {v : Seen} (e : Field) (k : Sight → Said) (asked : v ≡ s
 
 -- ---- the height of a layer's base e, found to be v
 
-abbrev basedAs : Based → (BaseHeight → Said) → Said
-basedAs (bases.Known x) k = k x
-basedAs bases.Wrong k = wrong
+abbrev based_as : Based → (BaseHeight → Said) → Said
+based_as (bases.Known x) k = k x
+based_as bases.Wrong k = wrong
 
-layer-metres : (scale : ℕ → BaseHeight) (x : Reading) (k : BaseHeight → Said) → used x (λ m. k (scale m)) ≡ basedAs (basedBy scale x) k
+layer-metres : (scale : ℕ → BaseHeight) (x : Reading) (k : BaseHeight → Said) → used x (λ m. k (scale m)) ≡ based_as (based_by scale x) k
 layer-metres scale (reading.Is m) k = refl
 layer-metres scale reading.Unused k = refl
 
 layer-either : (b : Bool) (x y : Reading) (k : BaseHeight → Said)
-    → cond b (used x (λ m. k (height.Bands m))) (used y (λ m. k (height.Steps m))) ≡ basedAs (cond b (basedBy height.Bands x) (basedBy height.Steps y)) k
+    → cond b (used x (λ m. k (height.Bands m))) (used y (λ m. k (height.Steps m))) ≡ based_as (cond b (based_by height.Bands x) (based_by height.Steps y)) k
 layer-either true x y k = layer-metres height.Bands x k
 layer-either false x y k = layer-metres height.Steps y k
 
-layer-is : (f : Field) (k : BaseHeight → Said) → heightOf f k ≡ basedAs (layerPart f) k
-unfolding layerPart heightFor
-layer-is (field.Number n) k = layer-either (leb 90 n) (metresReading layerBands n) (metresReading layerSteps n) k
+layer-is : (f : Field) (k : BaseHeight → Said) → height_of f k ≡ based_as (layer_part f) k
+unfolding layer_part height_for
+layer-is (field.Number n) k = layer-either (leb 90 n) (metres_reading layer_bands n) (metres_reading layer_steps n) k
 layer-is field.Missing k = refl
 layer-is field.Mixed k = refl
 layer-is field.Other k = refl
 
-module _ {r : Said} {v : Based} (e : Field) (k : BaseHeight → Said) (asked : v ≡ layerPart e) where
-  pub height-known : {x : BaseHeight} → v ≡ bases.Known x → r ≡ k x → r ≡ heightOf e k
+module _ {r : Said} {v : Based} (e : Field) (k : BaseHeight → Said) (asked : v ≡ layer_part e) where
+  pub height-known : {x : BaseHeight} → v ≡ bases.Known x → r ≡ k x → r ≡ height_of e k
   height-known is h = rw (layer-is e k, ← asked, is) h
 
-  pub height-unknown : v ≡ bases.Wrong → r ≡ wrong → r ≡ heightOf e k
+  pub height-unknown : v ≡ bases.Wrong → r ≡ wrong → r ≡ height_of e k
   height-unknown is h = rw (layer-is e k, ← asked, is) h
 
 -- ---- a test

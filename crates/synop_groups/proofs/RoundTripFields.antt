@@ -46,10 +46,10 @@ optional-fits w high number.Missing h e = tt
 optional-fits w high (number.Is n) h e = let r = in-range 0 high n e in omega arith
 
 -- one figure that may be missing
-abbrev pub oneFigure : Number → Bool
-oneFigure = optional (between 0 9)
+abbrev pub one_figure : Number → Bool
+one_figure = optional (between 0 9)
 
-pub one-fits : (n : Number) → oneFigure n ≡ true → Fits 1 (field_of n)
+pub one-fits : (n : Number) → one_figure n ≡ true → Fits 1 (field_of n)
 one-fits n e = optional-fits 1 9 n (omega arith) e
 
 -- ---- the reader
@@ -71,9 +71,9 @@ abbrev pub parts_of : List Slot → List Part
 parts_of [] = []
 parts_of (s ∷ ss) = at s.width (field_of s.number) ∷ parts_of ss
 
-abbrev pub numbersOf : List Slot → List Number
-numbersOf [] = []
-numbersOf (s ∷ ss) = s.number ∷ numbersOf ss
+abbrev pub numbers_of : List Slot → List Number
+numbers_of [] = []
+numbers_of (s ∷ ss) = s.number ∷ numbers_of ss
 
 -- the i-th of the numbers
 abbrev pub nth : ℕ → List Number → Number
@@ -84,7 +84,7 @@ abbrev pub asked : Group → ℕ → List Slot → (List Number → Said) → Sa
 asked g i [] k = k []
 asked g i (s ∷ ss) k = part (field_at g i s.width) (λ n. asked g (i + s.width) ss (λ ns. k (n ∷ ns)))
 
-pub asked-back : (g : Group) (i : ℕ) (ss : List Slot) (k : List Number → Said) → Holds g i (parts_of ss) → asked g i ss k ≡ k (numbersOf ss)
+pub asked-back : (g : Group) (i : ℕ) (ss : List Slot) (k : List Number → Said) → Holds g i (parts_of ss) → asked g i ss k ≡ k (numbers_of ss)
 asked-back g i [] k h = refl
 asked-back g i (s ∷ ss) k h =
     part-is (field_at g i s.width) s.number (λ n. asked g (i + s.width) ss (λ ns. k (n ∷ ns))) h.0

@@ -1,10 +1,10 @@
 -- The record that a written group is read back as: each rounded number replaced by the reading of its class, all else as it is.
 -- Assumes nothing: these are definitions.
 use Rattle.std.specs.Prelude.{ℕ, cond, leb, pos}
-use Rattle.scales.specs.Scale.{footOf}
+use Rattle.scales.specs.Scale.{foot_of}
 use Rattle.scales.specs.Metres.{land, sea, base}
-use Rattle.scales.specs.Layers.{layerSteps, layerBands}
-use Rattle.scales.specs.Rounded.{roundedRain}
+use Rattle.scales.specs.Layers.{layer_steps, layer_bands}
+use Rattle.scales.specs.Rounded.{rounded_rain}
 use Rattle.record.specs.declared.values.Number.{Number}
 use Rattle.record.specs.declared.values.Tenths.TheVariants as signed
 use Rattle.record.specs.declared.values.Speed.{Speed}
@@ -20,58 +20,58 @@ use Rattle.record.specs.declared.surface.Rainfall.{Rainfall}
 use Rattle.record.specs.declared.surface.BaseHeight.{BaseHeight}
 use Rattle.record.specs.declared.surface.BaseHeight.TheVariants as height
 use Rattle.record.specs.declared.surface.CloudLayer.{CloudLayer}
-use Rattle.record.specs.Classes.{classOn, classDirection}
-use Rattle.synop_groups.specs.Shows.{magnitudeOf}
+use Rattle.record.specs.Classes.{class_on, class_direction}
+use Rattle.synop_groups.specs.Shows.{magnitude_of}
 
 -- ---- h and VV: the foot of the class
 
-abbrev pub classBase : Number → Number
-classBase = classOn base
+abbrev pub class_base : Number → Number
+class_base = class_on base
 
-abbrev pub classSight : Sight → Sight
-classSight sight.Missing = sight.Missing
-classSight (sight.Land m) = sight.Land (footOf land m)
-classSight (sight.Sea m) = sight.Sea (footOf sea m)
+abbrev pub class_sight : Sight → Sight
+class_sight sight.Missing = sight.Missing
+class_sight (sight.Land m) = sight.Land (foot_of land m)
+class_sight (sight.Sea m) = sight.Sea (foot_of sea m)
 
-abbrev pub classIndicators : Indicators → Indicators
-classIndicators i = record { rain = i.rain; weather = i.weather; base = classBase i.base; sight = classSight i.sight }
+abbrev pub class_indicators : Indicators → Indicators
+class_indicators i = record { rain = i.rain; weather = i.weather; base = class_base i.base; sight = class_sight i.sight }
 
 -- ---- direction and rain
 
-abbrev pub classWind : Wind → Wind
-classWind w = record { cover = w.cover; direction = classDirection w.direction; speed = w.speed }
+abbrev pub class_wind : Wind → Wind
+class_wind w = record { cover = w.cover; direction = class_direction w.direction; speed = w.speed }
 
-abbrev pub classFall : Fall → Fall
-classFall fall.Missing = fall.Missing
-classFall (fall.Is r t) = fall.Is (roundedRain r) t
+abbrev pub class_fall : Fall → Fall
+class_fall fall.Missing = fall.Missing
+class_fall (fall.Is r t) = fall.Is (rounded_rain r) t
 
-abbrev pub classRainfall : Rainfall → Rainfall
-classRainfall r = record { is = classFall r.is }
+abbrev pub class_rainfall : Rainfall → Rainfall
+class_rainfall r = record { is = class_fall r.is }
 
 -- ---- hh of section 3: the foot of the class, on the same scale
 
-abbrev pub classHeight : BaseHeight → BaseHeight
-classHeight height.Missing = height.Missing
-classHeight (height.Steps m) = height.Steps (footOf layerSteps m)
-classHeight (height.Bands m) = height.Bands (footOf layerBands m)
+abbrev pub class_height : BaseHeight → BaseHeight
+class_height height.Missing = height.Missing
+class_height (height.Steps m) = height.Steps (foot_of layer_steps m)
+class_height (height.Bands m) = height.Bands (foot_of layer_bands m)
 
-abbrev pub classLayer : CloudLayer → CloudLayer
-classLayer l = record { amount = l.amount; cloud = l.cloud; height = classHeight l.height }
+abbrev pub class_layer : CloudLayer → CloudLayer
+class_layer l = record { amount = l.amount; cloud = l.cloud; height = class_height l.height }
 
 -- ---- what the first of two groups leaves
 
 -- the latitude before the quadrant is read
-abbrev pub unsignedPosition : Position → Position
-unsignedPosition p = record { latitude = signed.Is (pos (magnitudeOf p.latitude)); longitude = signed.Missing }
+abbrev pub unsigned_position : Position → Position
+unsigned_position p = record { latitude = signed.Is (pos (magnitude_of p.latitude)); longitude = signed.Missing }
 
 -- the wind as Nddff leaves it, before 00fff is read
-abbrev pub inTwo : ℕ → ℕ
-inTwo s = cond (leb 99 s) 99 s
+abbrev pub in_two : ℕ → ℕ
+in_two s = cond (leb 99 s) 99 s
 
-abbrev pub speedInTwo : Speed → Speed
-speedInTwo speed.Missing = speed.Missing
-speedInTwo (speed.Is s) = speed.Is (inTwo s)
-speedInTwo (speed.Above s) = speed.Above s
+abbrev pub speed_in_two : Speed → Speed
+speed_in_two speed.Missing = speed.Missing
+speed_in_two (speed.Is s) = speed.Is (in_two s)
+speed_in_two (speed.Above s) = speed.Above s
 
-abbrev pub windInTwo : Wind → Wind
-windInTwo w = record { cover = w.cover; direction = classDirection w.direction; speed = speedInTwo w.speed }
+abbrev pub wind_in_two : Wind → Wind
+wind_in_two w = record { cover = w.cover; direction = class_direction w.direction; speed = speed_in_two w.speed }

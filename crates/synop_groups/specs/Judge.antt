@@ -3,11 +3,11 @@
 -- Assumes nothing: these are definitions.
 use Rattle.std.specs.Prelude.{ℕ, Bool, true, false, cond, not, ◌&&◌, ◌||◌, length, take, drop, leb, ltb, eqb, ℤ, pos, negsuc, nat_abs}
 use Rattle.std.specs.Int.Signed.{le_z}
-use Rattle.figures.specs.Figures.{isFigure, isLetter, every}
+use Rattle.figures.specs.Figures.{is_figure, is_letter, every}
 use Rattle.figures.specs.Signed.{negative}
 use Rattle.text.specs.declared.kinds.Judged.{Judged}
 use Rattle.text.specs.Judge.{judge}
-use Rattle.scales.specs.Rounded.{rainFits}
+use Rattle.scales.specs.Rounded.{rain_fits}
 use Rattle.record.specs.declared.values.Number.{Number}
 use Rattle.record.specs.declared.values.Number.TheVariants as number
 use Rattle.record.specs.declared.values.Tenths.{Tenths as Signed}
@@ -45,164 +45,164 @@ use Rattle.record.specs.declared.surface.Clock.{Clock}
 use Rattle.record.specs.declared.surface.BaseHeight.{BaseHeight}
 use Rattle.record.specs.declared.surface.BaseHeight.TheVariants as height
 use Rattle.record.specs.declared.surface.CloudLayer.{CloudLayer}
-use Rattle.synop_groups.specs.Reads.{is_unit, isLevel, agree}
-use Rattle.record.specs.Missing.{between, present, optional, noSpeed, isStill, noLetters}
-use Rattle.record.specs.SilentSurface.{noFall, noWeather, isBlankLayer}
+use Rattle.synop_groups.specs.Reads.{is_unit, is_level, agree}
+use Rattle.record.specs.Missing.{between, present, optional, no_speed, is_still, no_letters}
+use Rattle.record.specs.SilentSurface.{no_fall, no_weather, is_blank_layer}
 
 -- ---- ranges
 
-abbrev pub presentTenths : (ℤ → Bool) → Signed → Bool
-presentTenths ok signed.Missing = false
-presentTenths ok (signed.Is t) = ok t
+abbrev pub present_tenths : (ℤ → Bool) → Signed → Bool
+present_tenths ok signed.Missing = false
+present_tenths ok (signed.Is t) = ok t
 
 -- "0 to 99,999 may be written"
 abbrev pub metres : ℕ → Bool
 metres m = leb m 99999
 
-abbrev pub unitFits : Number → Bool
-unitFits = present is_unit
+abbrev pub unit_fits : Number → Bool
+unit_fits = present is_unit
 
 -- ---- the groups through Nddff
 
-unfoldable pub judgeTime : Time → Judged
-judgeTime t = judge (present (between 1 31) t.day && present (between 0 23) t.hour && unitFits t.unit) true
+unfoldable pub judge_time : Time → Judged
+judge_time t = judge (present (between 1 31) t.day && present (between 0 23) t.hour && unit_fits t.unit) true
 
 -- IIiii is 00000 to 99999
-abbrev pub isStation : ℕ → Bool
-isStation = between 0 99999
+abbrev pub is_station : ℕ → Bool
+is_station = between 0 99999
 
-unfoldable pub judgeStation : Number → Judged
-judgeStation n = judge (present isStation n) true
+unfoldable pub judge_station : Number → Judged
+judge_station n = judge (present is_station n) true
 
 -- a slot of a name: a letter or figure up to the count, blank past it
-abbrev pub slotFits : Bool → ℕ → Bool
-slotFits filled b = cond filled (isLetter b || isFigure b) (eqb b 0)
+abbrev pub slot_fits : Bool → ℕ → Bool
+slot_fits filled b = cond filled (is_letter b || is_figure b) (eqb b 0)
 
 -- "a call sign of 3 to 9 letters and figures"; "a slot past its count .. that is not blank"
-unfoldable pub judgeSign : CallSign → Judged
-judgeSign s =
+unfoldable pub judge_sign : CallSign → Judged
+judge_sign s =
     judge
     (between 3 9 s.length
-    && every (λ b. isLetter b || isFigure b) (take s.length s.letters)
-    && noLetters (drop s.length s.letters))
+    && every (λ b. is_letter b || is_figure b) (take s.length s.letters)
+    && no_letters (drop s.length s.letters))
     true
 
 -- "Latitude 000-900"; "a record's longitude runs from -179.9 to 180.0"
-abbrev pub latitudeFits : Signed → Bool
-latitudeFits = presentTenths (λ t. leb (nat_abs t) 900)
+abbrev pub latitude_fits : Signed → Bool
+latitude_fits = present_tenths (λ t. leb (nat_abs t) 900)
 
-abbrev pub longitudeFits : Signed → Bool
-longitudeFits = presentTenths (λ t. le_z (negsuc 1798) t && le_z t (pos 1800))
+abbrev pub longitude_fits : Signed → Bool
+longitude_fits = present_tenths (λ t. le_z (negsuc 1798) t && le_z t (pos 1800))
 
-unfoldable pub judgePosition : Position → Judged
-judgePosition p = judge (latitudeFits p.latitude && longitudeFits p.longitude) true
+unfoldable pub judge_position : Position → Judged
+judge_position p = judge (latitude_fits p.latitude && longitude_fits p.longitude) true
 
-abbrev pub sightFits : Sight → Bool
-sightFits sight.Missing = true
-sightFits (sight.Land m) = metres m
-sightFits (sight.Sea m) = metres m
+abbrev pub sight_fits : Sight → Bool
+sight_fits sight.Missing = true
+sight_fits (sight.Land m) = metres m
+sight_fits (sight.Sea m) = metres m
 
-unfoldable pub judgeIndicators : Indicators → Judged
-judgeIndicators i =
-    judge (present (between 0 4) i.rain && present (between 1 7) i.weather && optional metres i.base && sightFits i.sight) true
+unfoldable pub judge_indicators : Indicators → Judged
+judge_indicators i =
+    judge (present (between 0 4) i.rain && present (between 1 7) i.weather && optional metres i.base && sight_fits i.sight) true
 
 -- the speed beside a direction that is not missing; document 02, No. 8: "any "above" in a SYNOP or SHIP" is 11
-abbrev pub speedFits : Speed → Bool
-speedFits speed.Missing = false
-speedFits (speed.Is s) = leb s 999
-speedFits (speed.Above s) = false
+abbrev pub speed_fits : Speed → Bool
+speed_fits speed.Missing = false
+speed_fits (speed.Is s) = leb s 999
+speed_fits (speed.Above s) = false
 
 -- direction and speed in range, missing together; "A zero speed with dd not 00, or the reverse, is 7."
-abbrev pub windFits : Direction → Speed → Bool
-windFits direction.Missing s = noSpeed s
-windFits direction.Calm s = speedFits s
-windFits direction.Variable s = speedFits s
-windFits (direction.Degrees d) s = leb d 359 && speedFits s
+abbrev pub wind_fits : Direction → Speed → Bool
+wind_fits direction.Missing s = no_speed s
+wind_fits direction.Calm s = speed_fits s
+wind_fits direction.Variable s = speed_fits s
+wind_fits (direction.Degrees d) s = leb d 359 && speed_fits s
 
-abbrev pub windAgrees : Direction → Speed → Bool
-windAgrees direction.Missing s = true
-windAgrees direction.Calm s = agree true (isStill s)
-windAgrees direction.Variable s = agree false (isStill s)
-windAgrees (direction.Degrees d) s = agree false (isStill s)
+abbrev pub wind_agrees : Direction → Speed → Bool
+wind_agrees direction.Missing s = true
+wind_agrees direction.Calm s = agree true (is_still s)
+wind_agrees direction.Variable s = agree false (is_still s)
+wind_agrees (direction.Degrees d) s = agree false (is_still s)
 
-unfoldable pub judgeWind : Wind → Judged
-judgeWind w = judge (optional (between 0 9) w.cover && windFits w.direction w.speed) (windAgrees w.direction w.speed)
+unfoldable pub judge_wind : Wind → Judged
+judge_wind w = judge (optional (between 0 9) w.cover && wind_fits w.direction w.speed) (wind_agrees w.direction w.speed)
 
 -- ---- section 1
 
-abbrev pub tenthsFit : Signed → Bool
-tenthsFit signed.Missing = true
-tenthsFit (signed.Is t) = leb (nat_abs t) 999
+abbrev pub tenths_fit : Signed → Bool
+tenths_fit signed.Missing = true
+tenths_fit (signed.Is t) = leb (nat_abs t) 999
 
-unfoldable pub judgeAir : Air → Judged
-judgeAir a = judge (tenthsFit a.temperature) true
+unfoldable pub judge_air : Air → Judged
+judge_air a = judge (tenths_fit a.temperature) true
 
-abbrev pub moistFits : Moist → Bool
-moistFits moist.Missing = true
-moistFits (moist.DewPoint t) = leb (nat_abs t) 999
-moistFits (moist.Humidity u) = leb u 100
+abbrev pub moist_fits : Moist → Bool
+moist_fits moist.Missing = true
+moist_fits (moist.DewPoint t) = leb (nat_abs t) 999
+moist_fits (moist.Humidity u) = leb u 100
 
-unfoldable pub judgeMoisture : Moisture → Judged
-judgeMoisture m = judge (moistFits m.is) true
+unfoldable pub judge_moisture : Moisture → Judged
+judge_moisture m = judge (moist_fits m.is) true
 
-unfoldable pub judgePressure : Pressure → Judged
-judgePressure p = judge (optional (between 1000 10999) p.station) true
+unfoldable pub judge_pressure : Pressure → Judged
+judge_pressure p = judge (optional (between 1000 10999) p.station) true
 
-abbrev pub levelFits : AtLevel → Bool
-levelFits at_level.Missing = true
-levelFits (at_level.Pressure p) = between 9000 10999 p
-levelFits (at_level.Isobaric a h) = isLevel a && leb h 999
+abbrev pub level_fits : AtLevel → Bool
+level_fits at_level.Missing = true
+level_fits (at_level.Pressure p) = between 9000 10999 p
+level_fits (at_level.Isobaric a h) = is_level a && leb h 999
 
-unfoldable pub judgeLevel : Level → Judged
-judgeLevel l = judge (levelFits l.is) true
+unfoldable pub judge_level : Level → Judged
+judge_level l = judge (level_fits l.is) true
 
-abbrev pub changeFits : PressureChange → Bool
-changeFits change.Missing = true
-changeFits (change.Is a c) = leb a 8 && leb (nat_abs c) 999
+abbrev pub change_fits : PressureChange → Bool
+change_fits change.Missing = true
+change_fits (change.Is a c) = leb a 8 && leb (nat_abs c) 999
 
 -- "In a record a change against a is 7."
-abbrev pub changeSuits : ℕ → ℤ → Bool
-changeSuits a c = cond (ltb a 4) (not (negative c)) (cond (eqb a 4) (eqb (nat_abs c) 0) (negative c || eqb (nat_abs c) 0))
+abbrev pub change_suits : ℕ → ℤ → Bool
+change_suits a c = cond (ltb a 4) (not (negative c)) (cond (eqb a 4) (eqb (nat_abs c) 0) (negative c || eqb (nat_abs c) 0))
 
-abbrev pub changeAgrees : PressureChange → Bool
-changeAgrees change.Missing = true
-changeAgrees (change.Is a c) = changeSuits a c
+abbrev pub change_agrees : PressureChange → Bool
+change_agrees change.Missing = true
+change_agrees (change.Is a c) = change_suits a c
 
-unfoldable pub judgeTendency : Tendency → Judged
-judgeTendency t = judge (changeFits t.is) (changeAgrees t.is)
+unfoldable pub judge_tendency : Tendency → Judged
+judge_tendency t = judge (change_fits t.is) (change_agrees t.is)
 
-abbrev pub fallFits : Fall → Bool
-fallFits fall.Missing = true
-fallFits (fall.Is r t) = rainFits r && optional (between 0 9) t
+abbrev pub fall_fits : Fall → Bool
+fall_fits fall.Missing = true
+fall_fits (fall.Is r t) = rain_fits r && optional (between 0 9) t
 
 -- forbidden: iR is not 0 or 1
-unfoldable pub judgeRainfall : Bool → Rainfall → Judged
-judgeRainfall forbidden r = judge (fallFits r.is) (not forbidden || noFall r.is)
+unfoldable pub judge_rainfall : Bool → Rainfall → Judged
+judge_rainfall forbidden r = judge (fall_fits r.is) (not forbidden || no_fall r.is)
 
 -- forbidden: ix is not 1, 4 or 7
-unfoldable pub judgeWeather : Bool → Weather → Judged
-judgeWeather forbidden w =
-    judge (optional (between 0 99) w.present && optional (between 0 9) w.past && optional (between 0 9) w.past2) (not forbidden || noWeather w)
+unfoldable pub judge_weather : Bool → Weather → Judged
+judge_weather forbidden w =
+    judge (optional (between 0 99) w.present && optional (between 0 9) w.past && optional (between 0 9) w.past2) (not forbidden || no_weather w)
 
-unfoldable pub judgeClouds : Clouds → Judged
-judgeClouds c =
+unfoldable pub judge_clouds : Clouds → Judged
+judge_clouds c =
     judge
     (optional (between 0 9) c.amount && optional (between 0 9) c.low && optional (between 0 9) c.middle && optional (between 0 9) c.high)
     true
 
-abbrev pub clockFits : Observed → Bool
-clockFits observed.Missing = true
-clockFits (observed.At h m) = leb h 23 && leb m 59
+abbrev pub clock_fits : Observed → Bool
+clock_fits observed.Missing = true
+clock_fits (observed.At h m) = leb h 23 && leb m 59
 
-unfoldable pub judgeClock : Clock → Judged
-judgeClock c = judge (clockFits c.is) true
+unfoldable pub judge_clock : Clock → Judged
+judge_clock c = judge (clock_fits c.is) true
 
 -- ---- a layer of section 3: "a record's layer all missing is 11"
 
-abbrev pub heightFits : BaseHeight → Bool
-heightFits height.Missing = true
-heightFits (height.Steps m) = metres m
-heightFits (height.Bands m) = metres m
+abbrev pub height_fits : BaseHeight → Bool
+height_fits height.Missing = true
+height_fits (height.Steps m) = metres m
+height_fits (height.Bands m) = metres m
 
-unfoldable pub layerFits : CloudLayer → Bool
-layerFits l = not (isBlankLayer l) && optional (between 0 9) l.amount && optional (between 0 9) l.cloud && heightFits l.height
+unfoldable pub layer_fits : CloudLayer → Bool
+layer_fits l = not (is_blank_layer l) && optional (between 0 9) l.amount && optional (between 0 9) l.cloud && height_fits l.height

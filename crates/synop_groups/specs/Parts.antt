@@ -5,8 +5,8 @@ use Rattle.figures.specs.declared.kinds.Field.{Field}
 use Rattle.figures.specs.declared.kinds.Field.TheVariants as field
 use Rattle.scales.specs.declared.kinds.Reading.{Reading}
 use Rattle.scales.specs.declared.kinds.Reading.TheVariants as reading
-use Rattle.scales.specs.Metres.{land, sea, base, metresReading}
-use Rattle.scales.specs.Layers.{layerSteps, layerBands}
+use Rattle.scales.specs.Metres.{land, sea, base, metres_reading}
+use Rattle.scales.specs.Layers.{layer_steps, layer_bands}
 use Rattle.record.specs.declared.values.Number.TheVariants as number
 use Rattle.record.specs.declared.surface.Sight.{Sight}
 use Rattle.record.specs.declared.surface.Sight.TheVariants as sight
@@ -27,40 +27,40 @@ part_of field.Mixed = part.Wrong
 part_of field.Other = part.Wrong
 
 -- the height of the lowest cloud's base
-abbrev pub heightPart : Reading → Part
-heightPart (reading.Is m) = part.Known (number.Is m)
-heightPart reading.Unused = part.Wrong
+abbrev pub height_part : Reading → Part
+height_part (reading.Is m) = part.Known (number.Is m)
+height_part reading.Unused = part.Wrong
 
-unfoldable pub basePart : Field → Part
-basePart (field.Number n) = heightPart (metresReading base n)
-basePart field.Missing = part.Known number.Missing
-basePart field.Mixed = part.Wrong
-basePart field.Other = part.Wrong
+unfoldable pub base_part : Field → Part
+base_part (field.Number n) = height_part (metres_reading base n)
+base_part field.Missing = part.Known number.Missing
+base_part field.Mixed = part.Wrong
+base_part field.Other = part.Wrong
 
 -- the visibility, on the scale that its figure is of
-abbrev pub seenBy : (ℕ → Sight) → Reading → Seen
-seenBy scale (reading.Is m) = seen.Known (scale m)
-seenBy scale reading.Unused = seen.Wrong
+abbrev pub seen_by : (ℕ → Sight) → Reading → Seen
+seen_by scale (reading.Is m) = seen.Known (scale m)
+seen_by scale reading.Unused = seen.Wrong
 
-unfoldable pub sightFor : ℕ → Seen
-sightFor n = cond (leb 90 n) (seenBy sight.Sea (metresReading sea n)) (seenBy sight.Land (metresReading land n))
+unfoldable pub sight_for : ℕ → Seen
+sight_for n = cond (leb 90 n) (seen_by sight.Sea (metres_reading sea n)) (seen_by sight.Land (metres_reading land n))
 
-unfoldable pub sightPart : Field → Seen
-sightPart (field.Number n) = sightFor n
-sightPart field.Missing = seen.Known sight.Missing
-sightPart field.Mixed = seen.Wrong
-sightPart field.Other = seen.Wrong
+unfoldable pub sight_part : Field → Seen
+sight_part (field.Number n) = sight_for n
+sight_part field.Missing = seen.Known sight.Missing
+sight_part field.Mixed = seen.Wrong
+sight_part field.Other = seen.Wrong
 
 -- the height of a layer's base, on the scale that its figure is of
-abbrev pub basedBy : (ℕ → BaseHeight) → Reading → Based
-basedBy scale (reading.Is m) = based.Known (scale m)
-basedBy scale reading.Unused = based.Wrong
+abbrev pub based_by : (ℕ → BaseHeight) → Reading → Based
+based_by scale (reading.Is m) = based.Known (scale m)
+based_by scale reading.Unused = based.Wrong
 
-unfoldable pub heightFor : ℕ → Based
-heightFor n = cond (leb 90 n) (basedBy height.Bands (metresReading layerBands n)) (basedBy height.Steps (metresReading layerSteps n))
+unfoldable pub height_for : ℕ → Based
+height_for n = cond (leb 90 n) (based_by height.Bands (metres_reading layer_bands n)) (based_by height.Steps (metres_reading layer_steps n))
 
-unfoldable pub layerPart : Field → Based
-layerPart (field.Number n) = heightFor n
-layerPart field.Missing = based.Known height.Missing
-layerPart field.Mixed = based.Wrong
-layerPart field.Other = based.Wrong
+unfoldable pub layer_part : Field → Based
+layer_part (field.Number n) = height_for n
+layer_part field.Missing = based.Known height.Missing
+layer_part field.Mixed = based.Wrong
+layer_part field.Other = based.Wrong

@@ -5,21 +5,21 @@ use Rattle.std.specs.Prelude.{ℕ, Bool, cond, not, ◌&&◌, ◌||◌, eqb, ℤ
 use Rattle.figures.specs.Signed.{negative, with_sign}
 
 -- the quadrants of table 3333 here
-abbrev pub isQuadrant : ℕ → Bool
-isQuadrant q = eqb q 1 || eqb q 3 || eqb q 5 || eqb q 7
+abbrev pub is_quadrant : ℕ → Bool
+is_quadrant q = eqb q 1 || eqb q 3 || eqb q 5 || eqb q 7
 
-abbrev pub isSouth : ℕ → Bool
-isSouth q = eqb q 3 || eqb q 5
+abbrev pub is_south : ℕ → Bool
+is_south q = eqb q 3 || eqb q 5
 
-abbrev pub isWest : ℕ → Bool
-isWest q = eqb q 5 || eqb q 7
+abbrev pub is_west : ℕ → Bool
+is_west q = eqb q 5 || eqb q 7
 
-abbrev pub latitudeOf : ℕ → ℕ → ℤ
-latitudeOf q m = with_sign (isSouth q) m
+abbrev pub latitude_of : ℕ → ℕ → ℤ
+latitude_of q m = with_sign (is_south q) m
 
-abbrev pub longitudeOf : ℕ → ℕ → ℤ
-longitudeOf q m = with_sign (isWest q && not (eqb m 1800)) m
+abbrev pub longitude_of : ℕ → ℕ → ℤ
+longitude_of q m = with_sign (is_west q && not (eqb m 1800)) m
 
 -- the quadrant of a position
-abbrev pub quadrantOf : ℤ → ℤ → ℕ
-quadrantOf latitude longitude = cond (negative longitude) (cond (negative latitude) 5 7) (cond (negative latitude) 3 1)
+abbrev pub quadrant_of : ℤ → ℤ → ℕ
+quadrant_of latitude longitude = cond (negative longitude) (cond (negative latitude) 5 7) (cond (negative latitude) 3 1)

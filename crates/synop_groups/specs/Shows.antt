@@ -5,12 +5,12 @@ use Rattle.std.specs.Prelude.{ℕ, ◌%◌, Bool, true, false, cond, List, [], �
 use Rattle.figures.specs.declared.kinds.Field.{Field}
 use Rattle.figures.specs.declared.kinds.Field.TheVariants as field
 use Rattle.figures.specs.Quote.{bytes}
-use Rattle.figures.specs.Figures.{figures, fieldText}
+use Rattle.figures.specs.Figures.{figures, field_text}
 use Rattle.figures.specs.Signed.{negative}
-use Rattle.scales.specs.Metres.{land, sea, base, metresFigure}
-use Rattle.scales.specs.Layers.{layerSteps, layerBands}
-use Rattle.scales.specs.Rounded.{rainFigure, directionFigure}
-use Rattle.scales.specs.Fields.{fieldBy}
+use Rattle.scales.specs.Metres.{land, sea, base, metres_figure}
+use Rattle.scales.specs.Layers.{layer_steps, layer_bands}
+use Rattle.scales.specs.Rounded.{rain_figure, direction_figure}
+use Rattle.scales.specs.Fields.{field_by}
 use Rattle.record.specs.declared.values.Number.{Number}
 use Rattle.record.specs.declared.values.Number.TheVariants as number
 use Rattle.record.specs.declared.values.Tenths.{Tenths as Signed}
@@ -48,9 +48,9 @@ use Rattle.record.specs.declared.surface.Clock.{Clock}
 use Rattle.record.specs.declared.surface.BaseHeight.{BaseHeight}
 use Rattle.record.specs.declared.surface.BaseHeight.TheVariants as height
 use Rattle.record.specs.declared.surface.CloudLayer.{CloudLayer}
-use Rattle.record.specs.SilentSurface.{noWeather, noClouds}
+use Rattle.record.specs.SilentSurface.{no_weather, no_clouds}
 use Rattle.shapes.specs.Pattern.{Pattern}
-use Rattle.synop_groups.specs.Position.{quadrantOf}
+use Rattle.synop_groups.specs.Position.{quadrant_of}
 use Rattle.synop_groups.specs.Reads.{Group}
 
 -- ---- parts
@@ -60,168 +60,168 @@ abbrev pub field_of : Number → Field
 field_of number.Missing = field.Missing
 field_of (number.Is n) = field.Number n
 
-abbrev pub magnitudeOf : Signed → ℕ
-magnitudeOf signed.Missing = 0
-magnitudeOf (signed.Is t) = nat_abs t
+abbrev pub magnitude_of : Signed → ℕ
+magnitude_of signed.Missing = 0
+magnitude_of (signed.Is t) = nat_abs t
 
-abbrev pub signedValue : Signed → ℤ
-signedValue signed.Missing = pos 0
-signedValue (signed.Is t) = t
+abbrev pub signed_value : Signed → ℤ
+signed_value signed.Missing = pos 0
+signed_value (signed.Is t) = t
 
 -- sTTT: the sign's figure and three figures
-abbrev pub signText : ℤ → List ℕ
-signText t = cond (negative t) (bytes "1") (bytes "0") ++ figures 3 (nat_abs t)
+abbrev pub sign_text_lem : ℤ → List ℕ
+sign_text_lem t = cond (negative t) (bytes "1") (bytes "0") ++ figures 3 (nat_abs t)
 
 -- ---- the groups through Nddff
 
-unfoldable pub showTime : Time → Group
-showTime t = fieldText 2 (field_of t.day) ++ fieldText 2 (field_of t.hour) ++ fieldText 1 (field_of t.unit)
+unfoldable pub show_time : Time → Group
+show_time t = field_text 2 (field_of t.day) ++ field_text 2 (field_of t.hour) ++ field_text 1 (field_of t.unit)
 
-unfoldable pub showStation : Number → Group
-showStation n = fieldText 5 (field_of n)
+unfoldable pub show_station : Number → Group
+show_station n = field_text 5 (field_of n)
 
-unfoldable pub showSign : CallSign → Group
-showSign s = take s.length s.letters
+unfoldable pub show_sign : CallSign → Group
+show_sign s = take s.length s.letters
 
-unfoldable pub showLatitude : Position → Group
-showLatitude p = bytes "99" ++ figures 3 (magnitudeOf p.latitude)
+unfoldable pub show_latitude : Position → Group
+show_latitude p = bytes "99" ++ figures 3 (magnitude_of p.latitude)
 
-unfoldable pub showLongitude : Position → Group
-showLongitude p = figures 1 (quadrantOf (signedValue p.latitude) (signedValue p.longitude)) ++ figures 4 (magnitudeOf p.longitude)
+unfoldable pub show_longitude : Position → Group
+show_longitude p = figures 1 (quadrant_of (signed_value p.latitude) (signed_value p.longitude)) ++ figures 4 (magnitude_of p.longitude)
 
-abbrev pub baseField : Number → Field
-baseField number.Missing = field.Missing
-baseField (number.Is m) = fieldBy (metresFigure base m)
+abbrev pub base_field : Number → Field
+base_field number.Missing = field.Missing
+base_field (number.Is m) = field_by (metres_figure base m)
 
-abbrev pub sightField : Sight → Field
-sightField sight.Missing = field.Missing
-sightField (sight.Land m) = fieldBy (metresFigure land m)
-sightField (sight.Sea m) = fieldBy (metresFigure sea m)
+abbrev pub sight_field : Sight → Field
+sight_field sight.Missing = field.Missing
+sight_field (sight.Land m) = field_by (metres_figure land m)
+sight_field (sight.Sea m) = field_by (metres_figure sea m)
 
-unfoldable pub showIndicators : Indicators → Group
-showIndicators i =
-    fieldText 1 (field_of i.rain) ++ fieldText 1 (field_of i.weather) ++ fieldText 1 (baseField i.base) ++ fieldText 2 (sightField i.sight)
+unfoldable pub show_indicators : Indicators → Group
+show_indicators i =
+    field_text 1 (field_of i.rain) ++ field_text 1 (field_of i.weather) ++ field_text 1 (base_field i.base) ++ field_text 2 (sight_field i.sight)
 
-abbrev pub directionField : Direction → Field
-directionField direction.Missing = field.Missing
-directionField direction.Calm = field.Number 0
-directionField direction.Variable = field.Number 99
-directionField (direction.Degrees d) = fieldBy (directionFigure d)
+abbrev pub direction_field : Direction → Field
+direction_field direction.Missing = field.Missing
+direction_field direction.Calm = field.Number 0
+direction_field direction.Variable = field.Number 99
+direction_field (direction.Degrees d) = field_by (direction_figure d)
 
 -- "A speed of 99 units or more is ff 99 and at once 00fff"; an "above" is refused, and so never written
-abbrev pub speedField : Speed → Field
-speedField speed.Missing = field.Missing
-speedField (speed.Is s) = field.Number (cond (leb 99 s) 99 s)
-speedField (speed.Above s) = field.Missing
+abbrev pub speed_field : Speed → Field
+speed_field speed.Missing = field.Missing
+speed_field (speed.Is s) = field.Number (cond (leb 99 s) 99 s)
+speed_field (speed.Above s) = field.Missing
 
-unfoldable pub showWind : Wind → Group
-showWind w = fieldText 1 (field_of w.cover) ++ fieldText 2 (directionField w.direction) ++ fieldText 2 (speedField w.speed)
+unfoldable pub show_wind : Wind → Group
+show_wind w = field_text 1 (field_of w.cover) ++ field_text 2 (direction_field w.direction) ++ field_text 2 (speed_field w.speed)
 
 -- a speed that has to be written in 00fff
-abbrev pub isInThree : Speed → Bool
-isInThree speed.Missing = false
-isInThree (speed.Is s) = leb 99 s
-isInThree (speed.Above s) = false
+abbrev pub is_in_three : Speed → Bool
+is_in_three speed.Missing = false
+is_in_three (speed.Is s) = leb 99 s
+is_in_three (speed.Above s) = false
 
-abbrev pub speedGroup : Speed → List Group
-speedGroup speed.Missing = []
-speedGroup (speed.Is s) = cond (leb 99 s) ((bytes "00" ++ figures 3 s) ∷ []) []
-speedGroup (speed.Above s) = []
+abbrev pub speed_group : Speed → List Group
+speed_group speed.Missing = []
+speed_group (speed.Is s) = cond (leb 99 s) ((bytes "00" ++ figures 3 s) ∷ []) []
+speed_group (speed.Above s) = []
 
 -- ---- section 1
 
-unfoldable pub showSpeed : Wind → List Group
-showSpeed w = speedGroup w.speed
+unfoldable pub show_speed : Wind → List Group
+show_speed w = speed_group w.speed
 
 -- a first figure and sTTT
-abbrev pub signedGroup : ℕ → Signed → List Group
-signedGroup first signed.Missing = []
-signedGroup first (signed.Is t) = (first ∷ signText t) ∷ []
+abbrev pub signed_group : ℕ → Signed → List Group
+signed_group first signed.Missing = []
+signed_group first (signed.Is t) = (first ∷ sign_text_lem t) ∷ []
 
-unfoldable pub showAir : Air → List Group
-showAir a = signedGroup 49 a.temperature
+unfoldable pub show_air : Air → List Group
+show_air a = signed_group 49 a.temperature
 
-abbrev pub moistGroup : Moist → List Group
-moistGroup moist.Missing = []
-moistGroup (moist.DewPoint t) = (bytes "2" ++ signText t) ∷ []
-moistGroup (moist.Humidity u) = (bytes "29" ++ figures 3 u) ∷ []
+abbrev pub moist_group : Moist → List Group
+moist_group moist.Missing = []
+moist_group (moist.DewPoint t) = (bytes "2" ++ sign_text_lem t) ∷ []
+moist_group (moist.Humidity u) = (bytes "29" ++ figures 3 u) ∷ []
 
 -- a dew point is written with the sign 0 or 1, a humidity with 9: no such group is the stop word 222 with two more characters
-abbrev pub moistureSpoken : List Pattern
-moistureSpoken = bytes "20###" ∷ bytes "21###" ∷ bytes "29###" ∷ []
+abbrev pub moisture_spoken : List Pattern
+moisture_spoken = bytes "20###" ∷ bytes "21###" ∷ bytes "29###" ∷ []
 
-unfoldable pub showMoisture : Moisture → List Group
-showMoisture m = moistGroup m.is
+unfoldable pub show_moisture : Moisture → List Group
+show_moisture m = moist_group m.is
 
 -- 1000.0 hPa and more without the first figure
-abbrev pub pressureText : ℕ → List ℕ
-pressureText p = figures 4 (p % 10000)
+abbrev pub pressure_text : ℕ → List ℕ
+pressure_text p = figures 4 (p % 10000)
 
-abbrev pub pressureGroup : Number → List Group
-pressureGroup number.Missing = []
-pressureGroup (number.Is p) = (bytes "3" ++ pressureText p) ∷ []
+abbrev pub pressure_group : Number → List Group
+pressure_group number.Missing = []
+pressure_group (number.Is p) = (bytes "3" ++ pressure_text p) ∷ []
 
-unfoldable pub showPressure : Pressure → List Group
-showPressure p = pressureGroup p.station
+unfoldable pub show_pressure : Pressure → List Group
+show_pressure p = pressure_group p.station
 
-abbrev pub levelGroup : AtLevel → List Group
-levelGroup at_level.Missing = []
-levelGroup (at_level.Pressure p) = (bytes "4" ++ pressureText p) ∷ []
-levelGroup (at_level.Isobaric a h) = (bytes "4" ++ figures 1 a ++ figures 3 h) ∷ []
+abbrev pub level_group : AtLevel → List Group
+level_group at_level.Missing = []
+level_group (at_level.Pressure p) = (bytes "4" ++ pressure_text p) ∷ []
+level_group (at_level.Isobaric a h) = (bytes "4" ++ figures 1 a ++ figures 3 h) ∷ []
 
-unfoldable pub showLevel : Level → List Group
-showLevel l = levelGroup l.is
+unfoldable pub show_level : Level → List Group
+show_level l = level_group l.is
 
-abbrev pub tendencyGroup : PressureChange → List Group
-tendencyGroup change.Missing = []
-tendencyGroup (change.Is a c) = (bytes "5" ++ figures 1 a ++ figures 3 (nat_abs c)) ∷ []
+abbrev pub tendency_group : PressureChange → List Group
+tendency_group change.Missing = []
+tendency_group (change.Is a c) = (bytes "5" ++ figures 1 a ++ figures 3 (nat_abs c)) ∷ []
 
-unfoldable pub showTendency : Tendency → List Group
-showTendency t = tendencyGroup t.is
+unfoldable pub show_tendency : Tendency → List Group
+show_tendency t = tendency_group t.is
 
 -- a group that is all slashes is written only where it is required
-abbrev pub ifRequired : Bool → Group → List Group
-ifRequired required g = cond required (g ∷ []) []
+abbrev pub if_required : Bool → Group → List Group
+if_required required g = cond required (g ∷ []) []
 
-abbrev pub rainfallGroup : Bool → Fall → List Group
-rainfallGroup required fall.Missing = ifRequired required (bytes "6////")
-rainfallGroup required (fall.Is r t) = (bytes "6" ++ fieldText 3 (fieldBy (rainFigure r)) ++ fieldText 1 (field_of t)) ∷ []
+abbrev pub rainfall_group : Bool → Fall → List Group
+rainfall_group required fall.Missing = if_required required (bytes "6////")
+rainfall_group required (fall.Is r t) = (bytes "6" ++ field_text 3 (field_by (rain_figure r)) ++ field_text 1 (field_of t)) ∷ []
 
-unfoldable pub showRainfall : Bool → Rainfall → List Group
-showRainfall required r = rainfallGroup required r.is
+unfoldable pub show_rainfall : Bool → Rainfall → List Group
+show_rainfall required r = rainfall_group required r.is
 
-unfoldable pub weatherText : Weather → Group
-weatherText w = bytes "7" ++ fieldText 2 (field_of w.present) ++ fieldText 1 (field_of w.past) ++ fieldText 1 (field_of w.past2)
+unfoldable pub weather_text : Weather → Group
+weather_text w = bytes "7" ++ field_text 2 (field_of w.present) ++ field_text 1 (field_of w.past) ++ field_text 1 (field_of w.past2)
 
-unfoldable pub showWeather : Bool → Weather → List Group
-showWeather required w = cond (noWeather w) (ifRequired required (weatherText w)) (weatherText w ∷ [])
+unfoldable pub show_weather : Bool → Weather → List Group
+show_weather required w = cond (no_weather w) (if_required required (weather_text w)) (weather_text w ∷ [])
 
-unfoldable pub cloudsText : Clouds → Group
-cloudsText c =
-    bytes "8" ++ fieldText 1 (field_of c.amount) ++ fieldText 1 (field_of c.low) ++ fieldText 1 (field_of c.middle) ++ fieldText 1 (field_of c.high)
+unfoldable pub clouds_text : Clouds → Group
+clouds_text c =
+    bytes "8" ++ field_text 1 (field_of c.amount) ++ field_text 1 (field_of c.low) ++ field_text 1 (field_of c.middle) ++ field_text 1 (field_of c.high)
 
-unfoldable pub showClouds : Clouds → List Group
-showClouds c = cond (noClouds c) [] (cloudsText c ∷ [])
+unfoldable pub show_clouds : Clouds → List Group
+show_clouds c = cond (no_clouds c) [] (clouds_text c ∷ [])
 
-abbrev pub clockGroup : Observed → List Group
-clockGroup observed.Missing = []
-clockGroup (observed.At h m) = (bytes "9" ++ figures 2 h ++ figures 2 m) ∷ []
+abbrev pub clock_group : Observed → List Group
+clock_group observed.Missing = []
+clock_group (observed.At h m) = (bytes "9" ++ figures 2 h ++ figures 2 m) ∷ []
 
-unfoldable pub showClock : Clock → List Group
-showClock c = clockGroup c.is
+unfoldable pub show_clock : Clock → List Group
+show_clock c = clock_group c.is
 
 -- ---- section 3: 1sTTT is written as in section 1; 2sTTT, never the stop word 222 with two more characters; 8NChh
 
-unfoldable pub showMinimum : Air → List Group
-showMinimum a = signedGroup 50 a.temperature
+unfoldable pub show_minimum : Air → List Group
+show_minimum a = signed_group 50 a.temperature
 
-abbrev pub minimumSpoken : List Pattern
-minimumSpoken = bytes "20###" ∷ bytes "21###" ∷ []
+abbrev pub minimum_spoken : List Pattern
+minimum_spoken = bytes "20###" ∷ bytes "21###" ∷ []
 
-abbrev pub heightField : BaseHeight → Field
-heightField height.Missing = field.Missing
-heightField (height.Steps m) = fieldBy (metresFigure layerSteps m)
-heightField (height.Bands m) = fieldBy (metresFigure layerBands m)
+abbrev pub height_field : BaseHeight → Field
+height_field height.Missing = field.Missing
+height_field (height.Steps m) = field_by (metres_figure layer_steps m)
+height_field (height.Bands m) = field_by (metres_figure layer_bands m)
 
-unfoldable pub showLayer : CloudLayer → Group
-showLayer l = bytes "8" ++ fieldText 1 (field_of l.amount) ++ fieldText 1 (field_of l.cloud) ++ fieldText 2 (heightField l.height)
+unfoldable pub show_layer : CloudLayer → Group
+show_layer l = bytes "8" ++ field_text 1 (field_of l.amount) ++ field_text 1 (field_of l.cloud) ++ field_text 2 (height_field l.height)

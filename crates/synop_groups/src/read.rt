@@ -3,8 +3,8 @@
 ghost use Rattle.std.specs.Prelude.{◌≡◌, ◌<◌};
 ghost use Rattle.figures.specs.Figures.{field_at};
 ghost use Rattle.figures.specs.Signed.{with_sign};
-ghost use Rattle.synop_groups.specs.Parts.{part_of, basePart, sightFor, sightPart, heightFor, layerPart};
-ghost use Rattle.synop_groups.specs.Reads.{wrong, disagrees, unless, readLatitude, position_of, pressureOf, levelIs, tendencyIs, windOf, windBy, airIs, moistureIs, rainfallOf, saidTime, saidStation, saidLatitude, saidLongitude, saidIndicators, saidWind, saidSpeed, saidAir, saidMoisture, saidPressure, saidLevel, saidTendency, saidRainfall, saidWeather, saidClouds, saidClock, saidLayer};
+ghost use Rattle.synop_groups.specs.Parts.{part_of, base_part, sight_for, sight_part, height_for, layer_part};
+ghost use Rattle.synop_groups.specs.Reads.{wrong, disagrees, unless, read_latitude, position_of, pressure_of, level_is, tendency_is, wind_of, wind_by, air_is, moisture_is, rainfall_of, said_time, said_station, said_latitude, said_longitude, said_indicators, said_wind, said_speed, said_air, said_moisture, said_pressure, said_level, said_tendency, said_rainfall, said_weather, said_clouds, said_clock, said_layer};
 
 use crate::kinds::Said;
 use figures::kinds::{Field, Signed};
@@ -57,7 +57,7 @@ fn unless_forbidden(forbidden: bool, s: Said) -> Said
 
 // YYGGiw
 pub fn read_time(g: &[u8]) -> Said
-    ensures { result ≡ saidTime g.now }
+    ensures { result ≡ said_time g.now }
 {
     let Field::Number(day) = field(g, 0, 2) else {
         return wrong_figure();
@@ -82,7 +82,7 @@ pub fn read_time(g: &[u8]) -> Said
 
 // IIiii
 pub fn read_station(g: &[u8]) -> Said
-    ensures { result ≡ saidStation g.now }
+    ensures { result ≡ said_station g.now }
 {
     let Field::Number(n) = field(g, 0, 5) else {
         return wrong_figure();
@@ -104,7 +104,7 @@ fn with_sign(minus: bool, n: u32) -> i32
 
 // 99LaLaLa: the latitude's magnitude, until the quadrant is read.
 pub fn read_latitude(g: &[u8]) -> Said
-    ensures { result ≡ saidLatitude g.now }
+    ensures { result ≡ said_latitude g.now }
 {
     let Field::Number(n) = field(g, 2, 3) else {
         return wrong_figure();
@@ -121,7 +121,7 @@ pub fn read_latitude(g: &[u8]) -> Said
 
 // The magnitude of the latitude that was read before.
 fn magnitude_of(t: Tenths) -> u32
-    ensures { result ≡ readLatitude t }
+    ensures { result ≡ read_latitude t }
 {
     match t {
         Tenths::Missing => 0,
@@ -152,7 +152,7 @@ fn position_of(latitude: u32, quadrant: u32, longitude: u32) -> Said
 
 // QcLoLoLoLo, after the latitude.
 pub fn read_longitude(p: Position, g: &[u8]) -> Said
-    ensures { result ≡ saidLongitude p g.now }
+    ensures { result ≡ said_longitude p g.now }
 {
     let Field::Number(quadrant) = field(g, 0, 1) else {
         return wrong_figure();
@@ -166,7 +166,7 @@ pub fn read_longitude(p: Position, g: &[u8]) -> Said
 
 // h, by table 1600.
 fn base_at(g: &[u8]) -> Part
-    ensures { result ≡ basePart (field_at g.now 2 1) }
+    ensures { result ≡ base_part (field_at g.now 2 1) }
 {
     let f = field(g, 2, 1);
     match f {
@@ -191,7 +191,7 @@ enum Seen {
 }
 
 fn sight_of(n: u32) -> Seen
-    ensures { result ≡ sightFor n }
+    ensures { result ≡ sight_for n }
 {
     if 90 <= n {
         let r = scales::metres::sea_reading(n);
@@ -210,7 +210,7 @@ fn sight_of(n: u32) -> Seen
 
 // VV, by table 4377.
 fn sight_at(g: &[u8]) -> Seen
-    ensures { result ≡ sightPart (field_at g.now 3 2) }
+    ensures { result ≡ sight_part (field_at g.now 3 2) }
 {
     let f = field(g, 3, 2);
     match f {
@@ -223,7 +223,7 @@ fn sight_at(g: &[u8]) -> Seen
 
 // iR ix h VV
 pub fn read_indicators(g: &[u8]) -> Said
-    ensures { result ≡ saidIndicators g.now }
+    ensures { result ≡ said_indicators g.now }
 {
     let Field::Number(rain) = field(g, 0, 1) else {
         return wrong_figure();
@@ -251,7 +251,7 @@ pub fn read_indicators(g: &[u8]) -> Said
 
 // A wind that is calm by its direction or not, where its speed agrees.
 fn wind_of(cover: Number, direction: Direction, calm: bool, speed: u32) -> Said
-    ensures { result ≡ windOf cover direction calm speed }
+    ensures { result ≡ wind_of cover direction calm speed }
 {
     let still = speed == 0;
     if (calm & still) | (!calm & !still) {
@@ -266,7 +266,7 @@ fn wind_of(cover: Number, direction: Direction, calm: bool, speed: u32) -> Said
 }
 
 fn wind_by(cover: Number, tens: u32, speed: u32) -> Said
-    ensures { result ≡ windBy cover tens speed }
+    ensures { result ≡ wind_by cover tens speed }
 {
     if tens == 0 {
         return wind_of(cover, Direction::Calm, true, speed);
@@ -283,7 +283,7 @@ fn wind_by(cover: Number, tens: u32, speed: u32) -> Said
 
 // N dd ff
 pub fn read_wind(g: &[u8]) -> Said
-    ensures { result ≡ saidWind g.now }
+    ensures { result ≡ said_wind g.now }
 {
     let Part::Known(cover) = part_at(g, 0, 1) else {
         return wrong_figure();
@@ -313,7 +313,7 @@ pub fn read_wind(g: &[u8]) -> Said
 
 // 00fff, where ff was 99 or not.
 pub fn read_speed(due: bool, g: &[u8]) -> Said
-    ensures { result ≡ saidSpeed due g.now }
+    ensures { result ≡ said_speed due g.now }
 {
     let Field::Number(n) = field(g, 2, 3) else {
         return wrong_figure();
@@ -326,7 +326,7 @@ pub fn read_speed(due: bool, g: &[u8]) -> Said
 }
 
 fn air_of(n: u32) -> Said
-    ensures { result ≡ airIs n }
+    ensures { result ≡ air_is n }
 {
     let r = scales::degrees::signed_reading(n / 1000, n % 1000);
     match r {
@@ -339,7 +339,7 @@ fn air_of(n: u32) -> Said
 
 // 1sTTT
 pub fn read_air(g: &[u8]) -> Said
-    ensures { result ≡ saidAir g.now }
+    ensures { result ≡ said_air g.now }
 {
     let f = field(g, 1, 4);
     match f {
@@ -352,7 +352,7 @@ pub fn read_air(g: &[u8]) -> Said
 }
 
 fn moisture_of(n: u32) -> Said
-    ensures { result ≡ moistureIs n }
+    ensures { result ≡ moisture_is n }
 {
     let figures = n % 1000;
     if n / 1000 == 9 {
@@ -374,7 +374,7 @@ fn moisture_of(n: u32) -> Said
 
 // 2sTTT or 29UUU
 pub fn read_moisture(g: &[u8]) -> Said
-    ensures { result ≡ saidMoisture g.now }
+    ensures { result ≡ said_moisture g.now }
 {
     let f = field(g, 1, 4);
     match f {
@@ -387,14 +387,14 @@ pub fn read_moisture(g: &[u8]) -> Said
 // 0000 to 0999 are 1000.0 to 1099.9 hPa.
 fn pressure_of(n: u32) -> u32
     requires { n < 10000 }
-    ensures { result ≡ pressureOf n }
+    ensures { result ≡ pressure_of n }
 {
     if n <= 999 { n + 10000 } else { n }
 }
 
 // 3PPPP
 pub fn read_pressure(g: &[u8]) -> Said
-    ensures { result ≡ saidPressure g.now }
+    ensures { result ≡ said_pressure g.now }
 {
     let f = field(g, 1, 4);
     match f {
@@ -410,7 +410,7 @@ pub fn read_pressure(g: &[u8]) -> Said
 
 fn level_of(n: u32) -> Said
     requires { n < 10000 }
-    ensures { result ≡ levelIs n }
+    ensures { result ≡ level_is n }
 {
     if (n <= 999) | (9000 <= n) {
         return Said::Level(Level {
@@ -432,7 +432,7 @@ fn level_of(n: u32) -> Said
 
 // 4PPPP or 4ahhh
 pub fn read_level(g: &[u8]) -> Said
-    ensures { result ≡ saidLevel g.now }
+    ensures { result ≡ said_level g.now }
 {
     let f = field(g, 1, 4);
     match f {
@@ -446,7 +446,7 @@ pub fn read_level(g: &[u8]) -> Said
 
 fn tendency_of(a: u32, p: u32) -> Said
     requires { p < 1000 }
-    ensures { result ≡ tendencyIs a p }
+    ensures { result ≡ tendency_is a p }
 {
     if (8 < a) | ((a == 4) & !(p == 0)) {
         return wrong_figure();
@@ -461,7 +461,7 @@ fn tendency_of(a: u32, p: u32) -> Said
 
 // 5appp
 pub fn read_tendency(g: &[u8]) -> Said
-    ensures { result ≡ saidTendency g.now }
+    ensures { result ≡ said_tendency g.now }
 {
     let f = field(g, 1, 4);
     match f {
@@ -474,7 +474,7 @@ pub fn read_tendency(g: &[u8]) -> Said
 }
 
 fn rainfall_of(forbidden: bool, n: u32, period: Number) -> Said
-    ensures { result ≡ rainfallOf forbidden n period }
+    ensures { result ≡ rainfall_of forbidden n period }
 {
     let r = scales::rain::rain_reading(n);
     match r {
@@ -490,7 +490,7 @@ fn rainfall_of(forbidden: bool, n: u32, period: Number) -> Said
 
 // 6RRRt
 pub fn read_rainfall(forbidden: bool, g: &[u8]) -> Said
-    ensures { result ≡ saidRainfall forbidden g.now }
+    ensures { result ≡ said_rainfall forbidden g.now }
 {
     let f = field(g, 1, 3);
     match f {
@@ -512,7 +512,7 @@ pub fn read_rainfall(forbidden: bool, g: &[u8]) -> Said
 
 // 7wwWW
 pub fn read_weather(forbidden: bool, g: &[u8]) -> Said
-    ensures { result ≡ saidWeather forbidden g.now }
+    ensures { result ≡ said_weather forbidden g.now }
 {
     let Part::Known(present) = part_at(g, 1, 2) else {
         return wrong_figure();
@@ -535,7 +535,7 @@ pub fn read_weather(forbidden: bool, g: &[u8]) -> Said
 
 // 8NCCC
 pub fn read_clouds(g: &[u8]) -> Said
-    ensures { result ≡ saidClouds g.now }
+    ensures { result ≡ said_clouds g.now }
 {
     let Part::Known(amount) = part_at(g, 1, 1) else {
         return wrong_figure();
@@ -559,7 +559,7 @@ pub fn read_clouds(g: &[u8]) -> Said
 
 // 9GGgg
 pub fn read_clock(g: &[u8]) -> Said
-    ensures { result ≡ saidClock g.now }
+    ensures { result ≡ said_clock g.now }
 {
     let Field::Number(hour) = field(g, 1, 2) else {
         return wrong_figure();
@@ -584,7 +584,7 @@ enum Based {
 }
 
 fn height_of(n: u32) -> Based
-    ensures { result ≡ heightFor n }
+    ensures { result ≡ height_for n }
 {
     if 90 <= n {
         let r = scales::layers::bands_reading(n);
@@ -603,7 +603,7 @@ fn height_of(n: u32) -> Based
 
 // hh, by table 1677.
 fn height_at(g: &[u8]) -> Based
-    ensures { result ≡ layerPart (field_at g.now 3 2) }
+    ensures { result ≡ layer_part (field_at g.now 3 2) }
 {
     let f = field(g, 3, 2);
     match f {
@@ -616,7 +616,7 @@ fn height_at(g: &[u8]) -> Based
 
 // 8NChh of section 3
 pub fn read_layer(g: &[u8]) -> Said
-    ensures { result ≡ saidLayer g.now }
+    ensures { result ≡ said_layer g.now }
 {
     let Part::Known(amount) = part_at(g, 1, 1) else {
         return wrong_figure();

@@ -1,13 +1,13 @@
 // The slots of a call sign.
 ghost use Rattle.std.specs.Prelude.{◌≡◌};
 ghost use Rattle.figures.specs.Figures.{every};
-ghost use Rattle.synop_groups.specs.Judge.{slotFits};
+ghost use Rattle.synop_groups.specs.Judge.{slot_fits};
 
 use figures::{is_figure, is_letter};
 
 // A slot of a name: a letter or figure up to the count, blank past it.
 fn slot_fits(filled: bool, b: u8) -> bool
-    ensures { result ≡ slotFits filled b }
+    ensures { result ≡ slot_fits filled b }
 {
     if filled {
         is_letter(b) | is_figure(b)
@@ -18,7 +18,7 @@ fn slot_fits(filled: bool, b: u8) -> bool
 
 // Are all slots such?
 pub fn slots_fit(filled: bool, s: &[u8]) -> bool
-    ensures { result ≡ every (slotFits filled) s.now }
+    ensures { result ≡ every (slot_fits filled) s.now }
 {
     let mut i = 0;
     while i < s.len() {

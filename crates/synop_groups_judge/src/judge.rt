@@ -1,10 +1,10 @@
 // What the writer judges of each group before it writes anything: first its ranges (refusal 11), then its agreement (refusal 7).
 ghost use Rattle.std.specs.Prelude.{◌≡◌};
-ghost use Rattle.scales.specs.Rounded.{rainFits};
-ghost use Rattle.synop_groups.specs.Judge.{unitFits, latitudeFits, longitudeFits, sightFits, speedFits, windFits, windAgrees};
-ghost use Rattle.synop_groups.specs.Judge.{tenthsFit, moistFits, levelFits, changeFits, changeSuits, changeAgrees, fallFits, clockFits, heightFits, layerFits};
-ghost use Rattle.synop_groups.specs.Judge.{judgeTime, judgeStation, judgeSign, judgePosition, judgeIndicators, judgeWind};
-ghost use Rattle.synop_groups.specs.Judge.{judgeAir, judgeMoisture, judgePressure, judgeLevel, judgeTendency, judgeRainfall, judgeWeather, judgeClouds, judgeClock};
+ghost use Rattle.scales.specs.Rounded.{rain_fits};
+ghost use Rattle.synop_groups.specs.Judge.{unit_fits, latitude_fits, longitude_fits, sight_fits, speed_fits, wind_fits, wind_agrees};
+ghost use Rattle.synop_groups.specs.Judge.{tenths_fit, moist_fits, level_fits, change_fits, change_suits, change_agrees, fall_fits, clock_fits, height_fits, layer_fits};
+ghost use Rattle.synop_groups.specs.Judge.{judge_time, judge_station, judge_sign, judge_position, judge_indicators, judge_wind};
+ghost use Rattle.synop_groups.specs.Judge.{judge_air, judge_moisture, judge_pressure, judge_level, judge_tendency, judge_rainfall, judge_weather, judge_clouds, judge_clock};
 
 use crate::slots::name_part;
 use figures::signed;
@@ -20,7 +20,7 @@ use text::judge::judge;
 use text::kinds::Judged;
 
 fn unit_fits(n: Number) -> bool
-    ensures { result ≡ unitFits n }
+    ensures { result ≡ unit_fits n }
 {
     match n {
         Number::Missing => false,
@@ -29,7 +29,7 @@ fn unit_fits(n: Number) -> bool
 }
 
 pub fn judge_time(t: Time) -> Judged
-    ensures { result ≡ judgeTime t }
+    ensures { result ≡ judge_time t }
 {
     let day = t.day;
     let hour = t.hour;
@@ -41,13 +41,13 @@ pub fn judge_time(t: Time) -> Judged
 }
 
 pub fn judge_station(n: Number) -> Judged
-    ensures { result ≡ judgeStation n }
+    ensures { result ≡ judge_station n }
 {
     judge(n.is_between(0, 99999), true)
 }
 
 pub fn judge_sign(s: CallSign) -> Judged
-    ensures { result ≡ judgeSign s }
+    ensures { result ≡ judge_sign s }
 {
     let letters = s.letters;
     let length = s.length;
@@ -57,7 +57,7 @@ pub fn judge_sign(s: CallSign) -> Judged
 }
 
 fn latitude_fits(t: Tenths) -> bool
-    ensures { result ≡ latitudeFits t }
+    ensures { result ≡ latitude_fits t }
 {
     match t {
         Tenths::Missing => false,
@@ -67,7 +67,7 @@ fn latitude_fits(t: Tenths) -> bool
 
 // The west's last tenth is -179.9: 180.0 is east.
 fn longitude_fits(t: Tenths) -> bool
-    ensures { result ≡ longitudeFits t }
+    ensures { result ≡ longitude_fits t }
 {
     match t {
         Tenths::Missing => false,
@@ -76,7 +76,7 @@ fn longitude_fits(t: Tenths) -> bool
 }
 
 pub fn judge_position(p: Position) -> Judged
-    ensures { result ≡ judgePosition p }
+    ensures { result ≡ judge_position p }
 {
     let latitude = p.latitude;
     let longitude = p.longitude;
@@ -84,7 +84,7 @@ pub fn judge_position(p: Position) -> Judged
 }
 
 fn sight_fits(s: Sight) -> bool
-    ensures { result ≡ sightFits s }
+    ensures { result ≡ sight_fits s }
 {
     match s {
         Sight::Missing => true,
@@ -94,7 +94,7 @@ fn sight_fits(s: Sight) -> bool
 }
 
 pub fn judge_indicators(i: Indicators) -> Judged
-    ensures { result ≡ judgeIndicators i }
+    ensures { result ≡ judge_indicators i }
 {
     let rain = i.rain;
     let weather = i.weather;
@@ -111,7 +111,7 @@ pub fn judge_indicators(i: Indicators) -> Judged
 
 // No speed of a SYNOP or SHIP is "above" a number.
 fn speed_fits(s: Speed) -> bool
-    ensures { result ≡ speedFits s }
+    ensures { result ≡ speed_fits s }
 {
     match s {
         Speed::Missing => false,
@@ -122,7 +122,7 @@ fn speed_fits(s: Speed) -> bool
 
 // Direction and speed are missing together.
 fn wind_fits(d: Direction, s: Speed) -> bool
-    ensures { result ≡ windFits d s }
+    ensures { result ≡ wind_fits d s }
 {
     match d {
         Direction::Missing => s.is_missing(),
@@ -134,7 +134,7 @@ fn wind_fits(d: Direction, s: Speed) -> bool
 
 // A calm, and nothing else, has the speed 0.
 fn wind_agrees(d: Direction, s: Speed) -> bool
-    ensures { result ≡ windAgrees d s }
+    ensures { result ≡ wind_agrees d s }
 {
     match d {
         Direction::Missing => true,
@@ -145,7 +145,7 @@ fn wind_agrees(d: Direction, s: Speed) -> bool
 }
 
 pub fn judge_wind(w: Wind) -> Judged
-    ensures { result ≡ judgeWind w }
+    ensures { result ≡ judge_wind w }
 {
     let cover = w.cover;
     let d = w.direction;
@@ -157,7 +157,7 @@ pub fn judge_wind(w: Wind) -> Judged
 }
 
 fn tenths_fit(t: Tenths) -> bool
-    ensures { result ≡ tenthsFit t }
+    ensures { result ≡ tenths_fit t }
 {
     match t {
         Tenths::Missing => true,
@@ -166,14 +166,14 @@ fn tenths_fit(t: Tenths) -> bool
 }
 
 pub fn judge_air(a: Air) -> Judged
-    ensures { result ≡ judgeAir a }
+    ensures { result ≡ judge_air a }
 {
     let t = a.temperature;
     judge(tenths_fit(t), true)
 }
 
 fn moist_fits(m: Moist) -> bool
-    ensures { result ≡ moistFits m }
+    ensures { result ≡ moist_fits m }
 {
     match m {
         Moist::Missing => true,
@@ -183,21 +183,21 @@ fn moist_fits(m: Moist) -> bool
 }
 
 pub fn judge_moisture(m: Moisture) -> Judged
-    ensures { result ≡ judgeMoisture m }
+    ensures { result ≡ judge_moisture m }
 {
     let is = m.is;
     judge(moist_fits(is), true)
 }
 
 pub fn judge_pressure(p: Pressure) -> Judged
-    ensures { result ≡ judgePressure p }
+    ensures { result ≡ judge_pressure p }
 {
     let station = p.station;
     judge(station.is_missing_or_between(1000, 10999), true)
 }
 
 fn level_fits(h: AtLevel) -> bool
-    ensures { result ≡ levelFits h }
+    ensures { result ≡ level_fits h }
 {
     match h {
         AtLevel::Missing => true,
@@ -210,14 +210,14 @@ fn level_fits(h: AtLevel) -> bool
 }
 
 pub fn judge_level(l: Level) -> Judged
-    ensures { result ≡ judgeLevel l }
+    ensures { result ≡ judge_level l }
 {
     let is = l.is;
     judge(level_fits(is), true)
 }
 
 fn change_fits(c: PressureChange) -> bool
-    ensures { result ≡ changeFits c }
+    ensures { result ≡ change_fits c }
 {
     match c {
         PressureChange::Missing => true,
@@ -228,7 +228,7 @@ fn change_fits(c: PressureChange) -> bool
 
 // Below 4 a rise, 4 none, above 4 a fall; no change suits each.
 fn change_suits(tendency: u32, change: i32) -> bool
-    ensures { result ≡ changeSuits tendency change }
+    ensures { result ≡ change_suits tendency change }
 {
     let fall = signed::is_negative(change);
     let none = signed::magnitude(change) == 0;
@@ -239,7 +239,7 @@ fn change_suits(tendency: u32, change: i32) -> bool
 }
 
 fn change_agrees(c: PressureChange) -> bool
-    ensures { result ≡ changeAgrees c }
+    ensures { result ≡ change_agrees c }
 {
     match c {
         PressureChange::Missing => true,
@@ -248,14 +248,14 @@ fn change_agrees(c: PressureChange) -> bool
 }
 
 pub fn judge_tendency(t: Tendency) -> Judged
-    ensures { result ≡ judgeTendency t }
+    ensures { result ≡ judge_tendency t }
 {
     let is = t.is;
     judge(change_fits(is), change_agrees(is))
 }
 
 fn amount_fits(r: Rain) -> bool
-    ensures { result ≡ rainFits r }
+    ensures { result ≡ rain_fits r }
 {
     match r {
         Rain::Trace => true,
@@ -264,7 +264,7 @@ fn amount_fits(r: Rain) -> bool
 }
 
 fn fall_fits(f: Fall) -> bool
-    ensures { result ≡ fallFits f }
+    ensures { result ≡ fall_fits f }
 {
     match f {
         Fall::Missing => true,
@@ -273,14 +273,14 @@ fn fall_fits(f: Fall) -> bool
 }
 
 pub fn judge_rainfall(forbidden: bool, r: Rainfall) -> Judged
-    ensures { result ≡ judgeRainfall forbidden r }
+    ensures { result ≡ judge_rainfall forbidden r }
 {
     let is = r.is;
     judge(fall_fits(is), !forbidden | is.is_missing())
 }
 
 pub fn judge_weather(forbidden: bool, w: Weather) -> Judged
-    ensures { result ≡ judgeWeather forbidden w }
+    ensures { result ≡ judge_weather forbidden w }
 {
     let present = w.present;
     let past = w.past;
@@ -294,7 +294,7 @@ pub fn judge_weather(forbidden: bool, w: Weather) -> Judged
 }
 
 pub fn judge_clouds(c: Clouds) -> Judged
-    ensures { result ≡ judgeClouds c }
+    ensures { result ≡ judge_clouds c }
 {
     let amount = c.amount;
     let low = c.low;
@@ -310,7 +310,7 @@ pub fn judge_clouds(c: Clouds) -> Judged
 }
 
 fn clock_fits(o: Observed) -> bool
-    ensures { result ≡ clockFits o }
+    ensures { result ≡ clock_fits o }
 {
     match o {
         Observed::Missing => true,
@@ -319,14 +319,14 @@ fn clock_fits(o: Observed) -> bool
 }
 
 pub fn judge_clock(c: Clock) -> Judged
-    ensures { result ≡ judgeClock c }
+    ensures { result ≡ judge_clock c }
 {
     let is = c.is;
     judge(clock_fits(is), true)
 }
 
 fn height_fits(h: BaseHeight) -> bool
-    ensures { result ≡ heightFits h }
+    ensures { result ≡ height_fits h }
 {
     match h {
         BaseHeight::Missing => true,
@@ -337,7 +337,7 @@ fn height_fits(h: BaseHeight) -> bool
 
 // A layer of section 3 that says something, each part in its range.
 pub fn layer_fits(l: CloudLayer) -> bool
-    ensures { result ≡ layerFits l }
+    ensures { result ≡ layer_fits l }
 {
     let amount = l.amount;
     let cloud = l.cloud;

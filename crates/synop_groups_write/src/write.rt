@@ -1,17 +1,17 @@
 // How each group is written over a lent buffer, with what parts it from the group before it. Every function answers the position after its text;
 // a group with nothing to say is left out. What a buffer has no room for is not written, so that a caller may judge the room afterwards.
 ghost use Rattle.std.specs.Prelude.{◌≡◌, cond, ◌∷◌, [], ◌++◌, leb};
-ghost use Rattle.figures.specs.Figures.{numberText, fieldText};
+ghost use Rattle.figures.specs.Figures.{number_text, field_text};
 ghost use Rattle.figures.specs.Signed.{negative};
 ghost use Rattle.figures.specs.Put.{Put};
 ghost use Rattle.figures.specs.Quote.{bytes};
 ghost use Rattle.text.specs.Groups.{written};
-ghost use Rattle.scales.specs.Rounded.{rainFigure};
-ghost use Rattle.scales.specs.Fields.{fieldBy};
-ghost use Rattle.synop_groups.specs.Shows.{field_of, magnitudeOf, signedValue, signText};
-ghost use Rattle.synop_groups.specs.Shows.{baseField, sightField, directionField, speedField, weatherText, cloudsText};
-ghost use Rattle.synop_groups.specs.Shows.{showTime, showStation, showSign, showLatitude, showLongitude, showIndicators, showWind, showSpeed, showAir, showMoisture, showPressure};
-ghost use Rattle.synop_groups.specs.Shows.{showLevel, showTendency, showRainfall, showWeather, showClouds, showClock, showMinimum, heightField, showLayer};
+ghost use Rattle.scales.specs.Rounded.{rain_figure};
+ghost use Rattle.scales.specs.Fields.{field_by};
+ghost use Rattle.synop_groups.specs.Shows.{field_of, magnitude_of, signed_value, sign_text};
+ghost use Rattle.synop_groups.specs.Shows.{base_field, sight_field, direction_field, speed_field, weather_text, clouds_text};
+ghost use Rattle.synop_groups.specs.Shows.{show_time, show_station, show_sign, show_latitude, show_longitude, show_indicators, show_wind, show_speed, show_air, show_moisture, show_pressure};
+ghost use Rattle.synop_groups.specs.Shows.{show_level, show_tendency, show_rainfall, show_weather, show_clouds, show_clock, show_minimum, height_field, show_layer};
 
 use figures::kinds::Field;
 use figures::put::{put_byte, put_field, put_number, put_text};
@@ -41,7 +41,7 @@ fn field_of(n: Number) -> Field
 
 // The figure of a scale; a value out of its range has none.
 fn field_by(f: Figure) -> Field
-    ensures { result ≡ fieldBy f }
+    ensures { result ≡ field_by f }
 {
     match f {
         Figure::Is(n) => Field::Number(n),
@@ -51,14 +51,14 @@ fn field_by(f: Figure) -> Field
 
 // A number that may be missing: as many slashes as figures.
 fn put_part(out: &mut [u8], at: usize, width: usize, n: Number) -> usize
-    ensures { Put out.old at (fieldText width (field_of n)) result out.new }
+    ensures { Put out.old at (field_text width (field_of n)) result out.new }
 {
     put_field(out, at, width, field_of(n))
 }
 
 // A whole group: its fixed bytes and a number.
 fn put_coded(out: &mut [u8], at: usize, first: &[u8], width: usize, n: u32) -> usize
-    ensures { Put out.old at (written at ((first.now ++ numberText width n) ∷ [])) result out.new }
+    ensures { Put out.old at (written at ((first.now ++ number_text width n) ∷ [])) result out.new }
 {
     let opened = open_group(out, at);
     let begun = put_text(out, opened, first);
@@ -75,7 +75,7 @@ fn put_two(
     width2: usize,
     n2: u32,
 ) -> usize
-    ensures { Put out.old at (written at ((first ∷ (numberText width n ++ numberText width2 n2)) ∷ [])) result out.new }
+    ensures { Put out.old at (written at ((first ∷ (number_text width n ++ number_text width2 n2)) ∷ [])) result out.new }
 {
     let opened = open_group(out, at);
     let begun = put_byte(out, opened, first);
@@ -85,7 +85,7 @@ fn put_two(
 
 // YYGGiw
 pub fn put_time(out: &mut [u8], at: usize, t: Time) -> usize
-    ensures { Put out.old at (written at (showTime t ∷ [])) result out.new }
+    ensures { Put out.old at (written at (show_time t ∷ [])) result out.new }
 {
     let day = t.day;
     let hour = t.hour;
@@ -98,7 +98,7 @@ pub fn put_time(out: &mut [u8], at: usize, t: Time) -> usize
 
 // IIiii
 pub fn put_station(out: &mut [u8], at: usize, n: Number) -> usize
-    ensures { Put out.old at (written at (showStation n ∷ [])) result out.new }
+    ensures { Put out.old at (written at (show_station n ∷ [])) result out.new }
 {
     let opened = open_group(out, at);
     put_part(out, opened, 5, n)
@@ -106,7 +106,7 @@ pub fn put_station(out: &mut [u8], at: usize, n: Number) -> usize
 
 // A call sign.
 pub fn put_sign(out: &mut [u8], at: usize, s: CallSign) -> usize
-    ensures { Put out.old at (written at (showSign s ∷ [])) result out.new }
+    ensures { Put out.old at (written at (show_sign s ∷ [])) result out.new }
 {
     let letters = s.letters;
     let length = s.length;
@@ -115,7 +115,7 @@ pub fn put_sign(out: &mut [u8], at: usize, s: CallSign) -> usize
 }
 
 fn magnitude_of(t: Tenths) -> u32
-    ensures { result ≡ magnitudeOf t }
+    ensures { result ≡ magnitude_of t }
 {
     match t {
         Tenths::Missing => 0,
@@ -124,7 +124,7 @@ fn magnitude_of(t: Tenths) -> u32
 }
 
 fn is_minus(t: Tenths) -> bool
-    ensures { result ≡ negative (signedValue t) }
+    ensures { result ≡ negative (signed_value t) }
 {
     match t {
         Tenths::Missing => false,
@@ -134,7 +134,7 @@ fn is_minus(t: Tenths) -> bool
 
 // 99LaLaLa
 pub fn put_latitude(out: &mut [u8], at: usize, p: Position) -> usize
-    ensures { Put out.old at (written at (showLatitude p ∷ [])) result out.new }
+    ensures { Put out.old at (written at (show_latitude p ∷ [])) result out.new }
 {
     let latitude = p.latitude;
     put_coded(out, at, b"99", 3, magnitude_of(latitude))
@@ -153,7 +153,7 @@ fn quadrant(south: bool, west: bool) -> u32
 
 // QcLoLoLoLo
 pub fn put_longitude(out: &mut [u8], at: usize, p: Position) -> usize
-    ensures { Put out.old at (written at (showLongitude p ∷ [])) result out.new }
+    ensures { Put out.old at (written at (show_longitude p ∷ [])) result out.new }
 {
     let latitude = p.latitude;
     let longitude = p.longitude;
@@ -164,7 +164,7 @@ pub fn put_longitude(out: &mut [u8], at: usize, p: Position) -> usize
 }
 
 fn base_field(base: Number) -> Field
-    ensures { result ≡ baseField base }
+    ensures { result ≡ base_field base }
 {
     match base {
         Number::Missing => Field::Missing,
@@ -173,7 +173,7 @@ fn base_field(base: Number) -> Field
 }
 
 fn sight_field(sight: Sight) -> Field
-    ensures { result ≡ sightField sight }
+    ensures { result ≡ sight_field sight }
 {
     match sight {
         Sight::Missing => Field::Missing,
@@ -184,7 +184,7 @@ fn sight_field(sight: Sight) -> Field
 
 // iR ix h VV
 pub fn put_indicators(out: &mut [u8], at: usize, i: Indicators) -> usize
-    ensures { Put out.old at (written at (showIndicators i ∷ [])) result out.new }
+    ensures { Put out.old at (written at (show_indicators i ∷ [])) result out.new }
 {
     let rain = i.rain;
     let weather = i.weather;
@@ -198,7 +198,7 @@ pub fn put_indicators(out: &mut [u8], at: usize, i: Indicators) -> usize
 }
 
 fn direction_field(direction: Direction) -> Field
-    ensures { result ≡ directionField direction }
+    ensures { result ≡ direction_field direction }
 {
     match direction {
         Direction::Missing => Field::Missing,
@@ -216,7 +216,7 @@ fn speed_figure(speed: u32) -> u32
 }
 
 fn speed_field(speed: Speed) -> Field
-    ensures { result ≡ speedField speed }
+    ensures { result ≡ speed_field speed }
 {
     match speed {
         Speed::Missing => Field::Missing,
@@ -227,7 +227,7 @@ fn speed_field(speed: Speed) -> Field
 
 // N dd ff
 pub fn put_wind(out: &mut [u8], at: usize, w: Wind) -> usize
-    ensures { Put out.old at (written at (showWind w ∷ [])) result out.new }
+    ensures { Put out.old at (written at (show_wind w ∷ [])) result out.new }
 {
     let cover = w.cover;
     let direction = w.direction;
@@ -240,7 +240,7 @@ pub fn put_wind(out: &mut [u8], at: usize, w: Wind) -> usize
 
 // 00fff, where the speed does not fit ff.
 pub fn put_speed(out: &mut [u8], at: usize, w: Wind) -> usize
-    ensures { Put out.old at (written at (showSpeed w)) result out.new }
+    ensures { Put out.old at (written at (show_speed w)) result out.new }
 {
     let speed = w.speed;
     match speed {
@@ -265,14 +265,14 @@ fn sign_figure(t: i32) -> u32
 
 // A whole group: its first byte, the sign's figure and three figures.
 fn put_signed(out: &mut [u8], at: usize, first: u8, t: i32) -> usize
-    ensures { Put out.old at (written at ((first ∷ signText t) ∷ [])) result out.new }
+    ensures { Put out.old at (written at ((first ∷ sign_text t) ∷ [])) result out.new }
 {
     put_two(out, at, first, 1, sign_figure(t), 3, signed::magnitude(t))
 }
 
 // 1sTTT
 pub fn put_air(out: &mut [u8], at: usize, a: Air) -> usize
-    ensures { Put out.old at (written at (showAir a)) result out.new }
+    ensures { Put out.old at (written at (show_air a)) result out.new }
 {
     let temperature = a.temperature;
     match temperature {
@@ -283,7 +283,7 @@ pub fn put_air(out: &mut [u8], at: usize, a: Air) -> usize
 
 // 2sTTT or 29UUU
 pub fn put_moisture(out: &mut [u8], at: usize, m: Moisture) -> usize
-    ensures { Put out.old at (written at (showMoisture m)) result out.new }
+    ensures { Put out.old at (written at (show_moisture m)) result out.new }
 {
     let is = m.is;
     match is {
@@ -295,7 +295,7 @@ pub fn put_moisture(out: &mut [u8], at: usize, m: Moisture) -> usize
 
 // 3PPPP: 1000.0 hPa and more without the first figure.
 pub fn put_pressure(out: &mut [u8], at: usize, p: Pressure) -> usize
-    ensures { Put out.old at (written at (showPressure p)) result out.new }
+    ensures { Put out.old at (written at (show_pressure p)) result out.new }
 {
     let station = p.station;
     match station {
@@ -306,7 +306,7 @@ pub fn put_pressure(out: &mut [u8], at: usize, p: Pressure) -> usize
 
 // 4PPPP or 4ahhh
 pub fn put_level(out: &mut [u8], at: usize, l: Level) -> usize
-    ensures { Put out.old at (written at (showLevel l)) result out.new }
+    ensures { Put out.old at (written at (show_level l)) result out.new }
 {
     let is = l.is;
     match is {
@@ -318,7 +318,7 @@ pub fn put_level(out: &mut [u8], at: usize, l: Level) -> usize
 
 // 5appp
 pub fn put_tendency(out: &mut [u8], at: usize, t: Tendency) -> usize
-    ensures { Put out.old at (written at (showTendency t)) result out.new }
+    ensures { Put out.old at (written at (show_tendency t)) result out.new }
 {
     let is = t.is;
     match is {
@@ -330,7 +330,7 @@ pub fn put_tendency(out: &mut [u8], at: usize, t: Tendency) -> usize
 }
 
 fn put_fall(out: &mut [u8], at: usize, amount: Rain, period: Number) -> usize
-    ensures { Put out.old at (written at ((bytes "6" ++ fieldText 3 (fieldBy (rainFigure amount)) ++ fieldText 1 (field_of period)) ∷ [])) result out.new }
+    ensures { Put out.old at (written at ((bytes "6" ++ field_text 3 (field_by (rain_figure amount)) ++ field_text 1 (field_of period)) ∷ [])) result out.new }
 {
     let opened = open_group(out, at);
     let begun = put_byte(out, opened, b'6');
@@ -340,7 +340,7 @@ fn put_fall(out: &mut [u8], at: usize, amount: Rain, period: Number) -> usize
 
 // 6RRRt: slashes where it is required and nothing is known of it.
 pub fn put_rainfall(out: &mut [u8], at: usize, required: bool, r: Rainfall) -> usize
-    ensures { Put out.old at (written at (showRainfall required r)) result out.new }
+    ensures { Put out.old at (written at (show_rainfall required r)) result out.new }
 {
     let is = r.is;
     match is {
@@ -350,7 +350,7 @@ pub fn put_rainfall(out: &mut [u8], at: usize, required: bool, r: Rainfall) -> u
 }
 
 fn put_weather_group(out: &mut [u8], at: usize, w: Weather) -> usize
-    ensures { Put out.old at (written at (weatherText w ∷ [])) result out.new }
+    ensures { Put out.old at (written at (weather_text w ∷ [])) result out.new }
 {
     let present = w.present;
     let past = w.past;
@@ -364,7 +364,7 @@ fn put_weather_group(out: &mut [u8], at: usize, w: Weather) -> usize
 
 // 7wwWW: where it is required, with nothing to say too.
 pub fn put_weather(out: &mut [u8], at: usize, required: bool, w: Weather) -> usize
-    ensures { Put out.old at (written at (showWeather required w)) result out.new }
+    ensures { Put out.old at (written at (show_weather required w)) result out.new }
 {
     if required | !w.is_blank() {
         put_weather_group(out, at, w)
@@ -374,7 +374,7 @@ pub fn put_weather(out: &mut [u8], at: usize, required: bool, w: Weather) -> usi
 }
 
 fn put_clouds_group(out: &mut [u8], at: usize, c: Clouds) -> usize
-    ensures { Put out.old at (written at (cloudsText c ∷ [])) result out.new }
+    ensures { Put out.old at (written at (clouds_text c ∷ [])) result out.new }
 {
     let amount = c.amount;
     let low = c.low;
@@ -390,7 +390,7 @@ fn put_clouds_group(out: &mut [u8], at: usize, c: Clouds) -> usize
 
 // 8NCCC
 pub fn put_clouds(out: &mut [u8], at: usize, c: Clouds) -> usize
-    ensures { Put out.old at (written at (showClouds c)) result out.new }
+    ensures { Put out.old at (written at (show_clouds c)) result out.new }
 {
     if c.is_blank() {
         at
@@ -401,7 +401,7 @@ pub fn put_clouds(out: &mut [u8], at: usize, c: Clouds) -> usize
 
 // 9GGgg
 pub fn put_clock(out: &mut [u8], at: usize, c: Clock) -> usize
-    ensures { Put out.old at (written at (showClock c)) result out.new }
+    ensures { Put out.old at (written at (show_clock c)) result out.new }
 {
     let is = c.is;
     match is {
@@ -414,7 +414,7 @@ pub fn put_clock(out: &mut [u8], at: usize, c: Clock) -> usize
 
 // 2sTTT
 pub fn put_minimum(out: &mut [u8], at: usize, a: Air) -> usize
-    ensures { Put out.old at (written at (showMinimum a)) result out.new }
+    ensures { Put out.old at (written at (show_minimum a)) result out.new }
 {
     let temperature = a.temperature;
     match temperature {
@@ -424,7 +424,7 @@ pub fn put_minimum(out: &mut [u8], at: usize, a: Air) -> usize
 }
 
 fn height_field(height: BaseHeight) -> Field
-    ensures { result ≡ heightField height }
+    ensures { result ≡ height_field height }
 {
     match height {
         BaseHeight::Missing => Field::Missing,
@@ -435,7 +435,7 @@ fn height_field(height: BaseHeight) -> Field
 
 // 8NChh
 pub fn put_layer(out: &mut [u8], at: usize, l: CloudLayer) -> usize
-    ensures { Put out.old at (written at (showLayer l ∷ [])) result out.new }
+    ensures { Put out.old at (written at (show_layer l ∷ [])) result out.new }
 {
     let amount = l.amount;
     let cloud = l.cloud;

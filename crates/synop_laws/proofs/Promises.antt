@@ -10,8 +10,8 @@ use lib.Dec.{leb, eqb}
 use Rattle.shapes.proofs.Patterns.{both}
 use Rattle.scales.specs.declared.kinds.Rain.{Rain}
 use Rattle.scales.specs.Metres.{land, sea, base}
-use Rattle.scales.specs.Layers.{layerSteps, layerBands}
-use Rattle.scales.specs.Rounded.{roundedRain}
+use Rattle.scales.specs.Layers.{layer_steps, layer_bands}
+use Rattle.scales.specs.Rounded.{rounded_rain}
 use Rattle.scales.proofs.Down.{Down, down}
 use Rattle.scales.proofs.MetresLaws.{land-laws, sea-laws, base-laws}
 use Rattle.scales.proofs.LayersLaws.{steps-laws, bands-laws}
@@ -33,24 +33,24 @@ use Rattle.record.specs.declared.surface.Surface.{Surface}
 use Rattle.record.specs.declared.surface.Synop.{Synop}
 use Rattle.text.specs.declared.kinds.Judged.TheVariants as judged
 use Rattle.record.specs.Arrays.{SynopArrays}
-use Rattle.record.specs.Classes.{classDirection}
+use Rattle.record.specs.Classes.{class_direction}
 use Rattle.record.proofs.Counted.{EachRead, none, more}
-use Rattle.record.proofs.Near.{NumberDown, number-down, DirectionNear, directionFits, direction-near}
-use Rattle.synop_groups.specs.Judge.{speedFits, windFits}
-use Rattle.synop_groups.specs.Classes.{classBase, classSight, classFall, classHeight, classLayer}
-use Rattle.text.specs.Groups.{groupsFrom}
-use Rattle.text.specs.Text.{tailOf}
+use Rattle.record.proofs.Near.{NumberDown, number-down, DirectionNear, direction_fits, direction-near}
+use Rattle.synop_groups.specs.Judge.{speed_fits, wind_fits}
+use Rattle.synop_groups.specs.Classes.{class_base, class_sight, class_fall, class_height, class_layer}
+use Rattle.text.specs.Groups.{groups_from}
+use Rattle.text.specs.Text.{tail_of}
 use Rattle.places.specs.Engine.{Done}
-use Rattle.section3.specs.Write.{classSection3}
-use Rattle.synop.specs.Read.{groupsRead}
-use Rattle.synop.specs.Write.{judgeOf, canonicalOf, classedOf}
+use Rattle.section3.specs.Write.{class_section3}
+use Rattle.synop.specs.Read.{groups_read}
+use Rattle.synop.specs.Write.{judge_of, canonical_of, classed_of}
 use Rattle.synop_laws.proofs.Canonical.{wind-fits, layers-back, read-canonical}
-use Rattle.synop_laws.proofs.Sections.{classedSurface}
+use Rattle.synop_laws.proofs.Sections.{classed_surface}
 
 -- ---- which number comes back, and how far off
 
 -- h and its reading
-pub base_read : (b : Number) → NumberDown base b (classBase b)
+pub base_read : (b : Number) → NumberDown base b (class_base b)
 base_read = number-down base-laws
 
 -- VV and its reading, on the same scale
@@ -59,17 +59,17 @@ pub data SightRead : Sight → Sight → Type 0 where
   land-metres : {m n : ℕ} → Down land m n → SightRead (sight.Land m) (sight.Land n)
   sea-metres : {m n : ℕ} → Down sea m n → SightRead (sight.Sea m) (sight.Sea n)
 
-pub sight-read : (v : Sight) → SightRead v (classSight v)
+pub sight-read : (v : Sight) → SightRead v (class_sight v)
 sight-read sight.Missing = no-sight
 sight-read (sight.Land m) = land-metres (down eqb land land-laws m)
 sight-read (sight.Sea m) = sea-metres (down eqb sea sea-laws m)
 
 -- an amount of rain and its reading, which is that of its class
 pub record RainRead (r q : Rain) : Type 0 where
-  pub class : q ≡ roundedRain r
+  pub class : q ≡ rounded_rain r
   pub near : RainNear r q
 
-pub rain-read : (r : Rain) → RainRead r (roundedRain r)
+pub rain-read : (r : Rain) → RainRead r (rounded_rain r)
 rain-read r = record { class = refl; near = rain-kept r }
 
 -- RRRt and its reading: the period is exact
@@ -77,18 +77,18 @@ pub data FallRead : Fall → Fall → Type 0 where
   no-fall : FallRead fall.Missing fall.Missing
   fell : {r q : Rain} {t : Number} → RainRead r q → FallRead (fall.Is r t) (fall.Is q t)
 
-pub fall-read : (f : Fall) → FallRead f (classFall f)
+pub fall-read : (f : Fall) → FallRead f (class_fall f)
 fall-read fall.Missing = no-fall
 fall-read (fall.Is r t) = fell (rain-read r)
 
 -- a direction and its reading
-direction-fits : (d : Direction) (s : Speed) → windFits d s ≡ true → directionFits d ≡ true
+direction-fits : (d : Direction) (s : Speed) → wind_fits d s ≡ true → direction_fits d ≡ true
 direction-fits direction.Missing s e = refl
 direction-fits direction.Calm s e = refl
 direction-fits direction.Variable s e = refl
-direction-fits (direction.Degrees d) s e = (both (leb d 359) (speedFits s) e).0
+direction-fits (direction.Degrees d) s e = (both (leb d 359) (speed_fits s) e).0
 
-pub direction-read : (d : Direction) (s : Speed) → windFits d s ≡ true → DirectionNear d (classDirection d)
+pub direction-read : (d : Direction) (s : Speed) → wind_fits d s ≡ true → DirectionNear d (class_direction d)
 direction-read d s e = direction-near d (direction-fits d s e)
 
 -- ---- the record that is read back
@@ -115,20 +115,20 @@ pub record SurfaceRead (s q : Surface) : Type 0 where
 -- a layer's height and its reading, on the same scale; N and C are exact
 pub data HeightRead : BaseHeight → BaseHeight → Type 0 where
   no-height : HeightRead height.Missing height.Missing
-  by-steps : {m n : ℕ} → Down layerSteps m n → HeightRead (height.Steps m) (height.Steps n)
-  by-bands : {m n : ℕ} → Down layerBands m n → HeightRead (height.Bands m) (height.Bands n)
+  by-steps : {m n : ℕ} → Down layer_steps m n → HeightRead (height.Steps m) (height.Steps n)
+  by-bands : {m n : ℕ} → Down layer_bands m n → HeightRead (height.Bands m) (height.Bands n)
 
-pub height-read : (h : BaseHeight) → HeightRead h (classHeight h)
+pub height-read : (h : BaseHeight) → HeightRead h (class_height h)
 height-read height.Missing = no-height
-height-read (height.Steps m) = by-steps (down eqb layerSteps steps-laws m)
-height-read (height.Bands m) = by-bands (down eqb layerBands bands-laws m)
+height-read (height.Steps m) = by-steps (down eqb layer_steps steps-laws m)
+height-read (height.Bands m) = by-bands (down eqb layer_bands bands-laws m)
 
 pub record LayerRead (l k : CloudLayer) : Type 0 where
   pub amount : k.amount ≡ l.amount
   pub cloud : k.cloud ≡ l.cloud
   pub height : HeightRead l.height k.height
 
-layer-read : (l : CloudLayer) → LayerRead l (classLayer l)
+layer-read : (l : CloudLayer) → LayerRead l (class_layer l)
 layer-read l = record { amount = refl; cloud = refl; height = height-read l.height }
 
 -- section 3: the temperatures are exact, and so is the number of layers
@@ -138,12 +138,12 @@ pub record Section3Same (s q : Section3) : Type 0 where
   pub count : q.layers.count ≡ s.layers.count
   pub layers : EachRead LayerRead (take s.layers.count s.layers.items) (take q.layers.count q.layers.items)
 
-each-layer : (ls : List CloudLayer) → EachRead LayerRead ls (map classLayer ls)
+each-layer : (ls : List CloudLayer) → EachRead LayerRead ls (map class_layer ls)
 each-layer [] = none
 each-layer (l ∷ ls) = more (layer-read l) (each-layer ls)
 
-section3-read : (s : Section3) → take s.layers.count (classSection3 s).layers.items ≡ map classLayer (take s.layers.count s.layers.items)
-    → Section3Same s (classSection3 s)
+section3-read : (s : Section3) → take s.layers.count (class_section3 s).layers.items ≡ map class_layer (take s.layers.count s.layers.items)
+    → Section3Same s (class_section3 s)
 section3-read s is = record { maximum = refl; minimum = refl; count = refl; layers = rw is (each-layer (take s.layers.count s.layers.items)) }
 
 pub record RecordRead (r q : Synop) : Type 0 where
@@ -152,7 +152,7 @@ pub record RecordRead (r q : Synop) : Type 0 where
   pub surface : SurfaceRead r.surface q.surface
   pub section3 : Section3Same r.section3 q.section3
 
-surface-read : (s : Surface) → windFits s.wind.direction s.wind.speed ≡ true → SurfaceRead s (classedSurface s)
+surface-read : (s : Surface) → wind_fits s.wind.direction s.wind.speed ≡ true → SurfaceRead s (classed_surface s)
 surface-read s w =
     record {
       rain = refl;
@@ -174,9 +174,9 @@ surface-read s w =
     }
 
 -- WHAT IS WRITTEN OF A RECORD THAT THE WRITER ACCEPTS IS READ, to the text's end, as a record that says the same.
-pub promise : (r : Synop) → SynopArrays r → judgeOf r ≡ judged.Fine
-    → (groupsRead r.ship (tailOf (canonicalOf r)) (length (canonicalOf r)) (drop 1 (groupsFrom (canonicalOf r) 0)) ≡ Done (length (canonicalOf r)) (classedOf r))
-    × RecordRead r (classedOf r)
-unfolding classedOf
+pub promise : (r : Synop) → SynopArrays r → judge_of r ≡ judged.Fine
+    → (groups_read r.ship (tail_of (canonical_of r)) (length (canonical_of r)) (drop 1 (groups_from (canonical_of r) 0)) ≡ Done (length (canonical_of r)) (classed_of r))
+    × RecordRead r (classed_of r)
+unfolding classed_of
 promise r arrays e =
     (read-canonical r arrays e, record { ship = refl; site = refl; surface = surface-read r.surface (wind-fits r e); section3 = section3-read r.section3 (layers-back r arrays e) })

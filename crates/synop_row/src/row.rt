@@ -1,10 +1,10 @@
 // The tests of the row: which groups are required, which groups stop the reading, which places have a group's shape, and where the group goes.
 ghost use Rattle.std.specs.Prelude.{◌≡◌, ◌&&◌, drop};
-ghost use Rattle.shapes.specs.Pattern.{hasPattern, hasAny};
-ghost use Rattle.places.specs.Seek.{answers, fitFrom, findOf};
-ghost use Rattle.places.specs.Engine.{placeAt, standsOf, mustsOf};
-ghost use Rattle.synop_groups.specs.Shows.{isInThree};
-ghost use Rattle.synop_row.specs.Row.{rainDue, weatherDue, figureIs, needsOf, row, stopWords, section3Word, Mosts};
+ghost use Rattle.shapes.specs.Pattern.{has_pattern, has_any};
+ghost use Rattle.places.specs.Seek.{answers, fit_from, find_of};
+ghost use Rattle.places.specs.Engine.{place_at, stands_of, musts_of};
+ghost use Rattle.synop_groups.specs.Shows.{is_in_three};
+ghost use Rattle.synop_row.specs.Row.{rain_due, weather_due, figure_is, needs_of, row, stop_words, section3_word, Mosts};
 
 use crate::kinds::Needs;
 use places::kinds::Found;
@@ -15,7 +15,7 @@ use shapes::has_pattern;
 
 // iR 0 or 1 requires the 6 group.
 fn is_rain_due(rain: Number) -> bool
-    ensures { result ≡ figureIs rainDue rain }
+    ensures { result ≡ figure_is rain_due rain }
 {
     match rain {
         Number::Missing => false,
@@ -25,7 +25,7 @@ fn is_rain_due(rain: Number) -> bool
 
 // ix 1, 4 or 7 requires the 7 group.
 fn is_weather_due(weather: Number) -> bool
-    ensures { result ≡ figureIs weatherDue weather }
+    ensures { result ≡ figure_is weather_due weather }
 {
     match weather {
         Number::Missing => false,
@@ -35,7 +35,7 @@ fn is_weather_due(weather: Number) -> bool
 
 // ff 99 requires 00fff.
 fn is_in_three(speed: Speed) -> bool
-    ensures { result ≡ isInThree speed }
+    ensures { result ≡ is_in_three speed }
 {
     match speed {
         Speed::Missing => false,
@@ -45,7 +45,7 @@ fn is_in_three(speed: Speed) -> bool
 }
 
 pub fn needs_of(s: Surface) -> Needs
-    ensures { result ≡ needsOf s }
+    ensures { result ≡ needs_of s }
 {
     let indicators = s.indicators;
     let rain = indicators.rain;
@@ -61,7 +61,7 @@ pub fn needs_of(s: Surface) -> Needs
 
 // Of three bytes it can only be 333, 444 or 555, of any other length only 222 with two more: few patterns are tried on a group.
 pub fn is_stop_word(g: &[u8]) -> bool
-    ensures { result ≡ hasAny stopWords g.now }
+    ensures { result ≡ has_any stop_words g.now }
 {
     if g.len() == 3 {
         return has_pattern(g, b"333") | has_pattern(g, b"444") | has_pattern(g, b"555");
@@ -71,14 +71,14 @@ pub fn is_stop_word(g: &[u8]) -> bool
 
 // Does section 3 follow, once section 1 has nothing left to come?
 pub fn is_section3(g: &[u8]) -> bool
-    ensures { result ≡ hasPattern g.now section3Word }
+    ensures { result ≡ has_pattern g.now section3_word }
 {
     has_pattern(g, b"333")
 }
 
 // Has the group the shape of this place?
 fn has_at(needs: Needs, place: usize, g: &[u8]) -> bool
-    ensures { result ≡ (placeAt (row needs) place).has g.now }
+    ensures { result ≡ (place_at (row needs) place).has g.now }
 {
     match place {
         0 => has_pattern(g, b"00###"),
@@ -104,7 +104,7 @@ fn mosts() -> [u8; 10]
 
 // Which places must have a group?
 pub fn musts_of(n: Needs) -> [bool; 10]
-    ensures { result ≡ mustsOf (row n) }
+    ensures { result ≡ musts_of (row n) }
 {
     [
         n.speed, false, false, false, false, false, n.rain, n.weather, false, false,
@@ -113,7 +113,7 @@ pub fn musts_of(n: Needs) -> [bool; 10]
 
 // May this place, where `count` groups stand, answer for the group, and has it the group's shape? A shape is asked for only where it may.
 fn is_fit(needs: Needs, all: bool, place: usize, count: usize, g: &[u8]) -> bool
-    ensures { result ≡ (answers all count (placeAt (row needs) place).most && (placeAt (row needs) place).has g.now) }
+    ensures { result ≡ (answers all count (place_at (row needs) place).most && (place_at (row needs) place).has g.now) }
 {
     let most = mosts();
     if may_answer(all, count, most_at(&most, place)) {
@@ -125,7 +125,7 @@ fn is_fit(needs: Needs, all: bool, place: usize, count: usize, g: &[u8]) -> bool
 
 // The first such place from `place` on.
 fn fit_from(needs: Needs, all: bool, place: usize, count: usize, g: &[u8]) -> usize
-    ensures { result ≡ fitFrom all place count (drop place (standsOf (row needs) g.now)) }
+    ensures { result ≡ fit_from all place count (drop place (stands_of (row needs) g.now)) }
 {
     let mut i = place;
     let mut k = count;
@@ -141,7 +141,7 @@ fn fit_from(needs: Needs, all: bool, place: usize, count: usize, g: &[u8]) -> us
 
 // The place that the group goes to.
 pub fn find(needs: Needs, place: usize, count: usize, g: &[u8]) -> Found
-    ensures { result ≡ findOf (standsOf (row needs) g.now) place count }
+    ensures { result ≡ find_of (stands_of (row needs) g.now) place count }
 {
     let fit = fit_from(needs, false, place, count, g);
     if fit < 10 {

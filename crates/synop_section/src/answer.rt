@@ -1,6 +1,6 @@
 // The answer to a text: accepted, with the record and where the unread rest begins, or refused, with a blank record.
 ghost use Rattle.std.specs.Prelude.{◌≡◌};
-ghost use Rattle.places.specs.Answer.{outcomeOf};
+ghost use Rattle.places.specs.Answer.{outcome_of};
 ghost use Rattle.synop_section.specs.Answer.{begun, accepted, refused, answer};
 
 use crate::kinds::Reading;
@@ -45,7 +45,7 @@ pub fn accept(rest: usize, report: Synop) -> Reading
 // The answer by a verdict: the report that it accepts, or its refusal. There is one way out, with the blank record put over the report where the text is
 // refused: of two ways out, each with a record of its own, the compiler makes many more copies.
 pub fn by_verdict(verdict: Verdict, report: Synop) -> Reading
-    ensures { result ≡ answer (outcomeOf verdict report) }
+    ensures { result ≡ answer (outcome_of verdict report) }
 {
     let mut whole = report;
     if let Verdict::Refused {

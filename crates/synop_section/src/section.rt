@@ -1,16 +1,16 @@
 // Section 1 after Nddff: 00fff and the groups 1 to 9, each read at its place of the row, up to a stop word or the end.
 ghost use Rattle.std.specs.Prelude.{◌≡◌, length, drop};
 ghost use Rattle.text.specs.declared.kinds.Verdict.TheVariants as verdict;
-ghost use Rattle.text.specs.Text.{tailOf};
-ghost use Rattle.text.specs.Groups.{groupsFrom};
-ghost use Rattle.shapes.specs.Pattern.{hasAny};
+ghost use Rattle.text.specs.Text.{tail_of};
+ghost use Rattle.text.specs.Groups.{groups_from};
+ghost use Rattle.shapes.specs.Pattern.{has_any};
 ghost use Rattle.places.specs.Seek.{owed};
-ghost use Rattle.places.specs.Engine.{mustsOf};
-ghost use Rattle.places.specs.Answer.{endVerdict};
-ghost use Rattle.places.specs.Turn.{turnAt};
-ghost use Rattle.synop_row.specs.Row.{row, stopWords};
+ghost use Rattle.places.specs.Engine.{musts_of};
+ghost use Rattle.places.specs.Answer.{end_verdict};
+ghost use Rattle.places.specs.Turn.{turn_at};
+ghost use Rattle.synop_row.specs.Row.{row, stop_words};
 ghost use Rattle.synop_section.specs.Answer.{section, answer};
-ghost use Rattle.synop_section.specs.Section.{Says, saidOnto, Leaves, SectionDone};
+ghost use Rattle.synop_section.specs.Section.{Says, said_onto, Leaves, SectionDone};
 ghost use Rattle.synop_section.specs.declared.kinds.Next.TheVariants as next;
 
 use crate::answer;
@@ -47,7 +47,7 @@ fn said_at(place: usize, needs: Needs, g: &[u8]) -> Said
 
 // The surface with what a group says. What names the place and time is no part of it, and a refusal adds nothing.
 pub fn with_said(said: Said, surface: Surface) -> Surface
-    ensures { result ≡ saidOnto said surface }
+    ensures { result ≡ said_onto said surface }
 {
     let mut s = surface;
     match said {
@@ -80,7 +80,7 @@ pub fn with_said(said: Said, surface: Surface) -> Surface
 
 // The group's turn, where `count` groups stand at `place`.
 fn decide(needs: Needs, place: usize, count: usize, g: &[u8]) -> Turn
-    ensures { result ≡ turnAt (row needs) (hasAny stopWords) place count g.now }
+    ensures { result ≡ turn_at (row needs) (has_any stop_words) place count g.now }
 {
     if 10 <= place {
         return Turn::Refused(Refusal::Shape);
@@ -111,7 +111,7 @@ fn leave(g: &[u8], start: usize, end: usize, needs: Needs, place: usize, count: 
 
 // The groups are over: what follows the "=" is refused first, an absence last.
 fn finish(text: &[u8], needs: Needs, place: usize, count: usize) -> Next
-    ensures { result ≡ next.End (endVerdict (tailOf text.now) (length text.now) (owed count (drop place (mustsOf (row needs))))) }
+    ensures { result ≡ next.End (end_verdict (tail_of text.now) (length text.now) (owed count (drop place (musts_of (row needs))))) }
 {
     let must = row::musts_of(needs);
     Next::End(places::end_verdict(text, places::is_owed(&must, place, count)))
@@ -176,7 +176,7 @@ fn read_groups(text: &[u8], from: usize, needs: Needs, earlier: Surface) -> Sect
 
 // Section 1 from a position of the text on, and section 3 where it follows. The report is put together once, behind the loops, so that they copy none.
 pub fn read_section(text: &[u8], from: usize, report: Synop) -> Reading
-    ensures { result ≡ answer (section report (tailOf text.now) (length text.now) (groupsFrom text.now from)) }
+    ensures { result ≡ answer (section report (tail_of text.now) (length text.now) (groups_from text.now from)) }
 {
     let earlier = report.surface;
     let needs = row::needs_of(earlier);

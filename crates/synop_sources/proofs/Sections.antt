@@ -12,42 +12,42 @@ use Rattle.figures.proofs.Impossible.{impossible}
 use Rattle.text.specs.declared.kinds.Refusal.TheVariants as refusal
 use Rattle.text.specs.declared.kinds.Tail.{Tail}
 use Rattle.text.specs.Groups.{Piece}
-use Rattle.shapes.specs.Pattern.{hasPattern, hasAny}
+use Rattle.shapes.specs.Pattern.{has_pattern, has_any}
 use Rattle.places.specs.declared.kinds.Found.{Found}
 use Rattle.places.specs.declared.kinds.Found.TheVariants.{Take, Skips, Full, Earlier, Unknown}
 use Rattle.places.specs.declared.kinds.Turn.{Turn}
 use Rattle.places.specs.declared.kinds.Turn.TheVariants as turn
-use Rattle.places.specs.Seek.{Stand, seek, anywhere, orEarlier, findOf}
-use Rattle.places.specs.Engine.{Group, Good, Place, standsOf, Done}
-use Rattle.places.specs.Turn.{turnBy, turnAt}
-use Rattle.places.specs.Parts.{Ends, Opens, Further, turned, partFrom, begins, further, reportOf}
+use Rattle.places.specs.Seek.{Stand, seek, anywhere, or_earlier, find_of}
+use Rattle.places.specs.Engine.{Group, Good, Place, stands_of, Done}
+use Rattle.places.specs.Turn.{turn_by, turn_at}
+use Rattle.places.specs.Parts.{Ends, Opens, Further, turned, part_from, begins, further, report_of}
 use Rattle.record.specs.declared.surface.Surface.{Surface}
 use Rattle.record.specs.declared.surface.Section3.{Section3}
 use Rattle.record.specs.declared.surface.Synop.{Synop}
-use Rattle.record.specs.Blank.{blankSection3}
-use Rattle.record.specs.Set.{setSurface, setSection3}
+use Rattle.record.specs.Blank.{blank_section3}
+use Rattle.record.specs.Set.{set_surface, set_section3}
 use Rattle.synop_row.specs.declared.kinds.Needs.{Needs}
-use Rattle.synop_row.specs.Row.{needsOf, row, stopWords, section3Word}
+use Rattle.synop_row.specs.Row.{needs_of, row, stop_words, section3_word}
 use Rattle.synop_row.proofs.Tests.{row-length}
 use Rattle.section3.specs.Row as third
 use Rattle.section3.specs.Step.{Opened}
 use Rattle.section3.proofs.Turns as thirds
-use Rattle.synop_section.specs.Answer.{firstPart, thirdPart, parts, section}
+use Rattle.synop_section.specs.Answer.{first_part, third_part, parts, section}
 use Rattle.synop_section.proofs.SectionSteps as first
 use Rattle.sources.specs.declared.kinds.Spot.TheVariants as spot
-use Rattle.sources.specs.Trail.{Opens as Begins, Ends as Over, Taken, afterMove, trail}
+use Rattle.sources.specs.Trail.{Opens as Begins, Ends as Over, Taken, after_move, trail}
 use Rattle.sources.proofs.Rows.{Entry, Went, done, on, went-pieces, turn-within, at-found}
-use Rattle.sources.proofs.Parts.{asTaken, done-same, PartDone, Ending, groups-over, word-met, part-done}
+use Rattle.sources.proofs.Parts.{as_taken, done-same, PartDone, Ending, groups-over, word-met, part-done}
 use Rattle.sources.proofs.Items.{RestAt, Covers, entries-cover, cover-more}
 use Rattle.sources.proofs.Own.{Distinct, Later, went-distinct, distinct_append, later-append, entries-later, beside}
-use Rattle.synop_sources.specs.Trail.{windPlace, free, markAt, moveBy, move}
+use Rattle.synop_sources.specs.Trail.{wind_place, free, mark_at, move_by, move}
 
 -- ---- the sections
 
 -- the first of the groups left, if any, halts the row
 abbrev pub Halts : {R : Type 0} → List (Place R) → (Group → Bool) → ℕ → ℕ → List Piece → Type 0
 Halts row halts c k [] = Unit {0}
-Halts row halts c k (g ∷ gs) = turnAt row halts c k g.bytes ≡ turn.Halt
+Halts row halts c k (g ∷ gs) = turn_at row halts c k g.bytes ≡ turn.Halt
 
 -- each group was taken at a place of section 1
 abbrev pub EachLow : List Entry → Type 0
@@ -56,11 +56,11 @@ EachLow (e ∷ es) = (e.place < 10) × EachLow es
 
 -- WHAT FOLLOWS SECTION 1: the groups are over, the unread rest begins, or 333 stands there and section 3 follows, up to the unread rest.
 pub data Third (end rest : ℕ) : Section3 → List Piece → List Taken → Type 0 where
-  over : rest ≡ end → Third end rest blankSection3 [] []
-  stop : {g : Piece} {gs : List Piece} → hasPattern g.bytes section3Word ≡ false → rest ≡ g.start → Third end rest blankSection3 (g ∷ gs) []
-  opened : {c k : ℕ} {s : Section3} {g : Piece} {gs left : List Piece} {es : List Entry} → hasPattern g.bytes section3Word ≡ true
-      → Went third.row third.halts c k s left 0 0 blankSection3 gs es → Halts third.row third.halts c k left → RestAt end rest left
-      → Third end rest s (g ∷ gs) (record { part = 1; spot = spot.Opening; piece = g } ∷ (map (asTaken 1) es ++ []))
+  over : rest ≡ end → Third end rest blank_section3 [] []
+  stop : {g : Piece} {gs : List Piece} → has_pattern g.bytes section3_word ≡ false → rest ≡ g.start → Third end rest blank_section3 (g ∷ gs) []
+  opened : {c k : ℕ} {s : Section3} {g : Piece} {gs left : List Piece} {es : List Entry} → has_pattern g.bytes section3_word ≡ true
+      → Went third.row third.halts c k s left 0 0 blank_section3 gs es → Halts third.row third.halts c k left → RestAt end rest left
+      → Third end rest s (g ∷ gs) (record { part = 1; spot = spot.Opening; piece = g } ∷ (map (as_taken 1) es ++ []))
 
 -- FROM BEHIND NDDFF ON, the report r being read so far.
 pub record Sections (end rest : ℕ) (r whole : Synop) (gs : List Piece) : Type 0 where
@@ -70,8 +70,8 @@ pub record Sections (end rest : ℕ) (r whole : Synop) (gs : List Piece) : Type 
   pub s₃ : Section3
   pub left : List Piece
   pub entries : List Entry
-  pub went : Went (row (needsOf r.surface)) (hasAny stopWords) place count s₁ left 0 0 r.surface gs entries
-  pub halted : Halts (row (needsOf r.surface)) (hasAny stopWords) place count left
+  pub went : Went (row (needs_of r.surface)) (has_any stop_words) place count s₁ left 0 0 r.surface gs entries
+  pub halted : Halts (row (needs_of r.surface)) (has_any stop_words) place count left
   pub taken : List Taken
   pub third : Third end rest s₃ left taken
   pub is : whole ≡ record { ship = r.ship; site = r.site; surface = s₁; section3 = s₃ }
@@ -87,43 +87,43 @@ module _ (tail : Tail) (end rest : ℕ) (whole : Synop) where
     s : Section3
     left : List Piece
     entries : List Entry
-    went : Went third.row third.halts place count s left 0 0 blankSection3 gs entries
+    went : Went third.row third.halts place count s left 0 0 blank_section3 gs entries
     halted : Halts third.row third.halts place count left
     begins : RestAt end rest left
-    is : whole ≡ setSection3 s t
+    is : whole ≡ set_section3 s t
 
-  third-read : (t : Synop) (gs : List Piece) → partFrom tail end (thirdPart t) (more 0) 0 0 blankSection3 gs ≡ Done rest whole → ThirdRead t gs
-  third-read t gs e = let d = part-done tail end (thirdPart t) (more 0) rest whole gs 0 0 blankSection3 e in go d d.left refl d.ending
+  third-read : (t : Synop) (gs : List Piece) → part_from tail end (third_part t) (more 0) 0 0 blank_section3 gs ≡ Done rest whole → ThirdRead t gs
+  third-read t gs e = let d = part-done tail end (third_part t) (more 0) rest whole gs 0 0 blank_section3 e in go d d.left refl d.ending
     where
-      go : (d : PartDone tail end (thirdPart t) (more 0) rest whole 0 0 blankSection3 gs) (left : List Piece) → left ≡ d.left
-          → Ending tail end (thirdPart t) (more 0) rest whole d.place d.count d.record' left → ThirdRead t gs
+      go : (d : PartDone tail end (third_part t) (more 0) rest whole 0 0 blank_section3 gs) (left : List Piece) → left ≡ d.left
+          → Ending tail end (third_part t) (more 0) rest whole d.place d.count d.record' left → ThirdRead t gs
       go d [] is (groups-over a b) =
           record { place = d.place; count = d.count; s = d.record'; left = []; entries = d.entries; went = rw is d.went; halted = tt; begins = a; is = b }
       go d (g ∷ hs) is (word-met h e) =
           let (a, b) = done-same e in
           record { place = d.place; count = d.count; s = d.record'; left = g ∷ hs; entries = d.entries; went = rw is d.went; halted = h; begins = a; is = b }
 
-  word_read : (t : Synop) (g : Piece) (gs : List Piece) → hasPattern g.bytes section3Word ≡ true
-      → turned (more 1) t g gs (Opens (Good (record { kind = tt; start = blankSection3 }))) ≡ Done rest whole → ThirdRead t gs
+  word_read : (t : Synop) (g : Piece) (gs : List Piece) → has_pattern g.bytes section3_word ≡ true
+      → turned (more 1) t g gs (Opens (Good (record { kind = tt; start = blank_section3 }))) ≡ Done rest whole → ThirdRead t gs
   unfolding further
   word_read t g [] is e = third-read t [] e
   word_read t g (h ∷ gs) is e = third-read t (h ∷ gs) e
 
   -- THE SECTIONS, of a report with nothing of section 3 yet.
-  pub sections-read : (r : Synop) (gs : List Piece) → r.section3 ≡ blankSection3 → section r tail end gs ≡ Done rest whole → Sections end rest r whole gs
-  unfolding section reportOf
+  pub sections-read : (r : Synop) (gs : List Piece) → r.section3 ≡ blank_section3 → section r tail end gs ≡ Done rest whole → Sections end rest r whole gs
+  unfolding section report_of
   sections-read r gs none e =
-      let d = part-done tail end (firstPart (needsOf r.surface) (λ s. setSurface s r)) (more 1) rest whole gs 0 0 r.surface e in
+      let d = part-done tail end (first_part (needs_of r.surface) (λ s. set_surface s r)) (more 1) rest whole gs 0 0 r.surface e in
       go d d.left refl d.ending
     where
-      go : (d : PartDone tail end (firstPart (needsOf r.surface) (λ s. setSurface s r)) (more 1) rest whole 0 0 r.surface gs) (left : List Piece) → left ≡ d.left
-          → Ending tail end (firstPart (needsOf r.surface) (λ s. setSurface s r)) (more 1) rest whole d.place d.count d.record' left → Sections end rest r whole gs
+      go : (d : PartDone tail end (first_part (needs_of r.surface) (λ s. set_surface s r)) (more 1) rest whole 0 0 r.surface gs) (left : List Piece) → left ≡ d.left
+          → Ending tail end (first_part (needs_of r.surface) (λ s. set_surface s r)) (more 1) rest whole d.place d.count d.record' left → Sections end rest r whole gs
       go d [] is (groups-over a b) =
           record {
             place = d.place;
             count = d.count;
             s₁ = d.record';
-            s₃ = blankSection3;
+            s₃ = blank_section3;
             left = [];
             entries = d.entries;
             went = rw is d.went;
@@ -132,12 +132,12 @@ module _ (tail : Tail) (end rest : ℕ) (whole : Synop) where
             third = over a;
             is = rw (← none) b;
           }
-      go d (g ∷ hs) is (word-met h e) = word (hasPattern g.bytes section3Word) refl e
+      go d (g ∷ hs) is (word-met h e) = word (has_pattern g.bytes section3_word) refl e
         where
-          word : (b : Bool) → hasPattern g.bytes section3Word ≡ b
-              → turned (more 1) (setSurface d.record' r) g hs (cond b (Opens (Good (record { kind = tt; start = blankSection3 }))) Ends) ≡ Done rest whole → Sections end rest r whole gs
+          word : (b : Bool) → has_pattern g.bytes section3_word ≡ b
+              → turned (more 1) (set_surface d.record' r) g hs (cond b (Opens (Good (record { kind = tt; start = blank_section3 }))) Ends) ≡ Done rest whole → Sections end rest r whole gs
           word true w e =
-              let x = word_read (setSurface d.record' r) g hs w e in
+              let x = word_read (set_surface d.record' r) g hs w e in
               record {
                 place = d.place;
                 count = d.count;
@@ -157,7 +157,7 @@ module _ (tail : Tail) (end rest : ℕ) (whole : Synop) where
                 place = d.place;
                 count = d.count;
                 s₁ = d.record';
-                s₃ = blankSection3;
+                s₃ = blank_section3;
                 left = g ∷ hs;
                 entries = d.entries;
                 went = rw is d.went;
@@ -190,11 +190,11 @@ drop-freed zero ps = refl
 drop-freed (suc c) [] = refl
 drop-freed (suc c) (p ∷ ps) = drop-freed c ps
 
-find-free : (ps : List Stand) (c k i n : ℕ) → findOf ps c k ≡ Take i n → findOf (map freed ps) c k ≡ Take i n
-unfolding findOf
+find-free : (ps : List Stand) (c k i n : ℕ) → find_of ps c k ≡ Take i n → find_of (map freed ps) c k ≡ Take i n
+unfolding find_of
 find-free ps c k i n e = rw (drop-freed c ps, seek-free (drop c ps) c k false i n (sought (anywhere ps) (seek c k false (drop c ps)) e))
   where
-    sought : (b : Bool) (f : Found) → orEarlier b f ≡ Take i n → f ≡ Take i n
+    sought : (b : Bool) (f : Found) → or_earlier b f ≡ Take i n → f ≡ Take i n
     sought b (Take j m) e = e
     sought b Skips e = impossible (cc)
     sought b Full e = impossible (cc)
@@ -203,28 +203,28 @@ find-free ps c k i n e = rw (drop-freed c ps, seek-free (drop c ps) c k false i 
     sought false Unknown e = impossible (cc)
 
 module _ (n : Needs) (c k : ℕ) (g : Group) where
-  stands-free : standsOf (row free) g ≡ map freed (standsOf (row n) g)
+  stands-free : stands_of (row free) g ≡ map freed (stands_of (row n) g)
   unfolding row
   stands-free = refl
 
-  take-free : (i j : ℕ) → turnAt (row n) (hasAny stopWords) c k g ≡ turn.At i j → turnAt (row free) (hasAny stopWords) c k g ≡ turn.At i j
-  unfolding turnAt
+  take-free : (i j : ℕ) → turn_at (row n) (has_any stop_words) c k g ≡ turn.At i j → turn_at (row free) (has_any stop_words) c k g ≡ turn.At i j
+  unfolding turn_at
   take-free i j e =
-      let found = find-free (standsOf (row n) g) c k i j (at-found (row n) (hasAny stopWords) c k g i j e) in
-      rw (row-length free, stands-free, found) (go (leb 10 c) (hasAny stopWords g) (rw (row-length n) at e))
+      let found = find-free (stands_of (row n) g) c k i j (at-found (row n) (has_any stop_words) c k g i j e) in
+      rw (row-length free, stands-free, found) (go (leb 10 c) (has_any stop_words g) (rw (row-length n) at e))
     where
-      go : (past halt : Bool) → cond past (turn.Refused refusal.Shape) (cond halt turn.Halt (turnBy (findOf (standsOf (row n) g) c k))) ≡ turn.At i j
+      go : (past halt : Bool) → cond past (turn.Refused refusal.Shape) (cond halt turn.Halt (turn_by (find_of (stands_of (row n) g) c k))) ≡ turn.At i j
           → cond past (turn.Refused refusal.Shape) (cond halt turn.Halt (turn.At i j)) ≡ turn.At i j
       go true halt e = impossible (cc)
       go false true e = impossible (cc)
       go false false e = refl
 
-  halt-free : turnAt (row n) (hasAny stopWords) c k g ≡ turn.Halt → turnAt (row free) (hasAny stopWords) c k g ≡ turn.Halt
-  unfolding turnAt
-  halt-free e = rw (row-length free) (go (leb 10 c) (hasAny stopWords g) (findOf (standsOf (row n) g) c k) (rw (row-length n) at e))
+  halt-free : turn_at (row n) (has_any stop_words) c k g ≡ turn.Halt → turn_at (row free) (has_any stop_words) c k g ≡ turn.Halt
+  unfolding turn_at
+  halt-free e = rw (row-length free) (go (leb 10 c) (has_any stop_words g) (find_of (stands_of (row n) g) c k) (rw (row-length n) at e))
     where
-      go : (past halt : Bool) (f : Found) → cond past (turn.Refused refusal.Shape) (cond halt turn.Halt (turnBy f)) ≡ turn.Halt
-          → cond past (turn.Refused refusal.Shape) (cond halt turn.Halt (turnBy (findOf (standsOf (row free) g) c k))) ≡ turn.Halt
+      go : (past halt : Bool) (f : Found) → cond past (turn.Refused refusal.Shape) (cond halt turn.Halt (turn_by f)) ≡ turn.Halt
+          → cond past (turn.Refused refusal.Shape) (cond halt turn.Halt (turn_by (find_of (stands_of (row free) g) c k))) ≡ turn.Halt
       go true halt f e = impossible (cc)
       go false true f e = refl
       go false false (Take i j) e = impossible (cc)
@@ -237,49 +237,49 @@ module _ (n : Needs) (c k : ℕ) (g : Group) where
 
 module _ (ship : Bool) where
   abbrev walked : ℕ → ℕ → ℕ → List Piece → List Taken
-  walked part c k gs = trail (move ship) (markAt part c k) gs
+  walked part c k gs = trail (move ship) (mark_at part c k) gs
 
-  first-move : (c k : ℕ) (g : Group) (u : Turn) → c < 10 → turnAt (row free) (hasAny stopWords) c k g ≡ u → move ship (markAt 0 c k) g ≡ moveBy 0 g u
+  first-move : (c k : ℕ) (g : Group) (u : Turn) → c < 10 → turn_at (row free) (has_any stop_words) c k g ≡ u → move ship (mark_at 0 c k) g ≡ move_by 0 g u
   unfolding move
-  first-move c k g u h e = rw (lt-leb 10 c h, ne_eqb c windPlace (omega arith), e)
+  first-move c k g u h e = rw (lt-leb 10 c h, ne_eqb c wind_place (omega arith), e)
 
   -- section 1 begins behind Nddff
-  from-wind : (gs : List Piece) → walked 0 windPlace 1 gs ≡ walked 0 0 0 gs
+  from-wind : (gs : List Piece) → walked 0 wind_place 1 gs ≡ walked 0 0 0 gs
   unfolding trail move
   from-wind [] = refl
-  from-wind (g ∷ gs) = go (turnAt (row free) (hasAny stopWords) 0 0 g.bytes)
+  from-wind (g ∷ gs) = go (turn_at (row free) (has_any stop_words) 0 0 g.bytes)
     where
-      word : (b : Bool) → afterMove (markAt 0 windPlace 1) g (λ m. trail (move ship) m gs) (cond b (Begins tt) Over) ≡ afterMove (markAt 0 0 0) g (λ m. trail (move ship) m gs) (cond b (Begins tt) Over)
+      word : (b : Bool) → after_move (mark_at 0 wind_place 1) g (λ m. trail (move ship) m gs) (cond b (Begins tt) Over) ≡ after_move (mark_at 0 0 0) g (λ m. trail (move ship) m gs) (cond b (Begins tt) Over)
       word true = refl
       word false = refl
 
-      go : (u : Turn) → afterMove (markAt 0 windPlace 1) g (λ m. trail (move ship) m gs) (moveBy 0 g.bytes u) ≡ afterMove (markAt 0 0 0) g (λ m. trail (move ship) m gs) (moveBy 0 g.bytes u)
+      go : (u : Turn) → after_move (mark_at 0 wind_place 1) g (λ m. trail (move ship) m gs) (move_by 0 g.bytes u) ≡ after_move (mark_at 0 0 0) g (λ m. trail (move ship) m gs) (move_by 0 g.bytes u)
       go (turn.At i n) = refl
-      go turn.Halt = word (hasPattern g.bytes section3Word)
+      go turn.Halt = word (has_pattern g.bytes section3_word)
       go (turn.Refused f) = refl
 
   module _ (n : Needs) where
-    first-walked : {c₁ k₁ c k : ℕ} {s₁ s : Surface} {left gs : List Piece} {es : List Entry} → Went (row n) (hasAny stopWords) c₁ k₁ s₁ left c k s gs es → c < 10
-        → (walked 0 c k gs ≡ map (asTaken 0) es ++ walked 0 c₁ k₁ left) × (c₁ < 10)
+    first-walked : {c₁ k₁ c k : ℕ} {s₁ s : Surface} {left gs : List Piece} {es : List Entry} → Went (row n) (has_any stop_words) c₁ k₁ s₁ left c k s gs es → c < 10
+        → (walked 0 c k gs ≡ map (as_taken 0) es ++ walked 0 c₁ k₁ left) × (c₁ < 10)
     unfolding trail
     first-walked done h = (refl, h)
     first-walked {c = c} {k = k} (on {i = i} {n = m} {g = g} {gs = gs} t e w) h =
-        let low : i < 10 = rw (row-length n) at (turn-within (row n) (hasAny stopWords) c k g.bytes i m t).0 in
+        let low : i < 10 = rw (row-length n) at (turn-within (row n) (has_any stop_words) c k g.bytes i m t).0 in
         let same = first.row-endless n i in
         let (q, last) = first-walked w (rw (← same) low) in
-        (rw (first-move c k g.bytes (turn.At i m) h (take-free n c k g.bytes i m t)) (ap (λ (l : List Taken). asTaken 0 (record { place = i; count = m; piece = g }) ∷ l) (ap (λ (x : ℕ). walked 0 x (m + 1) gs) same ∙ q)), last)
+        (rw (first-move c k g.bytes (turn.At i m) h (take-free n c k g.bytes i m t)) (ap (λ (l : List Taken). as_taken 0 (record { place = i; count = m; piece = g }) ∷ l) (ap (λ (x : ℕ). walked 0 x (m + 1) gs) same ∙ q)), last)
 
-  third-move : (c k : ℕ) (g : Group) (u : Turn) → turnAt third.row third.halts c k g ≡ u → move ship (markAt 1 c k) g ≡ moveBy 1 g u
+  third-move : (c k : ℕ) (g : Group) (u : Turn) → turn_at third.row third.halts c k g ≡ u → move ship (mark_at 1 c k) g ≡ move_by 1 g u
   unfolding move
   third-move c k g u e = rw e
 
   third-walked : {c₁ k₁ c k : ℕ} {s₁ s : Section3} {left gs : List Piece} {es : List Entry} → Went third.row third.halts c₁ k₁ s₁ left c k s gs es
-      → walked 1 c k gs ≡ map (asTaken 1) es ++ walked 1 c₁ k₁ left
+      → walked 1 c k gs ≡ map (as_taken 1) es ++ walked 1 c₁ k₁ left
   unfolding trail
   third-walked done = refl
   third-walked {c = c} {k = k} (on {i = i} {n = m} {g = g} {gs = gs} t e w) =
       rw (third-move c k g.bytes (turn.At i m) t)
-      (ap (λ (l : List Taken). asTaken 1 (record { place = i; count = m; piece = g }) ∷ l) (ap (λ (x : ℕ). walked 1 x (m + 1) gs) (thirds.row-endless i) ∙ third-walked w))
+      (ap (λ (l : List Taken). as_taken 1 (record { place = i; count = m; piece = g }) ∷ l) (ap (λ (x : ℕ). walked 1 x (m + 1) gs) (thirds.row-endless i) ∙ third-walked w))
 
   -- a group that halts section 3 ends the walk
   third-ends : (c k : ℕ) (gs : List Piece) → Halts third.row third.halts c k gs → walked 1 c k gs ≡ []
@@ -288,7 +288,7 @@ module _ (ship : Bool) where
   third-ends c k (g ∷ gs) h = rw (third-move c k g.bytes turn.Halt h)
 
   after-walked : {end rest : ℕ} {s₃ : Section3} {left : List Piece} {xs : List Taken} (n : Needs) (c k : ℕ) → Third end rest s₃ left xs → c < 10
-      → Halts (row n) (hasAny stopWords) c k left → walked 0 c k left ≡ xs
+      → Halts (row n) (has_any stop_words) c k left → walked 0 c k left ≡ xs
   unfolding trail
   after-walked n c k (over a) h halts = refl
   after-walked n c k (stop {g = g} is a) h halts = rw (first-move c k g.bytes turn.Halt h (halt-free n c k g.bytes halts), is)
@@ -296,10 +296,10 @@ module _ (ship : Bool) where
       rw (first-move c k g.bytes turn.Halt h (halt-free n c k g.bytes halts), is, third-walked went, third-ends d m left halted)
 
   -- THE WALK FROM BEHIND NDDFF ON.
-  pub sections-walked : {end rest : ℕ} {r whole : Synop} {gs : List Piece} (d : Sections end rest r whole gs) → walked 0 windPlace 1 gs ≡ map (asTaken 0) d.entries ++ d.taken
+  pub sections-walked : {end rest : ℕ} {r whole : Synop} {gs : List Piece} (d : Sections end rest r whole gs) → walked 0 wind_place 1 gs ≡ map (as_taken 0) d.entries ++ d.taken
   sections-walked {r = r} {gs = gs} d =
-      let (q, low) = first-walked (needsOf r.surface) d.went (omega arith) in
-      from-wind gs ∙ q ∙ ap (λ (l : List Taken). map (asTaken 0) d.entries ++ l) (after-walked (needsOf r.surface) d.place d.count d.third low d.halted)
+      let (q, low) = first-walked (needs_of r.surface) d.went (omega arith) in
+      from-wind gs ∙ q ∙ ap (λ (l : List Taken). map (as_taken 0) d.entries ++ l) (after-walked (needs_of r.surface) d.place d.count d.third low d.halted)
 
 -- ---- no group is left out, and none has the spot of another
 
@@ -309,27 +309,27 @@ third-covers (stop {g = g} {gs = gs} is a) = record { left = g ∷ gs; all = ref
 third-covers (opened {left = left} {es = es} is went halted begins) =
     cover-more _ (rw (went-pieces third.row third.halts went) (entries-cover 1 es left [] (record { left = left; all = refl; begins = begins })))
 
-pub sections-cover : {end rest : ℕ} {r whole : Synop} {gs : List Piece} (d : Sections end rest r whole gs) → Covers end rest gs (map (asTaken 0) d.entries ++ d.taken)
-sections-cover {r = r} d = rw (went-pieces (row (needsOf r.surface)) (hasAny stopWords) d.went) (entries-cover 0 d.entries d.left d.taken (third-covers d.third))
+pub sections-cover : {end rest : ℕ} {r whole : Synop} {gs : List Piece} (d : Sections end rest r whole gs) → Covers end rest gs (map (as_taken 0) d.entries ++ d.taken)
+sections-cover {r = r} d = rw (went-pieces (row (needs_of r.surface)) (has_any stop_words) d.went) (entries-cover 0 d.entries d.left d.taken (third-covers d.third))
 
 third-distinct : {end rest : ℕ} {s₃ : Section3} {left : List Piece} {xs : List Taken} → Third end rest s₃ left xs → Distinct xs × Later 0 xs
 third-distinct (over a) = (tt, tt)
 third-distinct (stop is a) = (tt, tt)
 third-distinct (opened {g = g} {es = es} is went halted begins) = (
   (beside 0 spot.Opening g es [] tt (λ i k. refl), distinct_append 1 es [] (went-distinct third.row third.halts 1 went) tt tt),
-  (omega arith, later-append 0 (map (asTaken 1) es) [] (entries-later 0 es) tt),
+  (omega arith, later-append 0 (map (as_taken 1) es) [] (entries-later 0 es) tt),
 )
 
 pub sections-distinct : {end rest : ℕ} {r whole : Synop} {gs : List Piece} (d : Sections end rest r whole gs)
-    → Distinct (map (asTaken 0) d.entries ++ d.taken) × Later 0 d.taken
+    → Distinct (map (as_taken 0) d.entries ++ d.taken) × Later 0 d.taken
 sections-distinct {r = r} d =
     let (x, l) = third-distinct d.third in
-    (distinct_append 0 d.entries d.taken (went-distinct (row (needsOf r.surface)) (hasAny stopWords) 0 d.went) x l, l)
+    (distinct_append 0 d.entries d.taken (went-distinct (row (needs_of r.surface)) (has_any stop_words) 0 d.went) x l, l)
 
 -- the groups of section 1 stand at places of its row
 pub sections-low : {end rest : ℕ} {r whole : Synop} {gs : List Piece} (d : Sections end rest r whole gs) → EachLow d.entries
-sections-low {r = r} d = low (needsOf r.surface) d.went
+sections-low {r = r} d = low (needs_of r.surface) d.went
   where
-    low : (n : Needs) {c₁ k₁ c k : ℕ} {s₁ s : Surface} {left gs : List Piece} {es : List Entry} → Went (row n) (hasAny stopWords) c₁ k₁ s₁ left c k s gs es → EachLow es
+    low : (n : Needs) {c₁ k₁ c k : ℕ} {s₁ s : Surface} {left gs : List Piece} {es : List Entry} → Went (row n) (has_any stop_words) c₁ k₁ s₁ left c k s gs es → EachLow es
     low n done = tt
-    low n {c = c} {k = k} (on {i = i} {n = m} {g = g} t e w) = (rw (row-length n) at (turn-within (row n) (hasAny stopWords) c k g.bytes i m t).0, low n w)
+    low n {c = c} {k = k} (on {i = i} {n = m} {g = g} t e w) = (rw (row-length n) at (turn-within (row n) (has_any stop_words) c k g.bytes i m t).0, low n w)

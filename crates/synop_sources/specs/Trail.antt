@@ -6,17 +6,17 @@ use Rattle.figures.specs.Quote.{bytes}
 use Rattle.text.specs.declared.kinds.Refusal.TheVariants as refusal
 use Rattle.text.specs.declared.kinds.Cut.{Cut}
 use Rattle.text.specs.declared.kinds.Cut.TheVariants as cut
-use Rattle.text.specs.Groups.{Piece, groupsFrom, next_of, part_of}
-use Rattle.shapes.specs.Pattern.{hasPattern, hasAny}
+use Rattle.text.specs.Groups.{Piece, groups_from, next_of, part_of}
+use Rattle.shapes.specs.Pattern.{has_pattern, has_any}
 use Rattle.places.specs.declared.kinds.Turn.{Turn}
 use Rattle.places.specs.declared.kinds.Turn.TheVariants as turn
 use Rattle.places.specs.Engine.{Group}
-use Rattle.places.specs.Turn.{turnAt}
+use Rattle.places.specs.Turn.{turn_at}
 use Rattle.synop_row.specs.declared.kinds.Needs.{Needs}
-use Rattle.synop_row.specs.Row.{row, stopWords, section3Word}
+use Rattle.synop_row.specs.Row.{row, stop_words, section3_word}
 use Rattle.section3.specs.Row as third
 use Rattle.section3.specs.Step.{Opened}
-use Rattle.synop.specs.Read.{isNil}
+use Rattle.synop.specs.Read.{is_nil}
 use Rattle.sources.specs.Trail.{Mark, Move, Takes, Opens, Joins, Ends, Taken, trail}
 use Rattle.synop_sources.specs.declared.kinds.Met.{Met}
 use Rattle.synop_sources.specs.declared.kinds.Met.TheVariants as met
@@ -24,46 +24,46 @@ use Rattle.synop_sources.specs.declared.kinds.Met.TheVariants as met
 -- ---- the groups known by position: "AAXX YYGGiw IIiii, or BBXX, a call sign .., YYGGiw, 99LaLaLa, QcLoLoLoLo", then iRixhVV and Nddff; "NIL after IIiii
 -- ends a land report."
 
-abbrev pub namePlace : ℕ
-namePlace = 10
+abbrev pub name_place : ℕ
+name_place = 10
 
-abbrev pub signPlace : ℕ
-signPlace = 11
+abbrev pub sign_place : ℕ
+sign_place = 11
 
-abbrev pub timePlace : ℕ
-timePlace = 12
+abbrev pub time_place : ℕ
+time_place = 12
 
-abbrev pub stationPlace : ℕ
-stationPlace = 13
+abbrev pub station_place : ℕ
+station_place = 13
 
-abbrev pub latitudePlace : ℕ
-latitudePlace = 14
+abbrev pub latitude_place : ℕ
+latitude_place = 14
 
-abbrev pub longitudePlace : ℕ
-longitudePlace = 15
+abbrev pub longitude_place : ℕ
+longitude_place = 15
 
-abbrev pub nilPlace : ℕ
-nilPlace = 16
+abbrev pub nil_place : ℕ
+nil_place = 16
 
-abbrev pub indicatorsPlace : ℕ
-indicatorsPlace = 17
+abbrev pub indicators_place : ℕ
+indicators_place = 17
 
-abbrev pub windPlace : ℕ
-windPlace = 18
+abbrev pub wind_place : ℕ
+wind_place = 18
 
-abbrev pub headAt : ℕ → Turn
-headAt i = turn.At i 0
+abbrev pub head_at : ℕ → Turn
+head_at i = turn.At i 0
 
 -- the place of the group after that of place c, where k groups stand; the name comes first, and nothing comes after NIL
-abbrev pub headTurn : Bool → ℕ → ℕ → Group → Turn
-headTurn ship c k g =
-    cond (eqb c namePlace) (cond (eqb k 0) (headAt namePlace) (cond ship (headAt signPlace) (headAt timePlace)))
-    (cond (eqb c signPlace) (headAt timePlace)
-    (cond (eqb c timePlace) (cond ship (headAt latitudePlace) (headAt stationPlace))
-    (cond (eqb c stationPlace) (cond (isNil g) (headAt nilPlace) (headAt indicatorsPlace))
-    (cond (eqb c latitudePlace) (headAt longitudePlace)
-    (cond (eqb c longitudePlace) (headAt indicatorsPlace)
-    (cond (eqb c indicatorsPlace) (headAt windPlace) (turn.Refused refusal.Shape)))))))
+abbrev pub head_turn : Bool → ℕ → ℕ → Group → Turn
+head_turn ship c k g =
+    cond (eqb c name_place) (cond (eqb k 0) (head_at name_place) (cond ship (head_at sign_place) (head_at time_place)))
+    (cond (eqb c sign_place) (head_at time_place)
+    (cond (eqb c time_place) (cond ship (head_at latitude_place) (head_at station_place))
+    (cond (eqb c station_place) (cond (is_nil g) (head_at nil_place) (head_at indicators_place))
+    (cond (eqb c latitude_place) (head_at longitude_place)
+    (cond (eqb c longitude_place) (head_at indicators_place)
+    (cond (eqb c indicators_place) (head_at wind_place) (turn.Refused refusal.Shape)))))))
 
 -- ---- section 1
 
@@ -72,62 +72,62 @@ abbrev pub free : Needs
 free = record { rain = false; weather = false; speed = false }
 
 -- section 1 begins behind Nddff
-abbrev pub sectionTurn : ℕ → ℕ → Group → Turn
-sectionTurn c k g = cond (eqb c windPlace) (turnAt (row free) (hasAny stopWords) 0 0 g) (turnAt (row free) (hasAny stopWords) c k g)
+abbrev pub section_turn : ℕ → ℕ → Group → Turn
+section_turn c k g = cond (eqb c wind_place) (turn_at (row free) (has_any stop_words) 0 0 g) (turn_at (row free) (has_any stop_words) c k g)
 
 -- ---- the walk, of a ship's report or a land station's
 
-abbrev pub markAt : ℕ → ℕ → ℕ → Mark Opened
-markAt part c k = record { part = part; word = tt; place = c; count = k }
+abbrev pub mark_at : ℕ → ℕ → ℕ → Mark Opened
+mark_at part c k = record { part = part; word = tt; place = c; count = k }
 
 -- the name is still to come
 abbrev pub start : Mark Opened
-start = markAt 0 namePlace 0
+start = mark_at 0 name_place 0
 
 -- reading stands before Nddff
-abbrev pub inHead : ℕ → Bool
-inHead c = leb namePlace c && not (eqb c windPlace)
+abbrev pub in_head : ℕ → Bool
+in_head c = leb name_place c && not (eqb c wind_place)
 
-abbrev pub turnIn : Bool → ℕ → ℕ → ℕ → Group → Turn
-turnIn ship part c k g =
-    cond (eqb part 0) (cond (inHead c) (headTurn ship c k g) (sectionTurn c k g)) (turnAt third.row third.halts c k g)
+abbrev pub turn_in : Bool → ℕ → ℕ → ℕ → Group → Turn
+turn_in ship part c k g =
+    cond (eqb part 0) (cond (in_head c) (head_turn ship c k g) (section_turn c k g)) (turn_at third.row third.halts c k g)
 
 -- 333 opens section 3, once; the unread rest begins at any other word
-abbrev pub wordMove : ℕ → Group → Move Opened
-wordMove part g = cond (eqb part 0 && hasPattern g section3Word) (Opens tt) Ends
+abbrev pub word_move : ℕ → Group → Move Opened
+word_move part g = cond (eqb part 0 && has_pattern g section3_word) (Opens tt) Ends
 
-abbrev pub moveBy : ℕ → Group → Turn → Move Opened
-moveBy part g (turn.At i n) = Takes i n i
-moveBy part g turn.Halt = wordMove part g
-moveBy part g (turn.Refused f) = Ends
+abbrev pub move_by : ℕ → Group → Turn → Move Opened
+move_by part g (turn.At i n) = Takes i n i
+move_by part g turn.Halt = word_move part g
+move_by part g (turn.Refused f) = Ends
 
 unfoldable pub move : Bool → Mark Opened → Group → Move Opened
-move ship m g = moveBy m.part g (turnIn ship m.part m.place m.count g)
+move ship m g = move_by m.part g (turn_in ship m.part m.place m.count g)
 
 -- the first group is BBXX
-abbrev pub shipBy : List Piece → Bool
-shipBy [] = false
-shipBy (g ∷ gs) = hasPattern g.bytes (bytes "BBXX")
+abbrev pub ship_by : List Piece → Bool
+ship_by [] = false
+ship_by (g ∷ gs) = has_pattern g.bytes (bytes "BBXX")
 
-unfoldable pub shipIn : List ℕ → Bool
-shipIn text = shipBy (groupsFrom text 0)
+unfoldable pub ship_in : List ℕ → Bool
+ship_in text = ship_by (groups_from text 0)
 
 -- THE TRAIL OF A SYNOP OR SHIP, from its name on
-unfoldable pub trailOf : List ℕ → List Taken
-trailOf text = trail (move (shipIn text)) start (groupsFrom text 0)
+unfoldable pub trail_of : List ℕ → List Taken
+trail_of text = trail (move (ship_in text)) start (groups_from text 0)
 
 -- ---- one group, as the code goes on to it
 
-abbrev pub metMove : ℕ → ℕ → Move Opened → Met
-metMove start end (Takes i n past) = met.Takes i n start end
-metMove start end (Opens w) = met.Opens start end
-metMove start end (Joins w) = met.Over
-metMove start end Ends = met.Over
+abbrev pub met_move : ℕ → ℕ → Move Opened → Met
+met_move start end (Takes i n past) = met.Takes i n start end
+met_move start end (Opens w) = met.Opens start end
+met_move start end (Joins w) = met.Over
+met_move start end Ends = met.Over
 
-abbrev pub metCut : List ℕ → Bool → Mark Opened → Cut → Met
-metCut text ship m (cut.End at) = met.Over
-metCut text ship m (cut.Group s e) = metMove s e (move ship m (part_of text s e))
+abbrev pub met_cut : List ℕ → Bool → Mark Opened → Cut → Met
+met_cut text ship m (cut.End at) = met.Over
+met_cut text ship m (cut.Group s e) = met_move s e (move ship m (part_of text s e))
 
 -- the next group of the text from a position on
-unfoldable pub metOf : List ℕ → ℕ → Bool → Mark Opened → Met
-metOf text from ship m = metCut text ship m (next_of text from)
+unfoldable pub met_of : List ℕ → ℕ → Bool → Mark Opened → Met
+met_of text from ship m = met_cut text ship m (next_of text from)

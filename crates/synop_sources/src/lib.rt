@@ -2,12 +2,12 @@
 pub mod kinds;
 
 ghost use Rattle.std.specs.Prelude.{◌-◌, ◌≡◌, cond, eqb};
-ghost use Rattle.shapes.specs.Pattern.{hasAny};
-ghost use Rattle.places.specs.Turn.{turnAt};
-ghost use Rattle.synop_row.specs.Row.{row, stopWords};
-ghost use Rattle.sources.specs.Trail.{originIn, source_of};
-ghost use Rattle.synop_sources.specs.Items.{part_of, place_of, layersPlace, saysLayer, layerIn};
-ghost use Rattle.synop_sources.specs.Trail.{headAt, headTurn, free, sectionTurn, inHead, turnIn, markAt, wordMove, shipIn, trailOf, metMove, metOf};
+ghost use Rattle.shapes.specs.Pattern.{has_any};
+ghost use Rattle.places.specs.Turn.{turn_at};
+ghost use Rattle.synop_row.specs.Row.{row, stop_words};
+ghost use Rattle.sources.specs.Trail.{origin_in, source_of};
+ghost use Rattle.synop_sources.specs.Items.{part_of, place_of, layers_place, says_layer, layer_in};
+ghost use Rattle.synop_sources.specs.Trail.{head_at, head_turn, free, section_turn, in_head, turn_in, mark_at, word_move, ship_in, trail_of, met_move, met_of};
 
 use kinds::{Element, Met};
 use places::kinds::Turn;
@@ -21,7 +21,7 @@ use text::kinds::{Cut, Refusal};
 
 // One group at most stands at a place before section 1.
 fn head_at(place: usize) -> Turn
-    ensures { result ≡ headAt place }
+    ensures { result ≡ head_at place }
 {
     Turn::At { place, count: 0 }
 }
@@ -29,7 +29,7 @@ fn head_at(place: usize) -> Turn
 // The place of the group after that of `place`, among those known by position: the name, a ship's call sign, YYGGiw, IIiii or 99LaLaLa and QcLoLoLoLo, NIL or
 // iRixhVV, Nddff.
 fn head_turn(ship: bool, place: usize, count: usize, g: &[u8]) -> Turn
-    ensures { result ≡ headTurn ship place count g.now }
+    ensures { result ≡ head_turn ship place count g.now }
 {
     if place == 10 {
         if count == 0 {
@@ -64,7 +64,7 @@ fn head_turn(ship: bool, place: usize, count: usize, g: &[u8]) -> Turn
 
 // The group's turn by the row of section 1. What is required there decides no place.
 fn row_turn(place: usize, count: usize, g: &[u8]) -> Turn
-    ensures { result ≡ turnAt (row free) (hasAny stopWords) place count g.now }
+    ensures { result ≡ turn_at (row free) (has_any stop_words) place count g.now }
 {
     if 10 <= place {
         return Turn::Refused(Refusal::Shape);
@@ -82,7 +82,7 @@ fn row_turn(place: usize, count: usize, g: &[u8]) -> Turn
 
 // In section 1, which begins behind Nddff.
 fn section_turn(place: usize, count: usize, g: &[u8]) -> Turn
-    ensures { result ≡ sectionTurn place count g.now }
+    ensures { result ≡ section_turn place count g.now }
 {
     if place == 18 {
         row_turn(0, 0, g)
@@ -93,7 +93,7 @@ fn section_turn(place: usize, count: usize, g: &[u8]) -> Turn
 
 // In its part: among the groups before section 1, in section 1, or in section 3.
 fn turn_in(ship: bool, part: usize, place: usize, count: usize, g: &[u8]) -> Turn
-    ensures { result ≡ turnIn ship part place count g.now }
+    ensures { result ≡ turn_in ship part place count g.now }
 {
     if part == 0 {
         if (10 <= place) & (place != 18) {
@@ -108,7 +108,7 @@ fn turn_in(ship: bool, part: usize, place: usize, count: usize, g: &[u8]) -> Tur
 
 // A word, from start up to end: 333 opens section 3, once.
 fn meet_word(part: usize, g: &[u8], start: usize, end: usize) -> Met
-    ensures { result ≡ metMove start end (wordMove part g.now) }
+    ensures { result ≡ met_move start end (word_move part g.now) }
 {
     let third = row::is_section3(g);
     if (part == 0) & third {
@@ -120,7 +120,7 @@ fn meet_word(part: usize, g: &[u8], start: usize, end: usize) -> Met
 
 // The next group of the text.
 fn meet(text: &[u8], from: usize, ship: bool, part: usize, place: usize, count: usize) -> Met
-    ensures { result ≡ metOf text.now from ship (markAt part place count) }
+    ensures { result ≡ met_of text.now from ship (mark_at part place count) }
 {
     let Cut::Group { start, end } = text::next_group(text, from) else {
         return Met::Over;
@@ -144,7 +144,7 @@ fn meet(text: &[u8], from: usize, ship: bool, part: usize, place: usize, count: 
 
 // Is the first group BBXX?
 fn is_ship(text: &[u8]) -> bool
-    ensures { result ≡ shipIn text.now }
+    ensures { result ≡ ship_in text.now }
 {
     let Cut::Group { start, end } = text::next_group(text, 0) else {
         return false;
@@ -154,7 +154,7 @@ fn is_ship(text: &[u8]) -> bool
 
 // The group that was taken at a spot of a part, in a text that is accepted as a SYNOP or SHIP.
 pub fn find(text: &[u8], part: usize, spot: Spot) -> Source
-    ensures { result ≡ source_of (originIn part spot (trailOf text.now)) }
+    ensures { result ≡ source_of (origin_in part spot (trail_of text.now)) }
 {
     let ship = is_ship(text);
     let mut here = 0;
@@ -193,7 +193,7 @@ pub fn find(text: &[u8], part: usize, spot: Spot) -> Source
 
 // Does a group of a part, taken at a place, say a layer?
 fn says_layer(part: usize, place: usize, g: &[u8]) -> bool
-    ensures { result ≡ saysLayer part (eqb place layersPlace) g.now }
+    ensures { result ≡ says_layer part (eqb place layers_place) g.now }
 {
     let none = has_pattern(g, b"8////");
     (part == 1) & (place == 2) & !none
@@ -212,7 +212,7 @@ fn count_down(more: usize, says: bool) -> usize
 
 // The group that says a layer of section 3, the one with so many before it, in a text that is accepted as a SYNOP or SHIP.
 pub fn find_layer(text: &[u8], number: usize) -> Source
-    ensures { result ≡ source_of (layerIn number (trailOf text.now)) }
+    ensures { result ≡ source_of (layer_in number (trail_of text.now)) }
 {
     let ship = is_ship(text);
     let mut more = number;

@@ -2,10 +2,10 @@
 ghost use Rattle.std.specs.Prelude.{◌≡◌, cond, not, ◌&&◌};
 ghost use Rattle.text.specs.declared.kinds.Judged.TheVariants as judged;
 ghost use Rattle.text.specs.Judge.{and_then};
-ghost use Rattle.section3.specs.Write.{judgeSection3};
-ghost use Rattle.record.specs.Missing.{isMissing};
-ghost use Rattle.record.specs.SilentSurface.{noSign, noPosition};
-ghost use Rattle.synop.specs.Write.{foreignBlank, foreign, judgeSite, judgeSection, judgeSurface, judgeOf};
+ghost use Rattle.section3.specs.Write.{judge_section3};
+ghost use Rattle.record.specs.Missing.{is_missing};
+ghost use Rattle.record.specs.SilentSurface.{no_sign, no_position};
+ghost use Rattle.synop.specs.Write.{foreign_blank, foreign, judge_site, judge_section, judge_surface, judge_of};
 
 use record::surface::{Section3, Site, Surface, Synop};
 use section3::judge::judge_section3;
@@ -21,7 +21,7 @@ use text::kinds::{Judged, Refusal};
 
 // A land report has no call sign and no position, a ship no station number and no NIL.
 fn site_suits(ship: bool, site: Site) -> bool
-    ensures { result ≡ cond ship (isMissing site.station && not site.nil) (noSign site.sign && noPosition site.position) }
+    ensures { result ≡ cond ship (is_missing site.station && not site.nil) (no_sign site.sign && no_position site.position) }
 {
     let station = site.station;
     let nil = site.nil;
@@ -36,7 +36,7 @@ fn site_suits(ship: bool, site: Site) -> bool
 
 // Fields foreign to the kind, or to NIL, are blank.
 fn foreign_blank(r: Synop) -> bool
-    ensures { result ≡ foreignBlank r }
+    ensures { result ≡ foreign_blank r }
 {
     let ship = r.ship;
     let site = r.site;
@@ -57,7 +57,7 @@ fn judge_foreign(r: Synop) -> Judged
 }
 
 fn judge_site(r: Synop) -> Judged
-    ensures { result ≡ judgeSite r }
+    ensures { result ≡ judge_site r }
 {
     let ship = r.ship;
     let site = r.site;
@@ -74,7 +74,7 @@ fn judge_site(r: Synop) -> Judged
 }
 
 fn judge_section(n: Needs, s: Surface) -> Judged
-    ensures { result ≡ judgeSection n s }
+    ensures { result ≡ judge_section n s }
 {
     let rain_due = n.rain;
     let weather_due = n.weather;
@@ -98,7 +98,7 @@ fn judge_section(n: Needs, s: Surface) -> Judged
 }
 
 fn judge_surface(s: Surface) -> Judged
-    ensures { result ≡ judgeSurface s }
+    ensures { result ≡ judge_surface s }
 {
     let indicators = s.indicators;
     let wind = s.wind;
@@ -108,7 +108,7 @@ fn judge_surface(s: Surface) -> Judged
 
 // A NIL report has no surface and no section 3 to judge.
 fn judge_rest(nil: bool, s: Surface, x: Section3) -> Judged
-    ensures { result ≡ cond nil judged.Fine (and_then (judgeSurface s) (judgeSection3 x)) }
+    ensures { result ≡ cond nil judged.Fine (and_then (judge_surface s) (judge_section3 x)) }
 {
     if nil {
         Judged::Fine
@@ -118,7 +118,7 @@ fn judge_rest(nil: bool, s: Surface, x: Section3) -> Judged
 }
 
 pub fn judge(r: Synop) -> Judged
-    ensures { result ≡ judgeOf r }
+    ensures { result ≡ judge_of r }
 {
     let site = r.site;
     let nil = site.nil;

@@ -3,12 +3,12 @@ ghost use Rattle.std.specs.Prelude.{◌≡◌, cond, ◌∷◌, [], ◌++◌, le
 ghost use Rattle.figures.specs.Put.{Put};
 ghost use Rattle.figures.specs.Quote.{bytes};
 ghost use Rattle.text.specs.Groups.{written};
-ghost use Rattle.places.specs.Engine.{written as groupsAt};
+ghost use Rattle.places.specs.Engine.{written as groups_at};
 ghost use Rattle.text.specs.declared.kinds.Judged.TheVariants as judged;
-ghost use Rattle.synop_groups.specs.Shows.{showTime, showStation, showSign, showLatitude, showLongitude};
+ghost use Rattle.synop_groups.specs.Shows.{show_time, show_station, show_sign, show_latitude, show_longitude};
 ghost use Rattle.synop_row.specs.Row.{row};
-ghost use Rattle.section3.specs.Write.{showSection3};
-ghost use Rattle.synop.specs.Write.{judgeOf, siteGroups, surfaceGroups, groups_of, written_of, bufferOf};
+ghost use Rattle.section3.specs.Write.{show_section3};
+ghost use Rattle.synop.specs.Write.{judge_of, site_groups, surface_groups, groups_of, written_of, buffer_of};
 
 use crate::judge::judge;
 use record::surface::{Section3, Site, Surface, Synop};
@@ -25,7 +25,7 @@ use text::write::{close_report, deliver, put_group};
 
 // AAXX YYGGiw IIiii
 fn put_land(out: &mut [u8], site: Site) -> usize
-    ensures { Put out.old 0 (written 0 (bytes "AAXX" ∷ showTime site.time ∷ showStation site.station ∷ [])) result out.new }
+    ensures { Put out.old 0 (written 0 (bytes "AAXX" ∷ show_time site.time ∷ show_station site.station ∷ [])) result out.new }
 {
     let time = site.time;
     let station = site.station;
@@ -36,7 +36,7 @@ fn put_land(out: &mut [u8], site: Site) -> usize
 
 // BBXX, a call sign, YYGGiw 99LaLaLa QcLoLoLoLo
 fn put_ship(out: &mut [u8], site: Site) -> usize
-    ensures { Put out.old 0 (written 0 (bytes "BBXX" ∷ showSign site.sign ∷ showTime site.time ∷ showLatitude site.position ∷ showLongitude site.position ∷ [])) result out.new }
+    ensures { Put out.old 0 (written 0 (bytes "BBXX" ∷ show_sign site.sign ∷ show_time site.time ∷ show_latitude site.position ∷ show_longitude site.position ∷ [])) result out.new }
 {
     let sign = site.sign;
     let time = site.time;
@@ -49,7 +49,7 @@ fn put_ship(out: &mut [u8], site: Site) -> usize
 }
 
 fn put_site(out: &mut [u8], r: Synop) -> usize
-    ensures { Put out.old 0 (written 0 (siteGroups r)) result out.new }
+    ensures { Put out.old 0 (written 0 (site_groups r)) result out.new }
 {
     let ship = r.ship;
     let site = r.site;
@@ -62,7 +62,7 @@ fn put_site(out: &mut [u8], r: Synop) -> usize
 
 // 00fff and the groups 1 to 9.
 fn put_section(out: &mut [u8], at: usize, n: Needs, s: Surface) -> usize
-    ensures { Put out.old at (written at (groupsAt (row n) s)) result out.new }
+    ensures { Put out.old at (written at (groups_at (row n) s)) result out.new }
 {
     let rain_due = n.rain;
     let weather_due = n.weather;
@@ -89,7 +89,7 @@ fn put_section(out: &mut [u8], at: usize, n: Needs, s: Surface) -> usize
 }
 
 fn put_surface(out: &mut [u8], at: usize, s: Surface) -> usize
-    ensures { Put out.old at (written at (surfaceGroups s)) result out.new }
+    ensures { Put out.old at (written at (surface_groups s)) result out.new }
 {
     let indicators = s.indicators;
     let wind = s.wind;
@@ -101,7 +101,7 @@ fn put_surface(out: &mut [u8], at: usize, s: Surface) -> usize
 
 // NIL, or the surface and section 3.
 fn put_rest(out: &mut [u8], at: usize, nil: bool, s: Surface, x: Section3) -> usize
-    ensures { Put out.old at (written at (cond nil (bytes "NIL" ∷ []) (surfaceGroups s ++ showSection3 x))) result out.new }
+    ensures { Put out.old at (written at (cond nil (bytes "NIL" ∷ []) (surface_groups s ++ show_section3 x))) result out.new }
 {
     if nil {
         put_group(out, at, b"NIL")
@@ -126,8 +126,8 @@ fn put_report(out: &mut [u8], r: Synop) -> usize
 
 // A record that is judged fine: its text, at most 145 bytes, is made first, so that its length is known before the lent buffer is touched.
 fn write_fine(r: Synop, out: &mut [u8]) -> Written
-    requires { judgeOf r ≡ judged.Fine }
-    ensures { (result ≡ written_of r (length out.old)) × (out.new ≡ bufferOf r out.old) }
+    requires { judge_of r ≡ judged.Fine }
+    ensures { (result ≡ written_of r (length out.old)) × (out.new ≡ buffer_of r out.old) }
 {
     let mut text = [0u8; 160];
     let end = put_report(&mut text, r);
@@ -135,7 +135,7 @@ fn write_fine(r: Synop, out: &mut [u8]) -> Written
 }
 
 pub fn write(r: Synop, out: &mut [u8]) -> Written
-    ensures { (result ≡ written_of r (length out.old)) × (out.new ≡ bufferOf r out.old) }
+    ensures { (result ≡ written_of r (length out.old)) × (out.new ≡ buffer_of r out.old) }
 {
     let verdict = judge(r);
     match verdict {

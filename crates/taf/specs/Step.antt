@@ -5,11 +5,11 @@ use Rattle.std.proofs.lemmas.List.Edits.{sets}
 use Rattle.text.specs.declared.kinds.Refusal.{Refusal}
 use Rattle.text.specs.declared.kinds.Verdict.{Verdict}
 use Rattle.text.specs.declared.kinds.Verdict.TheVariants as verdict
-use Rattle.text.specs.Groups.{groupsFrom}
-use Rattle.text.specs.Text.{tailOf}
+use Rattle.text.specs.Groups.{groups_from}
+use Rattle.text.specs.Text.{tail_of}
 use Rattle.places.specs.Engine.{Group, Read, Good, Bad, Outcome}
-use Rattle.places.specs.Answer.{outcomeOf, endVerdict}
-use Rattle.places.specs.Parts.{Begun, Further, unless, partFrom, begins, further}
+use Rattle.places.specs.Answer.{outcome_of, end_verdict}
+use Rattle.places.specs.Parts.{Begun, Further, unless, part_from, begins, further}
 use Rattle.record.specs.declared.aerodrome.Period.{Period}
 use Rattle.record.specs.declared.aerodrome.Leg.{Leg}
 use Rattle.record.specs.declared.aerodrome.Opening.{Opening}
@@ -19,9 +19,9 @@ use Rattle.record.specs.declared.aerodrome.Edition.{Edition}
 use Rattle.record.specs.declared.aerodrome.Taf.{Taf}
 use Rattle.record.specs.declared.values.Number.{Number}
 use Rattle.record.specs.declared.values.Number.TheVariants as number
-use Rattle.record.specs.Taf.{blankInstant, blankLeg, blankTaf, setPeriod}
+use Rattle.record.specs.Taf.{blank_instant, blank_leg, blank_taf, set_period}
 use Rattle.taf_row.specs.declared.kinds.Part.{Part}
-use Rattle.taf_row.specs.Tests.{owesIn}
+use Rattle.taf_row.specs.Tests.{owes_in}
 use Rattle.taf.specs.declared.kinds.Opened.{Opened}
 use Rattle.taf.specs.declared.kinds.Opened.TheVariants as opened
 use Rattle.taf.specs.declared.kinds.Start.{Start}
@@ -29,23 +29,23 @@ use Rattle.taf.specs.declared.kinds.Next.{Next}
 use Rattle.taf.specs.declared.kinds.Next.TheVariants as next
 use Rattle.taf.specs.declared.kinds.PartRead.{PartRead}
 use Rattle.taf.specs.declared.kinds.Ahead.{Ahead}
-use Rattle.taf.specs.Read.{openedBy, partIn, changePart, changes}
+use Rattle.taf.specs.Read.{opened_by, part_in, change_part, changes}
 
 -- ---- what a change word opens
 
-abbrev pub begunBy : Opened → Read (Begun Opening Leg)
-begunBy (opened.Good o p) = Good (record { kind = o; start = setPeriod p blankLeg })
-begunBy (opened.Bad f) = Bad f
+abbrev pub begun_by : Opened → Read (Begun Opening Leg)
+begun_by (opened.Good o p) = Good (record { kind = o; start = set_period p blank_leg })
+begun_by (opened.Bad f) = Bad f
 
 -- a part that begins at the time of FMYYGGgg or FMGGgg
-abbrev pub fromTime : Number → ℕ → ℕ → Opened
-fromTime day h m = opened.Good opening.From (record { from = record { day = day; hour = number.Is h; minute = number.Is m }; to = blankInstant })
+abbrev pub from_time : Number → ℕ → ℕ → Opened
+from_time day h m = opened.Good opening.From (record { from = record { day = day; hour = number.Is h; minute = number.Is m }; to = blank_instant })
 
 -- behind the word that opens a change: whatever was read before, its part is read from `s` on, which is past TEMPO where that joins PROB
 pub record Begins (e : Edition) (text : List ℕ) (o : Opening) (at : ℕ) (s : Start) : Type 0 where
   pub reads : (more : Further Taf Leg Opening) (t : Taf) (p : Leg)
-      → begins (tailOf text) (length text) (changes e) more t o p (groupsFrom text at)
-      ≡ partFrom (tailOf text) (length text) (changePart e t s.opening) more 0 0 p (groupsFrom text s.at)
+      → begins (tail_of text) (length text) (changes e) more t o p (groups_from text at)
+      ≡ part_from (tail_of text) (length text) (change_part e t s.opening) more 0 0 p (groups_from text s.at)
   pub later : at ≤ s.at
 
 -- in any edition
@@ -55,54 +55,54 @@ BeginsIn text o at s = (e : Edition) → Begins e text o at s
 -- ---- the text from a position on, n changes being read before
 
 -- so many changes may still come
-abbrev pub moreAfter : Edition → List ℕ → ℕ → Further Taf Leg Opening
-moreAfter e text n = further (tailOf text) (length text) (changes e) (16 - n)
+abbrev pub more_after : Edition → List ℕ → ℕ → Further Taf Leg Opening
+more_after e text n = further (tail_of text) (length text) (changes e) (16 - n)
 
 -- any part, k groups at its first place
-unfoldable pub partBy : Edition → List ℕ → Part → (Leg → Taf) → ℕ → ℕ → Leg → ℕ → Outcome Taf
-partBy e text w takes n k r at = partFrom (tailOf text) (length text) (partIn e w takes) (moreAfter e text n) 0 k r (groupsFrom text at)
+unfoldable pub part_by : Edition → List ℕ → Part → (Leg → Taf) → ℕ → ℕ → Leg → ℕ → Outcome Taf
+part_by e text w takes n k r at = part_from (tail_of text) (length text) (part_in e w takes) (more_after e text n) 0 k r (groups_from text at)
 
 -- a change, from behind its word on
-unfoldable pub changeFrom : Edition → List ℕ → ℕ → Opening → Period → ℕ → Taf → Outcome Taf
-changeFrom e text n o p at t = begins (tailOf text) (length text) (changes e) (moreAfter e text (n + 1)) t o (setPeriod p blankLeg) (groupsFrom text at)
+unfoldable pub change_from : Edition → List ℕ → ℕ → Opening → Period → ℕ → Taf → Outcome Taf
+change_from e text n o p at t = begins (tail_of text) (length text) (changes e) (more_after e text (n + 1)) t o (set_period p blank_leg) (groups_from text at)
 
 -- its part
-unfoldable pub bodyFrom : Edition → List ℕ → ℕ → Opening → Period → ℕ → Taf → Outcome Taf
-bodyFrom e text n o p at t = partFrom (tailOf text) (length text) (changePart e t o) (moreAfter e text (n + 1)) 0 0 (setPeriod p blankLeg) (groupsFrom text at)
+unfoldable pub body_from : Edition → List ℕ → ℕ → Opening → Period → ℕ → Taf → Outcome Taf
+body_from e text n o p at t = part_from (tail_of text) (length text) (change_part e t o) (more_after e text (n + 1)) 0 0 (set_period p blank_leg) (groups_from text at)
 
 -- ---- what follows a part
 
-abbrev pub refusedAt : Refusal → ℕ → Next
-refusedAt f at = next.End (verdict.Refused f at)
+abbrev pub refused_at : Refusal → ℕ → Next
+refused_at f at = next.End (verdict.Refused f at)
 
 -- the text is over, where k groups stand at place c of the part r
 abbrev pub EndedPart : List ℕ → Part → ℕ → ℕ → Leg → PartRead → Type 0
-EndedPart text w c k r x = (e : Edition) → x ≡ record { next = next.End (endVerdict (tailOf text) (length text) (owesIn e w c k r)); leg = r }
+EndedPart text w c k r x = (e : Edition) → x ≡ record { next = next.End (end_verdict (tail_of text) (length text) (owes_in e w c k r)); leg = r }
 
-abbrev pub afterPart : Edition → List ℕ → ℕ → Taf → Next → Outcome Taf
-afterPart e text n t (next.End v) = outcomeOf v t
-afterPart e text n t (next.Change o p at) = changeFrom e text n o p at t
+abbrev pub after_part : Edition → List ℕ → ℕ → Taf → Next → Outcome Taf
+after_part e text n t (next.End v) = outcome_of v t
+after_part e text n t (next.Change o p at) = change_from e text n o p at t
 
 -- a change word that ends a part, n changes in the report that takes it in: an absence first, then whether there is room, then what the word opens
 pub record MetWord (e : Edition) (g : Group) (start end n : ℕ) (lacking : Bool) (x : Next) : Type 0 where
   pub reads : (text : List ℕ) (t : Taf)
-      → unless lacking start (moreAfter e text n t (record { start = start; bytes = g }) (openedBy e g) (groupsFrom text end)) ≡ afterPart e text n t x
+      → unless lacking start (more_after e text n t (record { start = start; bytes = g }) (opened_by e g) (groups_from text end)) ≡ after_part e text n t x
   pub ahead : (o : Opening) (q : Period) (to : ℕ) → x ≡ next.Change o q to → (to ≡ end) × (n < 16)
 
 -- a part that was read, n changes in the report that takes it in: the text is read as what follows it says, and a change lies ahead in the text
 pub record PartDone (e : Edition) (text : List ℕ) (w : Part) (n k : ℕ) (r : Leg) (at : ℕ) (x : PartRead) : Type 0 where
-  pub reads : (takes : Leg → Taf) → partBy e text w takes n k r at ≡ afterPart e text n (takes x.leg) x.next
+  pub reads : (takes : Leg → Taf) → part_by e text w takes n k r at ≡ after_part e text n (takes x.leg) x.next
   pub ahead : (o : Opening) (q : Period) (to : ℕ) → x.next ≡ next.Change o q to → (at < to) × (to ≤ length text) × (n < 16)
 
 -- ---- what is read from a change on
 
-abbrev pub noneAhead : Verdict → ℕ → Ahead
-noneAhead v n = record { verdict = v; items = blankTaf.changes.items; count = n }
+abbrev pub none_ahead : Verdict → ℕ → Ahead
+none_ahead v n = record { verdict = v; items = blank_taf.changes.items; count = n }
 
 -- Read with n changes before it: the changes that are read, in their places; and for every report with n changes the verdict, with those changes added.
 pub record ReadAhead (n : ℕ) (from : Taf → Outcome Taf) (a : Ahead) : Type 0 where
   pub more : List Change
-  pub items : a.items ≡ sets blankTaf.changes.items n more
+  pub items : a.items ≡ sets blank_taf.changes.items n more
   pub count : a.count ≡ n + length more
   pub says : (t : Taf) → t.changes.count ≡ n
-      → from t ≡ outcomeOf a.verdict (record { edition = t.edition; leg = t.leg; changes = record { items = sets t.changes.items n more; count = n + length more } })
+      → from t ≡ outcome_of a.verdict (record { edition = t.edition; leg = t.leg; changes = record { items = sets t.changes.items n more; count = n + length more } })

@@ -1,10 +1,10 @@
 // One group of a part: where it goes in the row of places, which what was read before has no part in, and what it says there.
 ghost use Rattle.std.specs.Prelude.{◌≡◌};
-ghost use Rattle.shapes.specs.Pattern.{hasAny};
-ghost use Rattle.places.specs.Turn.{turnAt};
-ghost use Rattle.elements.specs.Answers.{asPeriod};
+ghost use Rattle.shapes.specs.Pattern.{has_any};
+ghost use Rattle.places.specs.Turn.{turn_at};
+ghost use Rattle.elements.specs.Answers.{as_period};
 ghost use Rattle.taf_row.specs.declared.kinds.Form.TheVariants as form;
-ghost use Rattle.taf_row.specs.Row.{correctionOf, hourOf, hourAlone, readPeriod, row, changeWords};
+ghost use Rattle.taf_row.specs.Row.{correction_of, hour_of, hour_alone, read_period, row, change_words};
 ghost use Rattle.taf.specs.Said.{Says};
 
 use aerodrome_groups::read::read_time;
@@ -25,7 +25,7 @@ use text::kinds::Refusal;
 
 // The group's turn, where `count` groups stand at `place`.
 pub fn decide(edition: Edition, part: Part, place: usize, count: usize, g: &[u8]) -> Turn
-    ensures { result ≡ turnAt (row edition part) (hasAny (changeWords edition)) place count g.now }
+    ensures { result ≡ turn_at (row edition part) (has_any (change_words edition)) place count g.now }
 {
     if 12 <= place {
         return Turn::Refused(Refusal::Shape);
@@ -40,7 +40,7 @@ pub fn decide(edition: Edition, part: Part, place: usize, count: usize, g: &[u8]
 
 // AMD or COR
 fn correction_of(g: &[u8]) -> Correction
-    ensures { result ≡ correctionOf g.now }
+    ensures { result ≡ correction_of g.now }
 {
     if has_pattern(g, b"AMD") {
         Correction::Amended
@@ -50,7 +50,7 @@ fn correction_of(g: &[u8]) -> Correction
 }
 
 fn hour_of(day: u32, hour: u32) -> Instant
-    ensures { result ≡ hourOf day hour }
+    ensures { result ≡ hour_of day hour }
 {
     Instant {
         day: Number::Is(day),
@@ -60,7 +60,7 @@ fn hour_of(day: u32, hour: u32) -> Instant
 }
 
 fn hour_alone(hour: u32) -> Instant
-    ensures { result ≡ hourAlone hour }
+    ensures { result ≡ hour_alone hour }
 {
     Instant {
         day: Number::Missing,
@@ -71,7 +71,7 @@ fn hour_alone(hour: u32) -> Instant
 
 // GGGeGe
 fn read_hours(g: &[u8]) -> Said
-    ensures { result ≡ asPeriod (readPeriod form.NoDay g.now) }
+    ensures { result ≡ as_period (read_period form.NoDay g.now) }
 {
     let Field::Number(hour) = field(g, 0, 2) else {
         return Said::Refused(Refusal::Figure);
@@ -91,7 +91,7 @@ fn read_hours(g: &[u8]) -> Said
 
 // Y1Y1G1G1G2G2
 fn read_first_day(g: &[u8]) -> Said
-    ensures { result ≡ asPeriod (readPeriod form.FirstDay g.now) }
+    ensures { result ≡ as_period (read_period form.FirstDay g.now) }
 {
     let Field::Number(day) = field(g, 0, 2) else {
         return Said::Refused(Refusal::Figure);
@@ -114,7 +114,7 @@ fn read_first_day(g: &[u8]) -> Said
 
 // YYGG/YYGG
 fn read_both_days(g: &[u8]) -> Said
-    ensures { result ≡ asPeriod (readPeriod form.BothDays g.now) }
+    ensures { result ≡ as_period (read_period form.BothDays g.now) }
 {
     let Field::Number(day) = field(g, 0, 2) else {
         return Said::Refused(Refusal::Figure);
@@ -138,7 +138,7 @@ fn read_both_days(g: &[u8]) -> Said
 }
 
 fn read_period(form: Form, g: &[u8]) -> Said
-    ensures { result ≡ asPeriod (readPeriod form g.now) }
+    ensures { result ≡ as_period (read_period form g.now) }
 {
     match form {
         Form::BothDays => read_both_days(g),

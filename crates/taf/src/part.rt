@@ -1,13 +1,13 @@
 // The groups of one part, the main part too, up to the change word that opens the next one or up to the end of the text.
 ghost use Rattle.std.specs.Prelude.{◌≡◌};
 ghost use Rattle.text.specs.Groups.{part_of};
-ghost use Rattle.record.specs.Taf.{blankLeg, setCorrection, setPeriod, setBody};
-ghost use Rattle.shapes.specs.Pattern.{hasAny};
+ghost use Rattle.record.specs.Taf.{blank_leg, set_correction, set_period, set_body};
+ghost use Rattle.shapes.specs.Pattern.{has_any};
 ghost use Rattle.body.specs.Met.{Meets};
-ghost use Rattle.taf_row.specs.Row.{row, changeWords};
-ghost use Rattle.taf_row.specs.Tests.{owesIn};
-ghost use Rattle.taf.specs.Said.{partSaid};
-ghost use Rattle.taf.specs.Step.{refusedAt, EndedPart, MetWord, PartDone};
+ghost use Rattle.taf_row.specs.Row.{row, change_words};
+ghost use Rattle.taf_row.specs.Tests.{owes_in};
+ghost use Rattle.taf.specs.Said.{part_said};
+ghost use Rattle.taf.specs.Step.{refused_at, EndedPart, MetWord, PartDone};
 
 use crate::group::{decide, say_at};
 use crate::kinds::{Next, Opened, Outset, PartRead};
@@ -28,7 +28,7 @@ use text::kinds::{Cut, Refusal, Verdict};
 use weather::read::add_weather;
 
 fn refuse(refusal: Refusal, place: usize) -> Next
-    ensures { result ≡ refusedAt refusal place }
+    ensures { result ≡ refused_at refusal place }
 {
     Next::End(Verdict::Refused { refusal, place })
 }
@@ -57,7 +57,7 @@ fn after_word(edition: Edition, g: &[u8], start: usize, end: usize, n: usize, la
 // ---- the part with what follows it, which the loop hands over in one piece
 
 fn with_body(body: Body, leg: Leg) -> Leg
-    ensures { result ≡ setBody body leg }
+    ensures { result ≡ set_body body leg }
 {
     let mut whole = leg;
     whole.body = body;
@@ -65,7 +65,7 @@ fn with_body(body: Body, leg: Leg) -> Leg
 }
 
 fn end_part(text: &[u8], part: Part, place: usize, count: usize, leg: Leg, body: Body) -> PartRead
-    ensures { EndedPart text.now part place count (setBody body leg) result }
+    ensures { EndedPart text.now part place count (set_body body leg) result }
 {
     let leg = with_body(body, leg);
     let verdict = end_verdict(text, owes(part, place, count, leg));
@@ -85,7 +85,7 @@ fn meet_word(
     leg: Leg,
     body: Body,
 ) -> PartRead
-    ensures { (result.leg ≡ setBody body leg) × MetWord edition (part_of text.now start end) start end n (owesIn edition part place count (setBody body leg)) result.next }
+    ensures { (result.leg ≡ set_body body leg) × MetWord edition (part_of text.now start end) start end n (owes_in edition part place count (set_body body leg)) result.next }
 {
     let leg = with_body(body, leg);
     let g = text::part(text, start, end);
@@ -94,7 +94,7 @@ fn meet_word(
 }
 
 fn refuse_part(refusal: Refusal, place: usize, leg: Leg) -> PartRead
-    ensures { result ≡ record { next = refusedAt refusal place; leg = leg } }
+    ensures { result ≡ record { next = refused_at refusal place; leg = leg } }
 {
     let next = refuse(refusal, place);
     PartRead { next, leg }
@@ -112,7 +112,7 @@ fn meet(
     count: usize,
     body: Body,
 ) -> Met
-    ensures { Meets (row edition part) (hasAny (changeWords edition)) partSaid place count (λ r. r.body ≡ body) text.now from result }
+    ensures { Meets (row edition part) (has_any (change_words edition)) part_said place count (λ r. r.body ≡ body) text.now from result }
 {
     let Cut::Group { start, end } = text::next_group(text, from) else {
         return Met::Over;
@@ -134,7 +134,7 @@ fn meet(
 
 // A part of which only the period is known.
 fn begin_leg(period: Period) -> Leg
-    ensures { result ≡ setPeriod period blankLeg }
+    ensures { result ≡ set_period period blank_leg }
 {
     let mut leg = blank_leg();
     leg.period = period;
@@ -143,7 +143,7 @@ fn begin_leg(period: Period) -> Leg
 
 // AMD or COR. A field that is an enum is not stored to by itself, so this part is made anew.
 fn with_correction(correction: Correction, r: Leg) -> Leg
-    ensures { result ≡ setCorrection correction r }
+    ensures { result ≡ set_correction correction r }
 {
     let station = r.station;
     let time = r.time;
@@ -163,7 +163,7 @@ fn with_correction(correction: Correction, r: Leg) -> Leg
 // A part from a position of the text on; the report that takes it in has n changes. The part is the loop's own, its body beside it, so that what a group says
 // is stored where it belongs with no copy of either; nothing of them is asked to find the group's place.
 pub fn read_part(edition: Edition, text: &[u8], at: usize, n: usize, outset: Outset) -> PartRead
-    ensures { PartDone edition text.now outset.part n outset.stood (setPeriod outset.period blankLeg) at result }
+    ensures { PartDone edition text.now outset.part n outset.stood (set_period outset.period blank_leg) at result }
 {
     let part = outset.part;
     let mut leg = begin_leg(outset.period);

@@ -1,13 +1,13 @@
 // Reading a TAF, from behind its name on: the main part and the change groups. The change reader and the body reader call each other: positions go down,
 // what follows a part is decided before any list of changes exists, and the list is built on the way back.
 ghost use Rattle.std.specs.Prelude.{◌≡◌, ◌<◌, length};
-ghost use Rattle.text.specs.Text.{tailOf};
-ghost use Rattle.text.specs.Groups.{groupsFrom};
+ghost use Rattle.text.specs.Text.{tail_of};
+ghost use Rattle.text.specs.Groups.{groups_from};
 ghost use Rattle.record.specs.declared.aerodrome.Edition.TheVariants as edition;
-ghost use Rattle.record.specs.Taf.{blankTaf};
-ghost use Rattle.taf.specs.Read.{behindName, answer};
-ghost use Rattle.places.specs.Answer.{outcomeOf};
-ghost use Rattle.taf.specs.Step.{noneAhead, changeFrom, bodyFrom, ReadAhead};
+ghost use Rattle.record.specs.Taf.{blank_taf};
+ghost use Rattle.taf.specs.Read.{behind_name, answer};
+ghost use Rattle.places.specs.Answer.{outcome_of};
+ghost use Rattle.taf.specs.Step.{none_ahead, change_from, body_from, ReadAhead};
 
 use crate::answer;
 use crate::kinds::{Ahead, Next, Outset, Reading};
@@ -20,7 +20,7 @@ use text::kinds::Verdict;
 
 // No change is read ahead.
 fn none(verdict: Verdict, count: usize) -> Ahead
-    ensures { result ≡ noneAhead verdict count }
+    ensures { result ≡ none_ahead verdict count }
 {
     let blank = blank_taf();
     let changes = blank.changes;
@@ -43,7 +43,7 @@ fn read_body(
     period: Period,
 ) -> Ahead
     requires { n < 16 }
-    ensures { ReadAhead n (bodyFrom edition text.now n opening period at) result }
+    ensures { ReadAhead n (body_from edition text.now n opening period at) result }
 {
     let part = part_of(opening);
     let outset = Outset {
@@ -83,7 +83,7 @@ fn read_change(
     period: Period,
 ) -> Ahead
     requires { n < 16 }
-    ensures { ReadAhead n (changeFrom edition text.now n opening period at) result }
+    ensures { ReadAhead n (change_from edition text.now n opening period at) result }
 {
     let start = begin_part(text, at, opening);
     let both = start.opening;
@@ -92,7 +92,7 @@ fn read_change(
 
 // The report of a main part alone.
 fn answer_alone(edition: Edition, verdict: Verdict, leg: Leg) -> Reading
-    ensures { result ≡ answer (outcomeOf verdict (record { edition = edition; leg = leg; changes = blankTaf.changes })) }
+    ensures { result ≡ answer (outcome_of verdict (record { edition = edition; leg = leg; changes = blank_taf.changes })) }
 {
     match verdict {
         Verdict::Accepted { rest } => {
@@ -113,7 +113,7 @@ fn answer_alone(edition: Edition, verdict: Verdict, leg: Leg) -> Reading
 
 // The report of a main part and the changes that were read ahead.
 fn answer_all(edition: Edition, leg: Leg, ahead: Ahead) -> Reading
-    ensures { result ≡ answer (outcomeOf ahead.verdict (record { edition = edition; leg = leg; changes = record { items = ahead.items; count = ahead.count } })) }
+    ensures { result ≡ answer (outcome_of ahead.verdict (record { edition = edition; leg = leg; changes = record { items = ahead.items; count = ahead.count } })) }
 {
     let verdict = ahead.verdict;
     match verdict {
@@ -138,7 +138,7 @@ fn answer_all(edition: Edition, leg: Leg, ahead: Ahead) -> Reading
 
 // What the groups come to in an edition, from a position behind TAF on, which has stood at the main row's first place.
 pub fn read_from_in(edition: Edition, text: &[u8], at: usize) -> Reading
-    ensures { result ≡ answer (behindName edition (tailOf text.now) (length text.now) (groupsFrom text.now at)) }
+    ensures { result ≡ answer (behind_name edition (tail_of text.now) (length text.now) (groups_from text.now at)) }
 {
     let blank = blank_leg();
     let period = blank.period;
@@ -166,7 +166,7 @@ pub fn read_from_in(edition: Edition, text: &[u8], at: usize) -> Reading
 
 // In the present edition.
 pub fn read_from(text: &[u8], at: usize) -> Reading
-    ensures { result ≡ answer (behindName edition.Present (tailOf text.now) (length text.now) (groupsFrom text.now at)) }
+    ensures { result ≡ answer (behind_name edition.Present (tail_of text.now) (length text.now) (groups_from text.now at)) }
 {
     read_from_in(Edition::Present, text, at)
 }

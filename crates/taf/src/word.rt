@@ -1,10 +1,10 @@
 // What a change word opens.
 ghost use Rattle.std.specs.Prelude.{◌≡◌};
-ghost use Rattle.taf.specs.Read.{fromGroup, probableGroup, openedBy, part_of, afterProbable, changeOf};
+ghost use Rattle.taf.specs.Read.{from_group, probable_group, opened_by, part_of, after_probable, change_of};
 ghost use Rattle.record.specs.declared.aerodrome.Edition.TheVariants as edition;
-ghost use Rattle.record.specs.Taf.{blankPeriod};
+ghost use Rattle.record.specs.Taf.{blank_period};
 ghost use Rattle.taf.specs.declared.kinds.Opened.TheVariants as opened;
-ghost use Rattle.taf.specs.Step.{begunBy, fromTime, BeginsIn};
+ghost use Rattle.taf.specs.Step.{begun_by, from_time, BeginsIn};
 
 use crate::kinds::{Opened, Start};
 use figures::field;
@@ -19,7 +19,7 @@ use text::kinds::{Cut, Refusal};
 
 // A change whose period is still to come.
 fn begin(opening: Opening) -> Opened
-    ensures { result ≡ opened.Good opening blankPeriod }
+    ensures { result ≡ opened.Good opening blank_period }
 {
     let from = blank_instant();
     let to = blank_instant();
@@ -29,7 +29,7 @@ fn begin(opening: Opening) -> Opened
 
 // The day, where there is one, the hour and the minute of FM as the beginning of a period.
 fn begin_from(day: Number, hour: u32, minute: u32) -> Opened
-    ensures { result ≡ fromTime day hour minute }
+    ensures { result ≡ from_time day hour minute }
 {
     let from = Instant {
         day,
@@ -46,7 +46,7 @@ fn begin_from(day: Number, hour: u32, minute: u32) -> Opened
 
 // FMYYGGgg
 fn open_from_day(g: &[u8]) -> Opened
-    ensures { begunBy result ≡ fromGroup edition.Present g.now }
+    ensures { begun_by result ≡ from_group edition.Present g.now }
 {
     let Field::Number(day) = field(g, 2, 2) else {
         return Opened::Bad(Refusal::Figure);
@@ -66,7 +66,7 @@ fn open_from_day(g: &[u8]) -> Opened
 
 // FMGGgg
 fn open_from_hour(g: &[u8]) -> Opened
-    ensures { begunBy result ≡ fromGroup edition.Of2005 g.now }
+    ensures { begun_by result ≡ from_group edition.Of2005 g.now }
 {
     let Field::Number(hour) = field(g, 2, 2) else {
         return Opened::Bad(Refusal::Figure);
@@ -82,7 +82,7 @@ fn open_from_hour(g: &[u8]) -> Opened
 }
 
 fn open_from(edition: Edition, g: &[u8]) -> Opened
-    ensures { begunBy result ≡ fromGroup edition g.now }
+    ensures { begun_by result ≡ from_group edition g.now }
 {
     match edition {
         Edition::Present => open_from_day(g),
@@ -92,7 +92,7 @@ fn open_from(edition: Edition, g: &[u8]) -> Opened
 
 // PROB30, PROB40
 fn open_probable(g: &[u8]) -> Opened
-    ensures { begunBy result ≡ probableGroup g.now }
+    ensures { begun_by result ≡ probable_group g.now }
 {
     let Field::Number(chance) = field(g, 4, 2) else {
         return Opened::Bad(Refusal::Figure);
@@ -105,7 +105,7 @@ fn open_probable(g: &[u8]) -> Opened
 }
 
 pub fn open_change(edition: Edition, g: &[u8]) -> Opened
-    ensures { begunBy result ≡ openedBy edition g.now }
+    ensures { begun_by result ≡ opened_by edition g.now }
 {
     if has_pattern(g, b"BECMG") {
         return begin(Opening::Becoming);
@@ -123,7 +123,7 @@ pub fn open_change(edition: Edition, g: &[u8]) -> Opened
 // ---- TEMPO at once after PROB30 or PROB40
 
 fn after_probable(opening: Opening) -> Opening
-    ensures { result ≡ afterProbable opening }
+    ensures { result ≡ after_probable opening }
 {
     match opening {
         Opening::None => Opening::None,
@@ -170,7 +170,7 @@ pub fn part_of(opening: Opening) -> Part
 }
 
 pub fn change_of(opening: Opening, r: Leg) -> Change
-    ensures { result ≡ changeOf opening r }
+    ensures { result ≡ change_of opening r }
 {
     let period = r.period;
     let body = r.body;

@@ -12,7 +12,7 @@ use Rattle.text.specs.Judge.{judge, and_then}
 use Rattle.text.proofs.Judging.{fine, and-then}
 use Rattle.shapes.proofs.Patterns.{both}
 use Rattle.places.specs.Engine.{written, put_all}
-use Rattle.places.proofs.ReadBack.{stopsAny}
+use Rattle.places.proofs.ReadBack.{stops_any}
 use Rattle.places.proofs.Kept.{KeptRow, more, last, keep-none}
 use Rattle.places.proofs.Lift.{kept-lifted, kept-row-lifted}
 use Rattle.record.specs.declared.aerodrome.Opening.{Opening}
@@ -22,45 +22,45 @@ use Rattle.record.specs.declared.aerodrome.Leg.{Leg}
 use Rattle.record.specs.declared.aerodrome.Change.{Change}
 use Rattle.record.specs.declared.aerodrome.Edition.{Edition}
 use Rattle.record.specs.declared.aerodrome.Taf.{Taf}
-use Rattle.record.specs.Taf.{blankLeg}
-use Rattle.record.specs.Body.{blankBody}
-use Rattle.record.specs.SilentAerodrome.{noPeriod, isBlankBody, noChanges}
+use Rattle.record.specs.Taf.{blank_leg}
+use Rattle.record.specs.Body.{blank_body}
+use Rattle.record.specs.SilentAerodrome.{no_period, is_blank_body, no_changes}
 use Rattle.record.proofs.AerodromeBlanks.{period-blank, body-blank}
 use Rattle.record.specs.Arrays.{BodyArrays, TafArrays}
-use Rattle.elements.specs.Weather.{showWeathers}
-use Rattle.elements.specs.Sky.{showSky}
-use Rattle.elements.specs.Body.{bodyRow, judgeBody, hasElement}
+use Rattle.elements.specs.Weather.{show_weathers}
+use Rattle.elements.specs.Sky.{show_sky}
+use Rattle.elements.specs.Body.{body_row, judge_body, has_element}
 use Rattle.aerodrome_groups.proofs.HeadKept.{kept-station, kept-time}
-use Rattle.body.proofs.Bodies.{FairBody, fair-body, bodySizes, kept-body, element-classed}
-use Rattle.aerodrome_groups.specs.Head.{judgeStation, judgeTime}
+use Rattle.body.proofs.Bodies.{FairBody, fair-body, body_sizes, kept-body, element-classed}
+use Rattle.aerodrome_groups.specs.Head.{judge_station, judge_time}
 use Rattle.taf_row.specs.declared.kinds.Part.{Part}
 use Rattle.taf_row.specs.declared.kinds.Part.TheVariants as part
-use Rattle.taf_row.specs.Row.{isMain, elementStands, forecastIn, ownForm, changeForm, row}
-use Rattle.taf.specs.Read.{part_of, isChance}
-use Rattle.taf.specs.Write.{judgePart, periodFits, openingFits, legOf, judgeChange, judgeChanges, foreignBlank, judgeOf, openedLeg}
+use Rattle.taf_row.specs.Row.{is_main, element_stands, forecast_in, own_form, change_form, row}
+use Rattle.taf.specs.Read.{part_of, is_chance}
+use Rattle.taf.specs.Write.{judge_part, period_fits, opening_fits, leg_of, judge_change, judge_changes, foreign_blank, judge_of, opened_leg}
 use Rattle.taf_laws.proofs.Places.{station-lens, time-lens, body-lens, live, kept-name, kept-correction, kept-nil, kept-period, kept-cancelled}
 
 -- ---- what is judged fine
 
 pub record FairPart (w : Part) (b : Body) : Type 0 where
-  pub body : FairBody (forecastIn w) b
-  pub element : elementStands w b ≡ true
+  pub body : FairBody (forecast_in w) b
+  pub element : element_stands w b ≡ true
 
-pub fair-part : (w : Part) (b : Body) → judgePart w b ≡ judged.Fine → FairPart w b
-unfolding judgePart
+pub fair-part : (w : Part) (b : Body) → judge_part w b ≡ judged.Fine → FairPart w b
+unfolding judge_part
 fair-part w b e =
-    let t = and-then (judgeBody (forecastIn w) b) (judge (elementStands w b) true) e in
-    record { body = fair-body (forecastIn w) b t.0; element = (fine (elementStands w b) true t.1).0 }
+    let t = and-then (judge_body (forecast_in w) b) (judge (element_stands w b) true) e in
+    record { body = fair-body (forecast_in w) b t.0; element = (fine (element_stands w b) true t.1).0 }
 
 pub record FairChange (e : Edition) (c : Change) : Type 0 where
-  pub opens : openingFits e c.opening c.period ≡ true
+  pub opens : opening_fits e c.opening c.period ≡ true
   pub part : FairPart (part_of c.opening) c.body
 
-pub fair-change : (e : Edition) (c : Change) → judgeChange e c ≡ judged.Fine → FairChange e c
-unfolding judgeChange
+pub fair-change : (e : Edition) (c : Change) → judge_change e c ≡ judged.Fine → FairChange e c
+unfolding judge_change
 fair-change e c is =
-    let t = and-then (judge (openingFits e c.opening c.period) true) _ is in
-    record { opens = (fine (openingFits e c.opening c.period) true t.0).0; part = fair-part (part_of c.opening) c.body t.1 }
+    let t = and-then (judge (opening_fits e c.opening c.period) true) _ is in
+    record { opens = (fine (opening_fits e c.opening c.period) true t.0).0; part = fair-part (part_of c.opening) c.body t.1 }
 
 -- a change that is judged fine, with its arrays
 abbrev pub Sound : Edition → Change → Type 0
@@ -68,80 +68,80 @@ Sound e c = BodyArrays c.body × FairChange e c
 
 -- a report: what is judged of its head, and what stands after it
 pub record Fair (t : Taf) : Type 0 where
-  pub blank : foreignBlank t ≡ true
-  pub station : judgeStation t.leg.station ≡ judged.Fine
-  pub time : judgeTime t.leg.time ≡ judged.Fine
-  pub period : t.leg.nil ≡ false → periodFits (ownForm t.edition) t.leg.period ≡ true
-  pub part : t.leg.nil ≡ false → t.leg.cancelled ≡ false → judgePart part.Main t.leg.body ≡ judged.Fine
-  pub changes : t.leg.nil ≡ false → t.leg.cancelled ≡ false → judgeChanges t.edition t.changes ≡ judged.Fine
+  pub blank : foreign_blank t ≡ true
+  pub station : judge_station t.leg.station ≡ judged.Fine
+  pub time : judge_time t.leg.time ≡ judged.Fine
+  pub period : t.leg.nil ≡ false → period_fits (own_form t.edition) t.leg.period ≡ true
+  pub part : t.leg.nil ≡ false → t.leg.cancelled ≡ false → judge_part part.Main t.leg.body ≡ judged.Fine
+  pub changes : t.leg.nil ≡ false → t.leg.cancelled ≡ false → judge_changes t.edition t.changes ≡ judged.Fine
 
 -- what is judged unless the report is over
 unless-over : (over : Bool) (j : Judged) → over ≡ false → cond over judged.Fine j ≡ judged.Fine → j ≡ judged.Fine
 unless-over over j e h = rw e at h
 
-pub fair : (t : Taf) → judgeOf t ≡ judged.Fine → Fair t
-unfolding judgeOf
+pub fair : (t : Taf) → judge_of t ≡ judged.Fine → Fair t
+unfolding judge_of
 fair t e =
-    let b = and-then (judge (foreignBlank t) true) _ e in
-    let s = and-then (judgeStation t.leg.station) _ b.1 in
-    let h = and-then (judgeTime t.leg.time) _ s.1 in
-    let full : t.leg.nil ≡ false → (judge (periodFits (ownForm t.edition) t.leg.period) true ≡ judged.Fine)
-    × (cond t.leg.cancelled judged.Fine (and_then (judgePart part.Main t.leg.body) (judgeChanges t.edition t.changes)) ≡ judged.Fine) =
-    λ n. and-then (judge (periodFits (ownForm t.edition) t.leg.period) true) _ (unless-over t.leg.nil _ n h.1) in
-    let live : t.leg.nil ≡ false → t.leg.cancelled ≡ false → (judgePart part.Main t.leg.body ≡ judged.Fine) × (judgeChanges t.edition t.changes ≡ judged.Fine) =
-    λ n c. and-then (judgePart part.Main t.leg.body) (judgeChanges t.edition t.changes) (unless-over t.leg.cancelled _ c (full n).1) in
+    let b = and-then (judge (foreign_blank t) true) _ e in
+    let s = and-then (judge_station t.leg.station) _ b.1 in
+    let h = and-then (judge_time t.leg.time) _ s.1 in
+    let full : t.leg.nil ≡ false → (judge (period_fits (own_form t.edition) t.leg.period) true ≡ judged.Fine)
+    × (cond t.leg.cancelled judged.Fine (and_then (judge_part part.Main t.leg.body) (judge_changes t.edition t.changes)) ≡ judged.Fine) =
+    λ n. and-then (judge (period_fits (own_form t.edition) t.leg.period) true) _ (unless-over t.leg.nil _ n h.1) in
+    let live : t.leg.nil ≡ false → t.leg.cancelled ≡ false → (judge_part part.Main t.leg.body ≡ judged.Fine) × (judge_changes t.edition t.changes ≡ judged.Fine) =
+    λ n c. and-then (judge_part part.Main t.leg.body) (judge_changes t.edition t.changes) (unless-over t.leg.cancelled _ c (full n).1) in
     record {
-      blank = (fine (foreignBlank t) true b.0).0;
+      blank = (fine (foreign_blank t) true b.0).0;
       station = s.0;
       time = h.0;
-      period = λ n. (fine (periodFits (ownForm t.edition) t.leg.period) true (full n).0).0;
+      period = λ n. (fine (period_fits (own_form t.edition) t.leg.period) true (full n).0).0;
       part = λ n c. (live n c).0;
       changes = λ n c. (live n c).1;
     }
 
 -- the fields that are foreign to NIL and to a cancelled report
-module _ (t : Taf) (e : foreignBlank t ≡ true) where
-  foreign-parts : ((not t.leg.nil || (noPeriod t.leg.period && not t.leg.cancelled)) ≡ true)
-      × ((not (t.leg.nil || t.leg.cancelled) || (isBlankBody t.leg.body && noChanges t.changes)) ≡ true)
-  unfolding foreignBlank
-  foreign-parts = both (not t.leg.nil || (noPeriod t.leg.period && not t.leg.cancelled)) _ e
+module _ (t : Taf) (e : foreign_blank t ≡ true) where
+  foreign-parts : ((not t.leg.nil || (no_period t.leg.period && not t.leg.cancelled)) ≡ true)
+      × ((not (t.leg.nil || t.leg.cancelled) || (is_blank_body t.leg.body && no_changes t.changes)) ≡ true)
+  unfolding foreign_blank
+  foreign-parts = both (not t.leg.nil || (no_period t.leg.period && not t.leg.cancelled)) _ e
 
-  pub foreign-nil : t.leg.nil ≡ true → (t.leg.period ≡ blankLeg.period) × (t.leg.cancelled ≡ false)
+  pub foreign-nil : t.leg.nil ≡ true → (t.leg.period ≡ blank_leg.period) × (t.leg.cancelled ≡ false)
   foreign-nil n =
-      let s = both (noPeriod t.leg.period) (not t.leg.cancelled) (rw n at foreign-parts.0) in
+      let s = both (no_period t.leg.period) (not t.leg.cancelled) (rw n at foreign-parts.0) in
       (period-blank t.leg.period s.0, not-true t.leg.cancelled s.1)
 
-  pub foreign-over : (t.leg.nil || t.leg.cancelled) ≡ true → (isBlankBody t.leg.body ≡ true) × (noChanges t.changes ≡ true)
-  foreign-over o = both (isBlankBody t.leg.body) (noChanges t.changes) (rw o at foreign-parts.1)
+  pub foreign-over : (t.leg.nil || t.leg.cancelled) ≡ true → (is_blank_body t.leg.body ≡ true) × (no_changes t.changes ≡ true)
+  foreign-over o = both (is_blank_body t.leg.body) (no_changes t.changes) (rw o at foreign-parts.1)
 
 -- ---- the body, in any part
 
 -- the bytes that a group may have at each place
 abbrev pub sizes : List ℕ
-sizes = 3 ∷ 3 ∷ 4 ∷ 7 ∷ 3 ∷ 9 ∷ 9 ∷ 3 ∷ bodySizes
+sizes = 3 ∷ 3 ∷ 4 ∷ 7 ∷ 3 ∷ 9 ∷ 9 ∷ 3 ∷ body_sizes
 
-kept-elements : (e : Edition) (w : Part) (r acc : Leg) → BodyArrays r.body → FairPart w r.body → acc.body ≡ blankBody → KeptRow (drop 8 sizes) (drop 8 (row e w)) r acc
+kept-elements : (e : Edition) (w : Part) (r acc : Leg) → BodyArrays r.body → FairPart w r.body → acc.body ≡ blank_body → KeptRow (drop 8 sizes) (drop 8 (row e w)) r acc
 unfolding row
 kept-elements e w r acc arrays f bare =
-    kept-row-lifted body-lens {ps = bodyRow (forecastIn w)} r acc (rw bare (kept-body (forecastIn w) (live w) r.body arrays f.body))
+    kept-row-lifted body-lens {ps = body_row (forecast_in w)} r acc (rw bare (kept-body (forecast_in w) (live w) r.body arrays f.body))
 
 -- ---- the main part
 
 -- the record as the head leaves it
 abbrev headed : Edition → ℕ → Leg → Leg
-headed e n r = put_all (take n (row e part.Main)) r blankLeg
+headed e n r = put_all (take n (row e part.Main)) r blank_leg
 
 -- where nothing is said nothing is written, and nothing is put
-module _ (e : Edition) (r : Leg) (bare : r.body ≡ blankBody) where
+module _ (e : Edition) (r : Leg) (bare : r.body ≡ blank_body) where
   body-written : written (drop 8 (row e part.Main)) r ≡ []
-  unfolding row showWeathers showSky
+  unfolding row show_weathers show_sky
   body-written = rw bare
 
   nil-written : r.nil ≡ true → r.cancelled ≡ false → written (drop 5 (row e part.Main)) r ≡ []
   unfolding row
   nil-written n c = rw (n, c) body-written
 
-  nil-put : r.period ≡ blankLeg.period → r.cancelled ≡ false → put_all (drop 5 (row e part.Main)) r (headed e 5 r) ≡ headed e 5 r
+  nil-put : r.period ≡ blank_leg.period → r.cancelled ≡ false → put_all (drop 5 (row e part.Main)) r (headed e 5 r) ≡ headed e 5 r
   unfolding row
   nil-put p c = rw (p, c, bare)
 
@@ -149,7 +149,7 @@ module _ (e : Edition) (r : Leg) (bare : r.body ≡ blankBody) where
   unfolding row
   cancelled-put = rw bare
 
-pub over-bare : (t : Taf) → TafArrays t → Fair t → (t.leg.nil || t.leg.cancelled) ≡ true → t.leg.body ≡ blankBody
+pub over-bare : (t : Taf) → TafArrays t → Fair t → (t.leg.nil || t.leg.cancelled) ≡ true → t.leg.body ≡ blank_body
 over-bare t arrays f o = body-blank t.leg.body arrays.body (foreign-over t f.blank o).0
 
 -- after NIL
@@ -166,10 +166,10 @@ kept-rest t arrays f n = go t.leg.cancelled refl
         (kept-elements t.edition part.Main t.leg _ arrays.body (fair-part part.Main t.leg.body (f.part n c)) refl)
 
 -- THE ROW KEEPS WHAT IS WRITTEN OF THE MAIN PART.
-pub kept-main : (t : Taf) → TafArrays t → Fair t → KeptRow sizes (row t.edition part.Main) t.leg blankLeg
+pub kept-main : (t : Taf) → TafArrays t → Fair t → KeptRow sizes (row t.edition part.Main) t.leg blank_leg
 unfolding row
 kept-main t arrays f =
-    more (kept-name t.edition t.leg blankLeg) refl
+    more (kept-name t.edition t.leg blank_leg) refl
     (more (kept-correction t.edition t.leg _ refl) refl
     (more (kept-lifted station-lens (kept-station t.leg.station _ f.station)) refl
     (more (kept-lifted time-lens (kept-time t.leg.time _ f.time)) refl
@@ -182,18 +182,18 @@ kept-main t arrays f =
         last (kept-nil t.edition t.leg _ refl) (rw n) refl (nil-written t.edition t.leg b n p.1) (nil-put t.edition t.leg b p.0 p.1)
     go false n =
         more (kept-nil t.edition t.leg _ refl) (rw n)
-        (more (kept-period (ownForm t.edition) t.leg _ n (f.period n)) refl (more (keep-none refl refl refl) refl (kept-rest t arrays f n)))
+        (more (kept-period (own_form t.edition) t.leg _ n (f.period n)) refl (more (keep-none refl refl refl) refl (kept-rest t arrays f n)))
 
 -- it ends in none of its places where the report is neither NIL nor cancelled
-pub main-goes-on : (e : Edition) (r : Leg) → r.nil ≡ false → r.cancelled ≡ false → stopsAny (row e part.Main) r ≡ false
+pub main-goes-on : (e : Edition) (r : Leg) → r.nil ≡ false → r.cancelled ≡ false → stops_any (row e part.Main) r ≡ false
 unfolding row
 main-goes-on e r n c = rw (n, c)
 
 -- ---- a change's part
 
 -- with a period
-kept-changing : (e : Edition) (r : Leg) → BodyArrays r.body → FairPart part.Changing r.body → r.nil ≡ false → periodFits (changeForm e) r.period ≡ true
-    → KeptRow sizes (row e part.Changing) r blankLeg
+kept-changing : (e : Edition) (r : Leg) → BodyArrays r.body → FairPart part.Changing r.body → r.nil ≡ false → period_fits (change_form e) r.period ≡ true
+    → KeptRow sizes (row e part.Changing) r blank_leg
 unfolding row
 kept-changing e r arrays f n p =
     more (keep-none refl refl refl) refl
@@ -202,12 +202,12 @@ kept-changing e r arrays f n p =
     (more (keep-none refl refl refl) refl
     (more (keep-none refl refl refl) refl
     (more (keep-none refl refl refl) refl
-    (more (kept-period (changeForm e) r _ n p) refl
+    (more (kept-period (change_form e) r _ n p) refl
     (more (keep-none refl refl refl) refl
     (kept-elements e part.Changing r _ arrays f refl))))))))
 
 -- under FM
-kept_from : (e : Edition) (r acc : Leg) → BodyArrays r.body → FairPart part.From r.body → acc.body ≡ blankBody → KeptRow sizes (row e part.From) r acc
+kept_from : (e : Edition) (r acc : Leg) → BodyArrays r.body → FairPart part.From r.body → acc.body ≡ blank_body → KeptRow sizes (row e part.From) r acc
 unfolding row
 kept_from e r acc arrays f b =
     more (keep-none refl refl refl) refl
@@ -221,18 +221,18 @@ kept_from e r acc arrays f b =
     (kept-elements e part.From r acc arrays f b))))))))
 
 -- THE ROW KEEPS WHAT IS WRITTEN OF A CHANGE.
-pub kept-change : (e : Edition) (c : Change) → BodyArrays c.body → FairChange e c → KeptRow sizes (row e (part_of c.opening)) (legOf c) (openedLeg c.opening c.period)
+pub kept-change : (e : Edition) (c : Change) → BodyArrays c.body → FairChange e c → KeptRow sizes (row e (part_of c.opening)) (leg_of c) (opened_leg c.opening c.period)
 kept-change e c arrays f = go c.opening f.opens f.part
   where
-    go : (o : Opening) → openingFits e o c.period ≡ true → FairPart (part_of o) c.body → KeptRow sizes (row e (part_of o)) (legOf c) (openedLeg o c.period)
+    go : (o : Opening) → opening_fits e o c.period ≡ true → FairPart (part_of o) c.body → KeptRow sizes (row e (part_of o)) (leg_of c) (opened_leg o c.period)
     go opening.None is p = absurd (false≢true is)
-    go opening.Becoming is p = kept-changing e (legOf c) arrays p refl is
-    go opening.Temporary is p = kept-changing e (legOf c) arrays p refl is
-    go (opening.Probable n) is p = kept-changing e (legOf c) arrays p refl (both (isChance n) (periodFits (changeForm e) c.period) is).1
-    go (opening.ProbablyTemporary n) is p = kept-changing e (legOf c) arrays p refl (both (isChance n) (periodFits (changeForm e) c.period) is).1
-    go opening.From is p = kept_from e (legOf c) _ arrays p refl
+    go opening.Becoming is p = kept-changing e (leg_of c) arrays p refl is
+    go opening.Temporary is p = kept-changing e (leg_of c) arrays p refl is
+    go (opening.Probable n) is p = kept-changing e (leg_of c) arrays p refl (both (is_chance n) (period_fits (change_form e) c.period) is).1
+    go (opening.ProbablyTemporary n) is p = kept-changing e (leg_of c) arrays p refl (both (is_chance n) (period_fits (change_form e) c.period) is).1
+    go opening.From is p = kept_from e (leg_of c) _ arrays p refl
 
-pub change-goes-on : (e : Edition) (w : Part) (r : Leg) → isMain w ≡ false → stopsAny (row e w) r ≡ false
+pub change-goes-on : (e : Edition) (w : Part) (r : Leg) → is_main w ≡ false → stops_any (row e w) r ≡ false
 unfolding row
 change-goes-on e part.Main r is = absurd (false≢true (sym is))
 change-goes-on e part.Changing r is = refl
@@ -240,6 +240,6 @@ change-goes-on e part.From r is = refl
 
 -- ---- what is read back has an element where what was written has one
 
-pub element-back : (e : Edition) (w : Part) (r acc : Leg) → hasElement (put_all (row e w) r acc).body ≡ hasElement r.body
+pub element-back : (e : Edition) (w : Part) (r acc : Leg) → has_element (put_all (row e w) r acc).body ≡ has_element r.body
 unfolding row
 element-back e w r acc = element-classed r.body

@@ -6,22 +6,22 @@ use mathlib.Core.Bool.{Bool, true, false, ◌||◌}
 use mathlib.Core.List.{map}
 use lib.ListN.{length, take, drop}
 use Rattle.text.specs.declared.kinds.Judged.TheVariants as judged
-use Rattle.text.specs.Groups.{groupsFrom}
-use Rattle.text.specs.Text.{tailOf}
+use Rattle.text.specs.Groups.{groups_from}
+use Rattle.text.specs.Text.{tail_of}
 use Rattle.shapes.proofs.Patterns.{neither}
 use Rattle.places.specs.Engine.{Done}
 use Rattle.record.specs.declared.aerodrome.Change.{Change}
 use Rattle.record.specs.declared.aerodrome.Edition.{Edition}
 use Rattle.record.specs.declared.aerodrome.Taf.{Taf}
-use Rattle.record.specs.Taf.{blankChange}
+use Rattle.record.specs.Taf.{blank_change}
 use Rattle.record.specs.Arrays.{TafArrays}
 use Rattle.record.proofs.Counted.{map-counted, taken, dropped, EachRead, each_read}
-use Rattle.elements.specs.Body.{classBody}
+use Rattle.elements.specs.Body.{class_body}
 use Rattle.body.proofs.Promises.{BodyRead, body-read, blank-read}
 use Rattle.taf_row.specs.declared.kinds.Part.TheVariants as part
-use Rattle.taf_row.specs.Row.{forecastIn, row}
-use Rattle.taf.specs.Read.{part_of, groupsRead}
-use Rattle.taf.specs.Write.{judgeOf, canonicalOf, classChange, classedOf}
+use Rattle.taf_row.specs.Row.{forecast_in, row}
+use Rattle.taf.specs.Read.{part_of, groups_read}
+use Rattle.taf.specs.Write.{judge_of, canonical_of, class_change, classed_of}
 use Rattle.taf_laws.proofs.Places.{live}
 use Rattle.taf_laws.proofs.Parts.{fair-part, Sound, Fair, fair, over-bare}
 use Rattle.taf_laws.proofs.Changes.{listed, change-is}
@@ -50,24 +50,24 @@ pub record RecordRead (t q : Taf) : Type 0 where
 
 -- ---- the main part
 
-main-read : (t : Taf) → TafArrays t → Fair t → BodyRead t.leg.body (classBody t.leg.body)
+main-read : (t : Taf) → TafArrays t → Fair t → BodyRead t.leg.body (class_body t.leg.body)
 main-read t arrays f = go (t.leg.nil || t.leg.cancelled) refl
   where
-    go : (b : Bool) → (t.leg.nil || t.leg.cancelled) ≡ b → BodyRead t.leg.body (classBody t.leg.body)
+    go : (b : Bool) → (t.leg.nil || t.leg.cancelled) ≡ b → BodyRead t.leg.body (class_body t.leg.body)
     go true o = blank-read t.leg.body (over-bare t arrays f o)
     go false o =
         let n = neither t.leg.nil t.leg.cancelled (rw o) in
-        body-read (forecastIn part.Main) (live part.Main) t.leg.body (fair-part part.Main t.leg.body (f.part n.0 n.1)).body
+        body-read (forecast_in part.Main) (live part.Main) t.leg.body (fair-part part.Main t.leg.body (f.part n.0 n.1)).body
 
 -- ---- the changes
 
-change-read : (e : Edition) (c : Change) → Sound e c → ChangeRead c (classChange e c)
+change-read : (e : Edition) (c : Change) → Sound e c → ChangeRead c (class_change e c)
 change-read e c s =
     let w = part_of c.opening in
-    rw (change-is e c s.1.opens) (record { opening = refl; period = refl; body = body-read (forecastIn w) (live w) c.body s.1.part.body })
+    rw (change-is e c s.1.opens) (record { opening = refl; period = refl; body = body-read (forecast_in w) (live w) c.body s.1.part.body })
 
-record-read : (t : Taf) → TafArrays t → judgeOf t ≡ judged.Fine → RecordRead t (classedOf t)
-unfolding classedOf row
+record-read : (t : Taf) → TafArrays t → judge_of t ≡ judged.Fine → RecordRead t (classed_of t)
+unfolding classed_of row
 record-read t arrays e =
     let f = fair t e in
     let l = listed t arrays f in
@@ -81,22 +81,22 @@ record-read t arrays e =
       cancelled = refl;
       body = main-read t arrays f;
       count = refl;
-      changes = rw (taken (classChange t.edition) t.changes.count t.changes.items l.many) (each_read ChangeRead (classChange t.edition) (change-read t.edition) (take t.changes.count t.changes.items) l.each);
-      past = dropped (classChange t.edition) t.changes.count t.changes.items l.many;
+      changes = rw (taken (class_change t.edition) t.changes.count t.changes.items l.many) (each_read ChangeRead (class_change t.edition) (change-read t.edition) (take t.changes.count t.changes.items) l.each);
+      past = dropped (class_change t.edition) t.changes.count t.changes.items l.many;
     }
 
 -- WHAT IS WRITTEN OF A RECORD THAT THE WRITER ACCEPTS IS READ, to the text's end, as a record that says the same.
-pub promise : (t : Taf) → TafArrays t → judgeOf t ≡ judged.Fine
-    → (groupsRead t.edition (tailOf (canonicalOf t)) (length (canonicalOf t)) (groupsFrom (canonicalOf t) 0) ≡ Done (length (canonicalOf t)) (classedOf t)) × RecordRead t (classedOf t)
+pub promise : (t : Taf) → TafArrays t → judge_of t ≡ judged.Fine
+    → (groups_read t.edition (tail_of (canonical_of t)) (length (canonical_of t)) (groups_from (canonical_of t) 0) ≡ Done (length (canonical_of t)) (classed_of t)) × RecordRead t (classed_of t)
 promise t arrays e = (read-canonical t arrays e, record-read t arrays e)
 
 -- ---- each change is read back as its class, and those past the count too
 
-blank-classed : (e : Edition) → classChange e blankChange ≡ blankChange
-unfolding classChange row
+blank-classed : (e : Edition) → class_change e blank_change ≡ blank_change
+unfolding class_change row
 blank-classed e = refl
 
-pub items-classed : (t : Taf) → TafArrays t → judgeOf t ≡ judged.Fine → (classedOf t).changes.items ≡ map (classChange t.edition) t.changes.items
-unfolding classedOf
+pub items-classed : (t : Taf) → TafArrays t → judge_of t ≡ judged.Fine → (classed_of t).changes.items ≡ map (class_change t.edition) t.changes.items
+unfolding classed_of
 items-classed t arrays e =
-    map-counted (classChange t.edition) blankChange (blank-classed t.edition) t.changes.count 16 t.changes.items (listed t arrays (fair t e)).rest
+    map-counted (class_change t.edition) blank_change (blank-classed t.edition) t.changes.count 16 t.changes.items (listed t arrays (fair t e)).rest

@@ -12,11 +12,11 @@ use Rattle.figures.specs.Quote.{bytes}
 use Rattle.text.specs.declared.kinds.Judged.TheVariants as judged
 use Rattle.text.specs.declared.kinds.Tail.TheVariants.{Clear}
 use Rattle.text.specs.Groups.{Piece}
-use Rattle.shapes.specs.Pattern.{low, high, fits, hasPattern, hasAny}
+use Rattle.shapes.specs.Pattern.{low, high, fits, has_pattern, has_any}
 use Rattle.shapes.proofs.Patterns.{both, or_right, neither}
 use Rattle.places.specs.Engine.{Group, Done, written, put_all}
 use Rattle.places.specs.Parts.{Word, Opens}
-use Rattle.places.proofs.ReadBack.{All, groups_of as pieceGroups, plain}
+use Rattle.places.proofs.ReadBack.{All, groups_of as piece_groups, plain}
 use Rattle.places.proofs.Kept.{kept-spoken}
 use Rattle.places.proofs.Parts.{Saying, Opening as OpenedBy, one, two, unjoined}
 use Rattle.record.specs.declared.aerodrome.Opening.{Opening}
@@ -26,28 +26,28 @@ use Rattle.record.specs.declared.aerodrome.Leg.{Leg}
 use Rattle.record.specs.declared.aerodrome.Change.{Change}
 use Rattle.record.specs.declared.aerodrome.Edition.{Edition}
 use Rattle.record.specs.declared.aerodrome.Taf.{Taf}
-use Rattle.record.specs.Taf.{blankLeg}
-use Rattle.record.specs.SilentAerodrome.{noInstant}
+use Rattle.record.specs.Taf.{blank_leg}
+use Rattle.record.specs.SilentAerodrome.{no_instant}
 use Rattle.record.specs.Arrays.{TafArrays}
-use Rattle.elements.specs.Body.{hasElement}
+use Rattle.elements.specs.Body.{has_element}
 use Rattle.body.proofs.Sayings.{keep-part, last-unless, alone, SaidOne, list-said, report-said}
 use Rattle.taf_row.specs.declared.kinds.Part.TheVariants as part
-use Rattle.taf_row.specs.Row.{word, changeForm, showPeriod, fromShape, row, changeWords}
+use Rattle.taf_row.specs.Row.{word, change_form, show_period, from_shape, row, change_words}
 use Rattle.taf_row.proofs.Sound.{row-sound, row-covered}
-use Rattle.taf.specs.Read.{openedBy, part_of, mainPart, changes, groupsRead, isChance}
-use Rattle.taf.specs.Write.{periodFits, fromFits, openingFits, legOf, judgeOf, showChance, showFrom, showOpening, showChange, showEach, groups_of, openedLeg, classChange, classedOf}
+use Rattle.taf.specs.Read.{opened_by, part_of, main_part, changes, groups_read, is_chance}
+use Rattle.taf.specs.Write.{period_fits, from_fits, opening_fits, leg_of, judge_of, show_chance, show_from, show_opening, show_change, show_each, groups_of, opened_leg, class_change, classed_of}
 use Rattle.taf_laws.proofs.Periods.{chance-shaped, chance-opened, from-shaped, from-opened}
 use Rattle.taf_laws.proofs.Parts.{Sound, fair, kept-main, main-goes-on, kept-change, change-goes-on, element-back}
 use Rattle.taf_laws.proofs.Changes.{listed, none_over, part-change}
 
-abbrev changeWord : Edition → Taf → Group → Word Opening Leg
-changeWord e t g = Opens (openedBy e g)
+abbrev change_word : Edition → Taf → Group → Word Opening Leg
+change_word e t g = Opens (opened_by e g)
 
 -- ---- the words of a change
 
-not-tempo : (e : Edition) (g : Group) → hasAny (changeWords e) g ≡ false → word "TEMPO" g ≡ false
-unfolding changeWords hasAny
-not-tempo e g h = go (hasPattern g (bytes "BECMG")) (hasPattern g (bytes "TEMPO")) _ h
+not-tempo : (e : Edition) (g : Group) → has_any (change_words e) g ≡ false → word "TEMPO" g ≡ false
+unfolding change_words has_any
+not-tempo e g h = go (has_pattern g (bytes "BECMG")) (has_pattern g (bytes "TEMPO")) _ h
   where
     go : (a b x : Bool) → (a || (b || x)) ≡ false → b ≡ false
     go true b x h = absurd (false≢true (sym h))
@@ -55,44 +55,44 @@ not-tempo e g h = go (hasPattern g (bytes "BECMG")) (hasPattern g (bytes "TEMPO"
     go false false x h = refl
 
 -- what comes after the words is not taken for one of them: under PROB30 and PROB40 the period comes first
-calm : (e : Edition) (o : Opening) (c : Change) (rest : List Group) → All (λ g. hasAny (changeWords e) g ≡ false) (written (row e (part_of o)) (legOf c))
-    → unjoined (changes e) o (written (row e (part_of o)) (legOf c) ++ rest) ≡ true
+calm : (e : Edition) (o : Opening) (c : Change) (rest : List Group) → All (λ g. has_any (change_words e) g ≡ false) (written (row e (part_of o)) (leg_of c))
+    → unjoined (changes e) o (written (row e (part_of o)) (leg_of c) ++ rest) ≡ true
 unfolding row
-calm e (opening.Probable n) c rest a = rw (not-tempo e (showPeriod (changeForm e) c.period) a.0)
-calm e opening.None c rest a = alone (changes e) opening.None (written (row e part.Changing) (legOf c) ++ rest) (λ g. refl)
-calm e opening.Becoming c rest a = alone (changes e) opening.Becoming (written (row e part.Changing) (legOf c) ++ rest) (λ g. refl)
-calm e opening.Temporary c rest a = alone (changes e) opening.Temporary (written (row e part.Changing) (legOf c) ++ rest) (λ g. refl)
-calm e (opening.ProbablyTemporary n) c rest a = alone (changes e) (opening.ProbablyTemporary n) (written (row e part.Changing) (legOf c) ++ rest) (λ g. refl)
-calm e opening.From c rest a = alone (changes e) opening.From (written (row e part.From) (legOf c) ++ rest) (λ g. refl)
+calm e (opening.Probable n) c rest a = rw (not-tempo e (show_period (change_form e) c.period) a.0)
+calm e opening.None c rest a = alone (changes e) opening.None (written (row e part.Changing) (leg_of c) ++ rest) (λ g. refl)
+calm e opening.Becoming c rest a = alone (changes e) opening.Becoming (written (row e part.Changing) (leg_of c) ++ rest) (λ g. refl)
+calm e opening.Temporary c rest a = alone (changes e) opening.Temporary (written (row e part.Changing) (leg_of c) ++ rest) (λ g. refl)
+calm e (opening.ProbablyTemporary n) c rest a = alone (changes e) (opening.ProbablyTemporary n) (written (row e part.Changing) (leg_of c) ++ rest) (λ g. refl)
+calm e opening.From c rest a = alone (changes e) opening.From (written (row e part.From) (leg_of c) ++ rest) (λ g. refl)
 
-chance-word : (e : Edition) (g : Group) → hasPattern g (bytes "PROB##") ≡ true → hasAny (changeWords e) g ≡ true
-unfolding changeWords hasAny
-chance-word e g s = or_right (hasPattern g (bytes "BECMG")) _ (or_right (hasPattern g (bytes "TEMPO")) _ (rw s))
+chance-word : (e : Edition) (g : Group) → has_pattern g (bytes "PROB##") ≡ true → has_any (change_words e) g ≡ true
+unfolding change_words has_any
+chance-word e g s = or_right (has_pattern g (bytes "BECMG")) _ (or_right (has_pattern g (bytes "TEMPO")) _ (rw s))
 
-from-word : (e : Edition) (g : Group) → hasPattern g (fromShape e) ≡ true → hasAny (changeWords e) g ≡ true
-unfolding changeWords hasAny
-from-word e g s = or_right (hasPattern g (bytes "BECMG")) _ (or_right (hasPattern g (bytes "TEMPO")) _ (or_right (hasPattern g (bytes "PROB##")) _ (rw s)))
+from-word : (e : Edition) (g : Group) → has_pattern g (from_shape e) ≡ true → has_any (change_words e) g ≡ true
+unfolding change_words has_any
+from-word e g s = or_right (has_pattern g (bytes "BECMG")) _ (or_right (has_pattern g (bytes "TEMPO")) _ (or_right (has_pattern g (bytes "PROB##")) _ (rw s)))
 
-words_open : (e : Edition) (t : Taf) (o : Opening) (p : Period) (its : List Group) → openingFits e o p ≡ true → unjoined (changes e) o its ≡ true
-    → OpenedBy (changes e) (hasAny (changeWords e)) (changeWord e) t o (openedLeg o p) its (showOpening e o p)
-unfolding changeWords hasAny hasPattern fits low high openedBy
+words_open : (e : Edition) (t : Taf) (o : Opening) (p : Period) (its : List Group) → opening_fits e o p ≡ true → unjoined (changes e) o its ≡ true
+    → OpenedBy (changes e) (has_any (change_words e)) (change_word e) t o (opened_leg o p) its (show_opening e o p)
+unfolding change_words has_any has_pattern fits low high opened_by
 words_open e t opening.None p its f u = absurd (false≢true f)
 words_open e t opening.Becoming p its f u = one refl refl u
 words_open e t opening.Temporary p its f u = one refl refl u
 words_open e t (opening.Probable n) p its f u =
-    let c = (both (isChance n) (periodFits (changeForm e) p) f).0 in
-    one {g = showChance n} (chance-word e (showChance n) (chance-shaped n c)) (rw (chance-opened n c e)) u
+    let c = (both (is_chance n) (period_fits (change_form e) p) f).0 in
+    one {g = show_chance n} (chance-word e (show_chance n) (chance-shaped n c)) (rw (chance-opened n c e)) u
 words_open e t (opening.ProbablyTemporary n) p its f u =
-    let c = (both (isChance n) (periodFits (changeForm e) p) f).0 in
-    two {g = showChance n} {h = bytes "TEMPO"} (opening.Probable n) (chance-word e (showChance n) (chance-shaped n c)) (rw (chance-opened n c e)) refl refl
+    let c = (both (is_chance n) (period_fits (change_form e) p) f).0 in
+    two {g = show_chance n} {h = bytes "TEMPO"} (opening.Probable n) (chance-word e (show_chance n) (chance-shaped n c)) (rw (chance-opened n c e)) refl refl
 words_open e t opening.From p its f u =
-    let c = (both (fromFits e p.from) (noInstant p.to) f).0 in
-    one {g = showFrom e p.from} (from-word e (showFrom e p.from) (from-shaped e p.from c)) (rw (from-opened e p.from c)) u
+    let c = (both (from_fits e p.from) (no_instant p.to) f).0 in
+    one {g = show_from e p.from} (from-word e (show_from e p.from) (from-shaped e p.from c)) (rw (from-opened e p.from c)) u
 
 -- ---- a change as a part
 
 abbrev saying : Edition → Change → Saying Leg Opening
-saying e c = record { words = showOpening e c.opening c.period; kind = c.opening; start = openedLeg c.opening c.period; said = legOf c }
+saying e c = record { words = show_opening e c.opening c.period; kind = c.opening; start = opened_leg c.opening c.period; said = leg_of c }
 
 -- the report with a list of changes
 abbrev listing : Edition → Leg → List Change → ℕ → Taf
@@ -100,20 +100,20 @@ listing e l items n = record { edition = e; leg = l; changes = record { items = 
 
 -- A CHANGE IS SAID, wherever it stands.
 change-said : (e : Edition) (l : Leg) (c : Change) → Sound e c → (items : List Change) (n : ℕ) → n < 16
-    → SaidOne (changes e) (hasAny (changeWords e)) (changeWord e) (listing e l items n) (listing e l (set items n (classChange e c)) (n + 1)) (showChange e c) (saying e c)
-unfolding showChange classChange
+    → SaidOne (changes e) (has_any (change_words e)) (change_word e) (listing e l items n) (listing e l (set items n (class_change e c)) (n + 1)) (show_change e c) (saying e c)
+unfolding show_change class_change
 change-said e l c s items n h =
     let o = c.opening in
     let w = part_of o in
     let k = kept-change e c s.0 s.1 in
-    let some : hasElement c.body ≡ true = rw (part-change o) at s.1.part.element in
+    let some : has_element c.body ≡ true = rw (part-change o) at s.1.part.element in
     record {
       opens =
           λ rest.
           words_open e (listing e l items n) o c.period _ s.1.opens
-          (calm e o c rest (plain (changeWords e) (row e w) (legOf c) (row-sound e w) (kept-spoken k)));
-      kept = keep-part (changeWords e) (unfold row in omega arith) (row-sound e w) (row-covered e w) k refl (rw (element-back e w (legOf c) (openedLeg o c.period), part-change o, some));
-      on = change-goes-on e w (legOf c) (part-change o);
+          (calm e o c rest (plain (change_words e) (row e w) (leg_of c) (row-sound e w) (kept-spoken k)));
+      kept = keep-part (change_words e) (unfold row in omega arith) (row-sound e w) (row-covered e w) k refl (rw (element-back e w (leg_of c) (opened_leg o c.period), part-change o, some));
+      on = change-goes-on e w (leg_of c) (part-change o);
       alike = (refl, refl);
       groups = refl;
       back = rw (lt-ltb n 16 h);
@@ -122,18 +122,18 @@ change-said e l c s items n h =
 -- ---- the report
 
 -- THE GROUPS OF A RECORD ARE READ BACK, from any pieces that hold them. NIL and CNL have no change after them.
-pub pieces-back : (t : Taf) → TafArrays t → judgeOf t ≡ judged.Fine → (end : ℕ) (gs : List Piece) → pieceGroups gs ≡ groups_of t
-    → groupsRead t.edition Clear end gs ≡ Done end (classedOf t)
-unfolding groupsRead groups_of classedOf
+pub pieces-back : (t : Taf) → TafArrays t → judge_of t ≡ judged.Fine → (end : ℕ) (gs : List Piece) → piece_groups gs ≡ groups_of t
+    → groups_read t.edition Clear end gs ≡ Done end (classed_of t)
+unfolding groups_read groups_of classed_of
 pieces-back t arrays fine end gs are =
     let e = t.edition in
     let f = fair t fine in
     let l = listed t arrays f in
     let cs = take t.changes.count t.changes.items in
-    report-said (changes e) (mainPart e) t.leg blankLeg end 16 gs
-    (keep-part (changeWords e) (unfold row in omega arith) (row-sound e part.Main) (row-covered e part.Main) (kept-main t arrays f) refl refl)
-    (last-unless (changes e) (mainPart e) t.leg (map (saying e) cs) (t.leg.nil || t.leg.cancelled) (λ o. rw (none_over t f o))
+    report-said (changes e) (main_part e) t.leg blank_leg end 16 gs
+    (keep-part (change_words e) (unfold row in omega arith) (row-sound e part.Main) (row-covered e part.Main) (kept-main t arrays f) refl refl)
+    (last-unless (changes e) (main_part e) t.leg (map (saying e) cs) (t.leg.nil || t.leg.cancelled) (λ o. rw (none_over t f o))
     (λ o. let n = neither t.leg.nil t.leg.cancelled (rw o) in main-goes-on e t.leg n.0 n.1))
-    (list-said (changes e) (hasAny (changeWords e)) (changeWord e) (saying e) (showChange e) (showEach e) refl (λ c cs. refl) (classChange e)
-    (listing e (put_all (row e part.Main) t.leg blankLeg)) (change-said e _) l)
+    (list-said (changes e) (has_any (change_words e)) (change_word e) (saying e) (show_change e) (show_each e) refl (λ c cs. refl) (class_change e)
+    (listing e (put_all (row e part.Main) t.leg blank_leg)) (change-said e _) l)
     (omega (arith, length-map cs (saying e), l.many, l.few)) are

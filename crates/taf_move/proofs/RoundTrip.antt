@@ -14,21 +14,21 @@ use Rattle.text.proofs.Judging.{fine, and-then}
 use Rattle.record.specs.declared.aerodrome.Edition.{Edition}
 use Rattle.record.specs.declared.aerodrome.Edition.TheVariants as edition
 use Rattle.record.specs.declared.aerodrome.Taf.{Taf}
-use Rattle.record.specs.SilentAerodrome.{isSameEdition}
+use Rattle.record.specs.SilentAerodrome.{is_same_edition}
 use Rattle.record.proofs.AerodromeBlanks.{edition-same, same-edition}
-use Rattle.taf.specs.Write.{judgeOf, judgeIn, canonicalOf}
+use Rattle.taf.specs.Write.{judge_of, judge_in, canonical_of}
 use Rattle.taf_times.specs.declared.kinds.MovedTaf.{MovedTaf}
-use Rattle.taf_times.specs.Move.{counted, judgeTimes, momentsOf, whole_of, movedChange, movedChanges, timesIn, movedBy}
-use Rattle.taf_times.specs.Midnight.{midnightsBefore}
+use Rattle.taf_times.specs.Move.{counted, judge_times, moments_of, whole_of, moved_change, moved_changes, times_in, moved_by}
+use Rattle.taf_times.specs.Midnight.{midnights_before}
 use Rattle.taf_times.proofs.Moves.{Timely, judged-fine, MovedBack, moved_back, old-stays}
-use Rattle.taf_move.specs.Move.{other, judgeMove, tafMoved}
+use Rattle.taf_move.specs.Move.{other, judge_move, taf_moved}
 use Rattle.taf_move.proofs.Again.{is-taken, taken-judged, taken-timely, comes-taken}
 
 -- a TAF that is moved, and what comes
 abbrev pub moved : Taf → MovedTaf
 moved s = record { judged = judged.Fine; forecast = s }
 
-moved-fine : (j : Judged) (x s : Taf) → movedBy j x ≡ moved s → (j ≡ judged.Fine) × (x ≡ s)
+moved-fine : (j : Judged) (x s : Taf) → moved_by j x ≡ moved s → (j ≡ judged.Fine) × (x ≡ s)
 moved-fine judged.Fine x s e = (refl, ap (λ (m : MovedTaf). m.forecast) e)
 moved-fine (judged.Refused f) x s e = let b : judged.Refused f ≡ judged.Fine = ap (λ (m : MovedTaf). m.judged) e in impossible (cc)
 
@@ -39,36 +39,36 @@ other-twice edition.Of2005 = refl
 -- what is judged of a TAF that is moved
 record Judged-fine (to : Edition) (days : ℕ) (t : Taf) : Type 0 where
   edition : t.edition ≡ other to
-  writer : judgeOf t ≡ judged.Fine
-  times : judgeTimes days t ≡ judged.Fine
+  writer : judge_of t ≡ judged.Fine
+  times : judge_times days t ≡ judged.Fine
 
-judge-parts : (to : Edition) (days : ℕ) (t : Taf) → judgeMove to days t ≡ judged.Fine → Judged-fine to days t
-unfolding judgeMove judgeIn
+judge-parts : (to : Edition) (days : ℕ) (t : Taf) → judge_move to days t ≡ judged.Fine → Judged-fine to days t
+unfolding judge_move judge_in
 judge-parts to days t e =
-    let a = and-then (and_then (judge (isSameEdition (other to) t.edition) true) (judgeOf t)) (judgeTimes days t) e in
-    let b = and-then (judge (isSameEdition (other to) t.edition) true) (judgeOf t) a.0 in
+    let a = and-then (and_then (judge (is_same_edition (other to) t.edition) true) (judge_of t)) (judge_times days t) e in
+    let b = and-then (judge (is_same_edition (other to) t.edition) true) (judge_of t) a.0 in
     record { edition = sym (edition-same (other to) t.edition (fine _ true b.0).0); writer = b.1; times = a.1 }
 
-parts-judge : (to : Edition) (days : ℕ) (t : Taf) → Judged-fine to days t → judgeMove to days t ≡ judged.Fine
-unfolding judgeMove judgeIn
+parts-judge : (to : Edition) (days : ℕ) (t : Taf) → Judged-fine to days t → judge_move to days t ≡ judged.Fine
+unfolding judge_move judge_in
 parts-judge to days t j =
-    let same : isSameEdition (other to) t.edition ≡ true = rw j.edition (same-edition (other to)) in
+    let same : is_same_edition (other to) t.edition ≡ true = rw j.edition (same-edition (other to)) in
     rw (same, j.writer) j.times
 
-its-edition : (to : Edition) (days : ℕ) (t : Taf) → (timesIn to days t).edition ≡ to
-unfolding timesIn
+its-edition : (to : Edition) (days : ℕ) (t : Taf) → (times_in to days t).edition ≡ to
+unfolding times_in
 its-edition to days t = refl
 
-its-slots : (to : Edition) (days : ℕ) (t : Taf) → length (timesIn to days t).changes.items ≡ length t.changes.items
-unfolding timesIn movedChanges
+its-slots : (to : Edition) (days : ℕ) (t : Taf) → length (times_in to days t).changes.items ≡ length t.changes.items
+unfolding times_in moved_changes
 its-slots to days t =
-    let f = movedChange t.edition to days (whole_of days t) in
+    let f = moved_change t.edition to days (whole_of days t) in
     length_front t.changes.items (map f (counted t.changes)) t.changes.count (length-map (counted t.changes) f)
 
-module _ (to : Edition) (days : ℕ) (t s : Taf) (all : length t.changes.items ≡ 16) (m : tafMoved to days t ≡ moved s) where
-  comes : (judgeMove to days t ≡ judged.Fine) × (timesIn to days t ≡ s)
-  unfolding tafMoved
-  comes = moved-fine (judgeMove to days t) (timesIn to days t) s m
+module _ (to : Edition) (days : ℕ) (t s : Taf) (all : length t.changes.items ≡ 16) (m : taf_moved to days t ≡ moved s) where
+  comes : (judge_move to days t ≡ judged.Fine) × (times_in to days t ≡ s)
+  unfolding taf_moved
+  comes = moved-fine (judge_move to days t) (times_in to days t) s m
 
   parts : Judged-fine to days t
   parts = judge-parts to days t comes.0
@@ -80,8 +80,8 @@ module _ (to : Edition) (days : ℕ) (t s : Taf) (all : length t.changes.items �
   turned = rw comes.1 at (moved_back days t to timely parts.times)
 
   -- THE WRITER OF ITS EDITION TAKES WHAT COMES,
-  pub moved-taken : judgeOf s ≡ judged.Fine
-  moved-taken = rw comes.1 at (taken-judged (timesIn to days t) (comes-taken days t all (is-taken t parts.writer) parts.times to))
+  pub moved-taken : judge_of s ≡ judged.Fine
+  moved-taken = rw comes.1 at (taken-judged (times_in to days t) (comes-taken days t all (is-taken t parts.writer) parts.times to))
 
   pub moved-edition : s.edition ≡ to
   moved-edition = sym (ap (λ (u : Taf). u.edition) comes.1) ∙ its-edition to days t
@@ -90,28 +90,28 @@ module _ (to : Edition) (days : ℕ) (t s : Taf) (all : length t.changes.items �
   moved-slots = rw comes.1 at (its-slots to days t ∙ all)
 
   -- EVERY MOMENT STAYS,
-  pub moved-moments : momentsOf days s ≡ momentsOf days t
+  pub moved-moments : moments_of days s ≡ moments_of days t
   moved-moments = turned.moments
 
   -- AND MOVED BACK IT IS WHAT IT WAS, but that every end at hour 00 is 24 of the day before.
-  pub moved-there-and-back : tafMoved (other to) days s ≡ moved (midnightsBefore days t)
-  unfolding tafMoved
+  pub moved-there-and-back : taf_moved (other to) days s ≡ moved (midnights_before days t)
+  unfolding taf_moved
   moved-there-and-back =
       let own : s.edition ≡ other (other to) = moved-edition ∙ sym (other-twice to) in
-      let back : timesIn (other to) days s ≡ midnightsBefore days t = ap (λ (e : Edition). timesIn e days s) (sym parts.edition) ∙ turned.back in
+      let back : times_in (other to) days s ≡ midnights_before days t = ap (λ (e : Edition). times_in e days s) (sym parts.edition) ∙ turned.back in
       rw (parts-judge (other to) days s (record { edition = own; writer = moved-taken; times = turned.judged }), back)
 
 -- a record of 2005 has no end at hour 00
-pub old-whole : (days : ℕ) (t s : Taf) → length t.changes.items ≡ 16 → tafMoved edition.Present days t ≡ moved s → midnightsBefore days t ≡ t
+pub old-whole : (days : ℕ) (t s : Taf) → length t.changes.items ≡ 16 → taf_moved edition.Present days t ≡ moved s → midnights_before days t ≡ t
 old-whole days t s all m = old-stays days t (parts edition.Present days t s all m).edition (timely edition.Present days t s all m)
 
 -- OLD TO NEW TO OLD: the same record, and so the same text.
-pub old-new-old : (days : ℕ) (t s : Taf) → length t.changes.items ≡ 16 → tafMoved edition.Present days t ≡ moved s → tafMoved edition.Of2005 days s ≡ moved t
+pub old-new-old : (days : ℕ) (t s : Taf) → length t.changes.items ≡ 16 → taf_moved edition.Present days t ≡ moved s → taf_moved edition.Of2005 days s ≡ moved t
 old-new-old days t s all m = moved-there-and-back edition.Present days t s all m ∙ ap moved (old-whole days t s all m)
 
 -- NEW TO OLD TO NEW: the same moments, and the record with each end at hour 00 as 24 of the day before.
-pub new-old-new : (days : ℕ) (t s : Taf) → length t.changes.items ≡ 16 → tafMoved edition.Of2005 days t ≡ moved s
-    → (tafMoved edition.Present days s ≡ moved (midnightsBefore days t)) × (momentsOf days (midnightsBefore days t) ≡ momentsOf days t)
+pub new-old-new : (days : ℕ) (t s : Taf) → length t.changes.items ≡ 16 → taf_moved edition.Of2005 days t ≡ moved s
+    → (taf_moved edition.Present days s ≡ moved (midnights_before days t)) × (moments_of days (midnights_before days t) ≡ moments_of days t)
 new-old-new days t s all m =
     let back = moved-there-and-back edition.Of2005 days t s all m in
-    (back, moved-moments edition.Present days s (midnightsBefore days t) (moved-slots edition.Of2005 days t s all m) back ∙ moved-moments edition.Of2005 days t s all m)
+    (back, moved-moments edition.Present days s (midnights_before days t) (moved-slots edition.Of2005 days t s all m) back ∙ moved-moments edition.Of2005 days t s all m)

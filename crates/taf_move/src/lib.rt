@@ -1,6 +1,6 @@
 // A TAF moved between the 2005 edition and the present one.
 ghost use Rattle.std.specs.Prelude.{◌≡◌};
-ghost use Rattle.taf_move.specs.Move.{other, tafMoved};
+ghost use Rattle.taf_move.specs.Move.{other, taf_moved};
 
 use record::aerodrome::{Edition, Taf};
 use taf_times::kinds::MovedTaf;
@@ -20,7 +20,7 @@ fn other(to: Edition) -> Edition
 // The TAF in this edition, so many days being in the starting month. Refused are, in this order: 11 a record of this edition, 11 or 7 one that the writer
 // refuses, 11 a month or a day that does not fit, 15 times that do not.
 pub fn move_taf(to: Edition, days: u32, t: Taf) -> MovedTaf
-    ensures { result ≡ tafMoved to days t }
+    ensures { result ≡ taf_moved to days t }
 {
     let left = other(to);
     let judged = taf_write::judge::judge(left, t);

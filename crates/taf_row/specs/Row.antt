@@ -6,8 +6,8 @@
 use Rattle.std.specs.Prelude.{ℕ, Bool, true, false, not, ◌&&◌, ◌||◌, cond, List, [], ◌∷◌, ◌++◌, leb}
 use Prim.Native.String.{String}
 use Rattle.figures.specs.Quote.{bytes}
-use Rattle.figures.specs.Figures.{field_at, fieldText}
-use Rattle.shapes.specs.Pattern.{Pattern, hasPattern}
+use Rattle.figures.specs.Figures.{field_at, field_text}
+use Rattle.shapes.specs.Pattern.{Pattern, has_pattern}
 use Rattle.places.specs.Engine.{Group, Read, Good, Place}
 use Rattle.places.specs.Lift.{lift, open_in}
 use Rattle.record.specs.declared.values.Number.TheVariants as number
@@ -20,10 +20,10 @@ use Rattle.record.specs.declared.aerodrome.Leg.{Leg}
 use Rattle.record.specs.declared.aerodrome.Edition.{Edition}
 use Rattle.record.specs.declared.aerodrome.Edition.TheVariants as edition
 use Rattle.record.specs.Missing.{between}
-use Rattle.record.specs.Taf.{setCorrection, setStation, setTime, setNil, setPeriod, setCancelled, setBody}
+use Rattle.record.specs.Taf.{set_correction, set_station, set_time, set_nil, set_period, set_cancelled, set_body}
 use Rattle.elements.specs.Parts.{figured, provided, then}
-use Rattle.elements.specs.Body.{Terms, windPlace, visibilityPlace, weatherPlace, skyPlace, hasElement}
-use Rattle.aerodrome_groups.specs.Head.{wordPlace, stationPlace, timePlace, field_of, isDay, isHour}
+use Rattle.elements.specs.Body.{Terms, wind_place, visibility_place, weather_place, sky_place, has_element}
+use Rattle.aerodrome_groups.specs.Head.{word_place, station_place, time_place, field_of, is_day, is_hour}
 use Rattle.taf_row.specs.declared.kinds.Part.{Part}
 use Rattle.taf_row.specs.declared.kinds.Part.TheVariants as part
 use Rattle.taf_row.specs.declared.kinds.Form.{Form}
@@ -31,10 +31,10 @@ use Rattle.taf_row.specs.declared.kinds.Form.TheVariants as form
 
 -- ---- where a part stands
 
-abbrev pub isMain : Part → Bool
-isMain part.Main = true
-isMain part.Changing = false
-isMain part.From = false
+abbrev pub is_main : Part → Bool
+is_main part.Main = true
+is_main part.Changing = false
+is_main part.From = false
 
 -- wind and visibility are required in the main part and under FM
 abbrev pub is_whole : Part → Bool
@@ -43,136 +43,136 @@ is_whole part.Changing = false
 is_whole part.From = true
 
 -- a change's period stands under a change word other than FM
-abbrev pub isChanging : Part → Bool
-isChanging part.Main = false
-isChanging part.Changing = true
-isChanging part.From = false
+abbrev pub is_changing : Part → Bool
+is_changing part.Main = false
+is_changing part.Changing = true
+is_changing part.From = false
 
 -- "A change body needs one element"
-abbrev pub elementStands : Part → Body → Bool
-elementStands w b = isMain w || hasElement b
+abbrev pub element_stands : Part → Body → Bool
+element_stands w b = is_main w || has_element b
 
 -- the body of a forecast: no missing forms, no UP, wind and visibility required in the main part and under FM, NSW "only in change bodies"
-abbrev pub forecastIn : Part → Terms
-forecastIn w = record { forecast = true; required = is_whole w; mayNsw = not (isMain w); automatic = false; silent = false }
+abbrev pub forecast_in : Part → Terms
+forecast_in w = record { forecast = true; required = is_whole w; may_nsw = not (is_main w); automatic = false; silent = false }
 
 -- ---- places
 
 -- for one group: its shape and the patterns that cover it, whether it must stand; how it is read, how it is written and what it is read back as
-abbrev pub placeFor : (Group → Bool) → List Pattern → Bool → (Group → Leg → Read Leg) → (Leg → List Group) → (Leg → Leg → Leg) → Place Leg
-placeFor has cover must read show put =
+abbrev pub place_for : (Group → Bool) → List Pattern → Bool → (Group → Leg → Read Leg) → (Leg → List Group) → (Leg → Leg → Leg) → Place Leg
+place_for has cover must read show put =
     record { has = has; cover = cover; spoken = cover; most = 1; must = must; ends = false; read = λ k g r. read g r; show = show; put = put }
 
-abbrev pub ofBody : Place Body → Place Leg
-ofBody p = lift (λ (r : Leg). r.body) setBody p
+abbrev pub of_body : Place Body → Place Leg
+of_body p = lift (λ (r : Leg). r.body) set_body p
 
 abbrev pub word : String → Group → Bool
-word w g = hasPattern g (bytes w)
+word w g = has_pattern g (bytes w)
 
 abbrev pub onto : {A : Type 0} → Read A → (A → Leg → Leg) → Leg → Read Leg
 onto x f r = then x (λ a. Good (f a r))
 
 -- ---- AMD and COR
 
-abbrev pub isCorrection : Group → Bool
-isCorrection g = word "AMD" g || word "COR" g
+abbrev pub is_correction : Group → Bool
+is_correction g = word "AMD" g || word "COR" g
 
-abbrev pub correctionOf : Group → Correction
-correctionOf g = cond (word "AMD" g) correction.Amended correction.Corrected
+abbrev pub correction_of : Group → Correction
+correction_of g = cond (word "AMD" g) correction.Amended correction.Corrected
 
-abbrev pub showCorrection : Correction → List Group
-showCorrection correction.None = []
-showCorrection correction.Amended = bytes "AMD" ∷ []
-showCorrection correction.Corrected = bytes "COR" ∷ []
+abbrev pub show_correction : Correction → List Group
+show_correction correction.None = []
+show_correction correction.Amended = bytes "AMD" ∷ []
+show_correction correction.Corrected = bytes "COR" ∷ []
 
 -- ---- periods: YYGG/YYGG, Y1Y1G1G1G2G2, GGGeGe
 
 -- the report's own
-abbrev pub ownForm : Edition → Form
-ownForm edition.Present = form.BothDays
-ownForm edition.Of2005 = form.FirstDay
+abbrev pub own_form : Edition → Form
+own_form edition.Present = form.BothDays
+own_form edition.Of2005 = form.FirstDay
 
 -- a change's
-abbrev pub changeForm : Edition → Form
-changeForm edition.Present = form.BothDays
-changeForm edition.Of2005 = form.NoDay
+abbrev pub change_form : Edition → Form
+change_form edition.Present = form.BothDays
+change_form edition.Of2005 = form.NoDay
 
-abbrev pub periodShape : Form → Pattern
-periodShape form.BothDays = bytes "####/####"
-periodShape form.FirstDay = bytes "######"
-periodShape form.NoDay = bytes "####"
+abbrev pub period_shape : Form → Pattern
+period_shape form.BothDays = bytes "####/####"
+period_shape form.FirstDay = bytes "######"
+period_shape form.NoDay = bytes "####"
 
 -- "Days 01-31, .. end hours 00-24, others 00-23."; in the 2005 edition "G2 01 to 24, or 51 to 74", "Ge 01 to 24"
-abbrev pub isEndHour : Form → ℕ → Bool
-isEndHour form.BothDays h = leb h 24
-isEndHour form.FirstDay h = between 1 24 h || between 51 74 h
-isEndHour form.NoDay h = between 1 24 h
+abbrev pub is_end_hour : Form → ℕ → Bool
+is_end_hour form.BothDays h = leb h 24
+is_end_hour form.FirstDay h = between 1 24 h || between 51 74 h
+is_end_hour form.NoDay h = between 1 24 h
 
-abbrev pub hourOf : ℕ → ℕ → Instant
-hourOf d h = record { day = number.Is d; hour = number.Is h; minute = number.Missing }
+abbrev pub hour_of : ℕ → ℕ → Instant
+hour_of d h = record { day = number.Is d; hour = number.Is h; minute = number.Missing }
 
 -- without its day
-abbrev pub hourAlone : ℕ → Instant
-hourAlone h = record { day = number.Missing; hour = number.Is h; minute = number.Missing }
+abbrev pub hour_alone : ℕ → Instant
+hour_alone h = record { day = number.Missing; hour = number.Is h; minute = number.Missing }
 
-unfoldable pub readPeriod : Form → Group → Read Period
-readPeriod form.BothDays g =
+unfoldable pub read_period : Form → Group → Read Period
+read_period form.BothDays g =
     figured (field_at g 0 2)
     (λ d. figured (field_at g 2 2)
     (λ h. figured (field_at g 5 2)
     (λ e. figured (field_at g 7 2)
-    (λ k. provided (isDay d && isHour h && isDay e && isEndHour form.BothDays k) (Good (record { from = hourOf d h; to = hourOf e k }))))))
-readPeriod form.FirstDay g =
+    (λ k. provided (is_day d && is_hour h && is_day e && is_end_hour form.BothDays k) (Good (record { from = hour_of d h; to = hour_of e k }))))))
+read_period form.FirstDay g =
     figured (field_at g 0 2)
     (λ d. figured (field_at g 2 2)
     (λ h. figured (field_at g 4 2)
-    (λ k. provided (isDay d && isHour h && isEndHour form.FirstDay k) (Good (record { from = hourOf d h; to = hourAlone k })))))
-readPeriod form.NoDay g =
+    (λ k. provided (is_day d && is_hour h && is_end_hour form.FirstDay k) (Good (record { from = hour_of d h; to = hour_alone k })))))
+read_period form.NoDay g =
     figured (field_at g 0 2)
     (λ h. figured (field_at g 2 2)
-    (λ k. provided (isHour h && isEndHour form.NoDay k) (Good (record { from = hourAlone h; to = hourAlone k }))))
+    (λ k. provided (is_hour h && is_end_hour form.NoDay k) (Good (record { from = hour_alone h; to = hour_alone k }))))
 
-abbrev pub showHour : Instant → List ℕ
-showHour t = fieldText 2 (field_of t.day) ++ fieldText 2 (field_of t.hour)
+abbrev pub show_hour : Instant → List ℕ
+show_hour t = field_text 2 (field_of t.day) ++ field_text 2 (field_of t.hour)
 
-abbrev pub showHourAlone : Instant → List ℕ
-showHourAlone t = fieldText 2 (field_of t.hour)
+abbrev pub show_hour_alone : Instant → List ℕ
+show_hour_alone t = field_text 2 (field_of t.hour)
 
-unfoldable pub showPeriod : Form → Period → Group
-showPeriod form.BothDays p = showHour p.from ++ bytes "/" ++ showHour p.to
-showPeriod form.FirstDay p = showHour p.from ++ showHourAlone p.to
-showPeriod form.NoDay p = showHourAlone p.from ++ showHourAlone p.to
+unfoldable pub show_period : Form → Period → Group
+show_period form.BothDays p = show_hour p.from ++ bytes "/" ++ show_hour p.to
+show_period form.FirstDay p = show_hour p.from ++ show_hour_alone p.to
+show_period form.NoDay p = show_hour_alone p.from ++ show_hour_alone p.to
 
 -- a NIL report has none
-abbrev pub periodPlace : Form → Place Leg
-periodPlace f =
-    placeFor (λ g. hasPattern g (periodShape f)) (periodShape f ∷ []) true (λ g r. onto (readPeriod f g) setPeriod r)
-    (λ r. cond r.nil [] (showPeriod f r.period ∷ [])) (λ r acc. setPeriod r.period acc)
+abbrev pub period_place : Form → Place Leg
+period_place f =
+    place_for (λ g. has_pattern g (period_shape f)) (period_shape f ∷ []) true (λ g r. onto (read_period f g) set_period r)
+    (λ r. cond r.nil [] (show_period f r.period ∷ [])) (λ r acc. set_period r.period acc)
 
 -- ---- the rows
 
 unfoldable pub row : Edition → Part → List (Place Leg)
 row e w =
-    open_in (isMain w) (placeFor (word "TAF") (bytes "TAF" ∷ []) true (λ g r. Good r) (λ r. bytes "TAF" ∷ []) (λ r acc. acc))
-    ∷ open_in (isMain w) (placeFor isCorrection (bytes "AMD" ∷ bytes "COR" ∷ []) false (λ g r. Good (setCorrection (correctionOf g) r))
-    (λ r. showCorrection r.correction) (λ r acc. setCorrection r.correction acc))
-    ∷ open_in (isMain w) (lift (λ (r : Leg). r.station) setStation stationPlace)
-    ∷ open_in (isMain w) (lift (λ (r : Leg). r.time) setTime timePlace)
-    ∷ open_in (isMain w) (lift (λ (r : Leg). r.nil) setNil (wordPlace "NIL" true))
-    ∷ open_in (isMain w) (periodPlace (ownForm e))
-    ∷ open_in (isChanging w) (periodPlace (changeForm e))
-    ∷ open_in (isMain w) (lift (λ (r : Leg). r.cancelled) setCancelled (wordPlace "CNL" true))
-    ∷ ofBody (windPlace (forecastIn w))
-    ∷ ofBody (visibilityPlace (forecastIn w))
-    ∷ ofBody (weatherPlace (forecastIn w))
-    ∷ ofBody (skyPlace (forecastIn w))
+    open_in (is_main w) (place_for (word "TAF") (bytes "TAF" ∷ []) true (λ g r. Good r) (λ r. bytes "TAF" ∷ []) (λ r acc. acc))
+    ∷ open_in (is_main w) (place_for is_correction (bytes "AMD" ∷ bytes "COR" ∷ []) false (λ g r. Good (set_correction (correction_of g) r))
+    (λ r. show_correction r.correction) (λ r acc. set_correction r.correction acc))
+    ∷ open_in (is_main w) (lift (λ (r : Leg). r.station) set_station station_place)
+    ∷ open_in (is_main w) (lift (λ (r : Leg). r.time) set_time time_place)
+    ∷ open_in (is_main w) (lift (λ (r : Leg). r.nil) set_nil (word_place "NIL" true))
+    ∷ open_in (is_main w) (period_place (own_form e))
+    ∷ open_in (is_changing w) (period_place (change_form e))
+    ∷ open_in (is_main w) (lift (λ (r : Leg). r.cancelled) set_cancelled (word_place "CNL" true))
+    ∷ of_body (wind_place (forecast_in w))
+    ∷ of_body (visibility_place (forecast_in w))
+    ∷ of_body (weather_place (forecast_in w))
+    ∷ of_body (sky_place (forecast_in w))
     ∷ []
 
 -- FMYYGGgg, FMGGgg
-abbrev pub fromShape : Edition → Pattern
-fromShape edition.Present = bytes "FM######"
-fromShape edition.Of2005 = bytes "FM####"
+abbrev pub from_shape : Edition → Pattern
+from_shape edition.Present = bytes "FM######"
+from_shape edition.Of2005 = bytes "FM####"
 
 -- "BECMG, TEMPO, PROB30, PROB40, PROB TEMPO, each with YYGG/YYGG, or FMYYGGgg. A change group opens a body and a body runs to the next change group."
-unfoldable pub changeWords : Edition → List Pattern
-changeWords e = bytes "BECMG" ∷ bytes "TEMPO" ∷ bytes "PROB##" ∷ fromShape e ∷ []
+unfoldable pub change_words : Edition → List Pattern
+change_words e = bytes "BECMG" ∷ bytes "TEMPO" ∷ bytes "PROB##" ∷ from_shape e ∷ []

@@ -1,9 +1,9 @@
 // What a part's row has, in the code's words: which places have a group's shape, how many may and must stand, and which place a group goes to.
 ghost use Rattle.std.specs.Prelude.{◌≡◌, cond, ◌&&◌, drop};
-ghost use Rattle.shapes.specs.Pattern.{hasPattern, hasAny};
-ghost use Rattle.places.specs.Seek.{answers, fitFrom, findOf};
-ghost use Rattle.places.specs.Engine.{placeAt, standsOf};
-ghost use Rattle.taf_row.specs.Row.{isMain, is_whole, isChanging, isCorrection, ownForm, changeForm, periodShape, isEndHour, fromShape, row, changeWords};
+ghost use Rattle.shapes.specs.Pattern.{has_pattern, has_any};
+ghost use Rattle.places.specs.Seek.{answers, fit_from, find_of};
+ghost use Rattle.places.specs.Engine.{place_at, stands_of};
+ghost use Rattle.taf_row.specs.Row.{is_main, is_whole, is_changing, is_correction, own_form, change_form, period_shape, is_end_hour, from_shape, row, change_words};
 ghost use Rattle.taf_row.specs.Tests.{HasAt, Mosts, Musts, Onward};
 
 use crate::kinds::{Form, Part};
@@ -17,7 +17,7 @@ use text::anew;
 use wind::read::{has_visibility, has_wind};
 
 pub fn is_main(part: Part) -> bool
-    ensures { result ≡ isMain part }
+    ensures { result ≡ is_main part }
 {
     match part {
         Part::Main => true,
@@ -38,7 +38,7 @@ pub fn is_whole(part: Part) -> bool
 }
 
 fn is_changing(part: Part) -> bool
-    ensures { result ≡ isChanging part }
+    ensures { result ≡ is_changing part }
 {
     match part {
         Part::Main => false,
@@ -51,7 +51,7 @@ fn is_changing(part: Part) -> bool
 
 // The report's own period.
 pub fn own_form(edition: Edition) -> Form
-    ensures { result ≡ ownForm edition }
+    ensures { result ≡ own_form edition }
 {
     match edition {
         Edition::Present => Form::BothDays,
@@ -61,7 +61,7 @@ pub fn own_form(edition: Edition) -> Form
 
 // A change's period.
 pub fn change_form(edition: Edition) -> Form
-    ensures { result ≡ changeForm edition }
+    ensures { result ≡ change_form edition }
 {
     match edition {
         Edition::Present => Form::BothDays,
@@ -70,7 +70,7 @@ pub fn change_form(edition: Edition) -> Form
 }
 
 fn is_period(form: Form, g: &[u8]) -> bool
-    ensures { result ≡ hasPattern g.now (periodShape form) }
+    ensures { result ≡ has_pattern g.now (period_shape form) }
 {
     match form {
         Form::BothDays => has_pattern(g, b"####/####"),
@@ -81,7 +81,7 @@ fn is_period(form: Form, g: &[u8]) -> bool
 
 // May a period of this form end at the hour? In the 2005 edition 50 is added where it lasts 25 to 48 hours.
 pub fn is_end_hour(form: Form, hour: u32) -> bool
-    ensures { result ≡ isEndHour form hour }
+    ensures { result ≡ is_end_hour form hour }
 {
     match form {
         Form::BothDays => hour <= 24,
@@ -92,7 +92,7 @@ pub fn is_end_hour(form: Form, hour: u32) -> bool
 
 // FMYYGGgg or FMGGgg
 fn is_from(edition: Edition, g: &[u8]) -> bool
-    ensures { result ≡ hasPattern g.now (fromShape edition) }
+    ensures { result ≡ has_pattern g.now (from_shape edition) }
 {
     match edition {
         Edition::Present => has_pattern(g, b"FM######"),
@@ -103,7 +103,7 @@ fn is_from(edition: Edition, g: &[u8]) -> bool
 // ---- the row
 
 fn is_correction(g: &[u8]) -> bool
-    ensures { result ≡ isCorrection g.now }
+    ensures { result ≡ is_correction g.now }
 {
     let amended = has_pattern(g, b"AMD");
     let corrected = has_pattern(g, b"COR");
@@ -111,7 +111,7 @@ fn is_correction(g: &[u8]) -> bool
 }
 
 pub fn is_change_word(edition: Edition, g: &[u8]) -> bool
-    ensures { result ≡ hasAny (changeWords edition) g.now }
+    ensures { result ≡ has_any (change_words edition) g.now }
 {
     let becoming = has_pattern(g, b"BECMG");
     let temporary = has_pattern(g, b"TEMPO");
@@ -173,7 +173,7 @@ pub fn musts(part: Part) -> [bool; 12]
 
 // May this place, where `count` groups stand, answer for the group, and has it the group's shape? A shape is asked for only where it may.
 fn is_fit(edition: Edition, part: Part, all: bool, place: usize, count: usize, g: &[u8]) -> bool
-    ensures { result ≡ (answers all count (placeAt (row edition part) place).most && (placeAt (row edition part) place).has g.now) }
+    ensures { result ≡ (answers all count (place_at (row edition part) place).most && (place_at (row edition part) place).has g.now) }
 {
     let most = mosts(part);
     if may_answer(all, count, most_at(&most, place)) {
@@ -185,7 +185,7 @@ fn is_fit(edition: Edition, part: Part, all: bool, place: usize, count: usize, g
 
 // The first such place from `place` on.
 fn fit_from(edition: Edition, part: Part, all: bool, place: usize, count: usize, g: &[u8]) -> usize
-    ensures { result ≡ fitFrom all place count (drop place (standsOf (row edition part) g.now)) }
+    ensures { result ≡ fit_from all place count (drop place (stands_of (row edition part) g.now)) }
 {
     let group = anew(g);
     let mut i = place;
@@ -202,7 +202,7 @@ fn fit_from(edition: Edition, part: Part, all: bool, place: usize, count: usize,
 
 // The place that the group goes to.
 pub fn find(edition: Edition, part: Part, place: usize, count: usize, g: &[u8]) -> Found
-    ensures { result ≡ findOf (standsOf (row edition part) g.now) place count }
+    ensures { result ≡ find_of (stands_of (row edition part) g.now) place count }
 {
     let fit = fit_from(edition, part, false, place, count, g);
     if fit < 12 {

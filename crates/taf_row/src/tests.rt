@@ -1,6 +1,6 @@
 // What decides at a group or at a part's end: whether TEMPO belongs to PROB, whether a part is whole, whether there is room for one change more.
 ghost use Rattle.std.specs.Prelude.{◌≡◌};
-ghost use Rattle.taf_row.specs.Tests.{isProbable, joins, Owes, isFull};
+ghost use Rattle.taf_row.specs.Tests.{is_probable, joins, Owes, is_full};
 
 use crate::kinds::Part;
 use crate::row::{is_main, musts};
@@ -11,7 +11,7 @@ use shapes::has_pattern;
 // ---- at a group
 
 fn is_probable(opening: Opening) -> bool
-    ensures { result ≡ isProbable opening }
+    ensures { result ≡ is_probable opening }
 {
     match opening {
         Opening::None => false,
@@ -48,7 +48,7 @@ pub fn owes(part: Part, place: usize, count: usize, r: Leg) -> bool
 
 // There is no room for one change more.
 pub fn is_full(changes: usize) -> bool
-    ensures { result ≡ isFull changes }
+    ensures { result ≡ is_full changes }
 {
     16 <= changes
 }

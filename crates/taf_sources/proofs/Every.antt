@@ -7,8 +7,8 @@ use mathlib.Core.Path.{◌≡◌, refl, sym, ap, subst}
 use mathlib.Core.Bool.{Bool, true, false, cond, false≢true}
 use mathlib.Core.List.{List}
 use lib.ListN.{length}
-use Rattle.text.specs.Groups.{groupsFrom}
-use Rattle.text.specs.Text.{tailOf}
+use Rattle.text.specs.Groups.{groups_from}
+use Rattle.text.specs.Text.{tail_of}
 use Rattle.places.specs.Engine.{Place, Done}
 use Rattle.record.specs.declared.aerodrome.Opening.{Opening}
 use Rattle.record.specs.declared.aerodrome.Opening.TheVariants as opening
@@ -17,11 +17,11 @@ use Rattle.record.specs.declared.aerodrome.Edition.{Edition}
 use Rattle.record.specs.declared.aerodrome.Taf.{Taf}
 use Rattle.taf_row.specs.declared.kinds.Part.{Part}
 use Rattle.taf_row.specs.declared.kinds.Part.TheVariants as part
-use Rattle.taf_row.specs.Row.{isMain, isChanging, row}
-use Rattle.taf.specs.Read.{part_of, groupsRead}
+use Rattle.taf_row.specs.Row.{is_main, is_changing, row}
+use Rattle.taf.specs.Read.{part_of, groups_read}
 use Rattle.sources.specs.declared.kinds.Spot.{Spot}
 use Rattle.sources.specs.declared.kinds.Spot.TheVariants as spot
-use Rattle.sources.specs.Trail.{originIn, source_of}
+use Rattle.sources.specs.Trail.{origin_in, source_of}
 use Rattle.sources.proofs.Fields.{◌&◌, Rows, row_at}
 use Rattle.sources.proofs.Own.{EachTaken, each_map}
 use Rattle.sources.proofs.Every.{PlaceIs, SpotIs, MayHave, report-each, EachBefore, ItemSource, all-sources}
@@ -29,10 +29,10 @@ use Rattle.taf_sources.specs.declared.kinds.Element.{Element}
 use Rattle.taf_sources.specs.declared.kinds.Element.TheVariants as element
 use Rattle.taf_sources.specs.declared.kinds.ChangeElement.{ChangeElement}
 use Rattle.taf_sources.specs.declared.kinds.ChangeElement.TheVariants as change
-use Rattle.taf_sources.specs.Trail.{route, trailOf}
+use Rattle.taf_sources.specs.Trail.{route, trail_of}
 use Rattle.taf_sources.specs.Items as main
 use Rattle.taf_sources.specs.Changes as changed
-use Rattle.taf_sources.proofs.Sources.{coming, begun, mainLacks, takes, lacks, went, walked, trail-covers, trail-own}
+use Rattle.taf_sources.proofs.Sources.{coming, begun, main_lacks, takes, lacks, went, walked, trail-covers, trail-own}
 
 -- THE SPOTS OF THE ITEMS, of which `leg-source`, `change-source`, `opening-source` and `joined-source` speak: in part 0 those of the main part; in parts 1 to 16
 -- those of a change, its word, and TEMPO after PROB30 or PROB40.
@@ -79,17 +79,17 @@ module _ (q : ℕ) (some : 0 < q) (within : q < 17) where
   ChangedAt = PlaceIs (λ i n. IsItem q (spot.At i n))
 
   -- the head is closed in a change, and its period under FM
-  changed-rows : (e : Edition) (w : Part) → isMain w ≡ false → Rows ChangedAt 0 (row e w)
+  changed-rows : (e : Edition) (w : Part) → is_main w ≡ false → Rows ChangedAt 0 (row e w)
   unfolding row
   changed-rows e w closed =
-      (λ n g a a' few is. absurd (none-closed (isMain w) n closed few))
-      & (λ n g a a' few is. absurd (none-closed (isMain w) n closed few))
-      & (λ n g a a' few is. absurd (none-closed (isMain w) n closed few))
-      & (λ n g a a' few is. absurd (none-closed (isMain w) n closed few))
-      & (λ n g a a' few is. absurd (none-closed (isMain w) n closed few))
-      & (λ n g a a' few is. absurd (none-closed (isMain w) n closed few))
-      & (λ n g a a' few is. of-change some within change.Period (one-open (isChanging w) n few))
-      & (λ n g a a' few is. absurd (none-closed (isMain w) n closed few))
+      (λ n g a a' few is. absurd (none-closed (is_main w) n closed few))
+      & (λ n g a a' few is. absurd (none-closed (is_main w) n closed few))
+      & (λ n g a a' few is. absurd (none-closed (is_main w) n closed few))
+      & (λ n g a a' few is. absurd (none-closed (is_main w) n closed few))
+      & (λ n g a a' few is. absurd (none-closed (is_main w) n closed few))
+      & (λ n g a a' few is. absurd (none-closed (is_main w) n closed few))
+      & (λ n g a a' few is. of-change some within change.Period (one-open (is_changing w) n few))
+      & (λ n g a a' few is. absurd (none-closed (is_main w) n closed few))
       & (λ n g a a' few is. of-change some within change.Wind few)
       & (λ n g a a' few is. of-change some within change.Visibility few)
       & (λ n g a a' few is. of-change some within change.Weather few)
@@ -97,7 +97,7 @@ module _ (q : ℕ) (some : 0 < q) (within : q < 17) where
       & tt
 
 -- no word opens the main part
-opens-change : (o : Opening) → isMain (part_of o) ≡ false
+opens-change : (o : Opening) → is_main (part_of o) ≡ false
 opens-change opening.None = refl
 opens-change opening.Becoming = refl
 opens-change opening.Temporary = refl
@@ -118,16 +118,16 @@ all-items e =
     }
 
 -- EACH GROUP OF THE TRAIL WAS TAKEN AT THE SPOT OF AN ITEM.
-pub trail-items : (e : Edition) (t : List ℕ) (rest : ℕ) (r : Taf) → groupsRead e (tailOf t) (length t) (groupsFrom t 0) ≡ Done rest r
-    → EachTaken (SpotIs IsItem) (trailOf e t)
-unfolding groupsRead
+pub trail-items : (e : Edition) (t : List ℕ) (rest : ℕ) (r : Taf) → groups_read e (tail_of t) (length t) (groups_from t 0) ≡ Done rest r
+    → EachTaken (SpotIs IsItem) (trail_of e t)
+unfolding groups_read
 trail-items e t rest r reads =
     subst (EachTaken (SpotIs IsItem)) (sym (walked e t rest r reads))
-    (report-each (route e) (coming e) (begun e) mainLacks takes lacks (tailOf t) (length t) rest r (all-items e) (went e t rest r reads) reads)
+    (report-each (route e) (coming e) (begun e) main_lacks takes lacks (tail_of t) (length t) rest r (all-items e) (went e t rest r reads) reads)
 
 -- EVERY GROUP THAT BEGINS BEFORE THE UNREAD REST IS THE SOURCE OF AN ITEM.
-pub every-source : (e : Edition) (t : List ℕ) (rest : ℕ) (r : Taf) → groupsRead e (tailOf t) (length t) (groupsFrom t 0) ≡ Done rest r
-    → EachBefore rest (ItemSource IsItem (λ q s. source_of (originIn q s (trailOf e t)))) (groupsFrom t 0)
+pub every-source : (e : Edition) (t : List ℕ) (rest : ℕ) (r : Taf) → groups_read e (tail_of t) (length t) (groups_from t 0) ≡ Done rest r
+    → EachBefore rest (ItemSource IsItem (λ q s. source_of (origin_in q s (trail_of e t)))) (groups_from t 0)
 every-source e t rest r reads =
-    all-sources IsItem (λ q s. source_of (originIn q s (trailOf e t))) t (trailOf e t) (trail-covers e t rest r reads) (trail-items e t rest r reads)
-    (each_map (λ x is. ap source_of is) (trailOf e t) (trail-own e t rest r reads))
+    all-sources IsItem (λ q s. source_of (origin_in q s (trail_of e t))) t (trail_of e t) (trail-covers e t rest r reads) (trail-items e t rest r reads)
+    (each_map (λ x is. ap source_of is) (trail_of e t) (trail-own e t rest r reads))

@@ -22,10 +22,10 @@ use Rattle.sources.specs.declared.kinds.Spot.{Spot}
 use Rattle.sources.specs.declared.kinds.Spot.TheVariants as spot
 use Rattle.sources.specs.declared.kinds.Source.{Source}
 use Rattle.sources.specs.declared.kinds.Source.TheVariants as source
-use Rattle.sources.specs.Trail.{originIn, source_of}
+use Rattle.sources.specs.Trail.{origin_in, source_of}
 use Rattle.sources.specs.Trail as trails
 use Rattle.sources.specs.Route as routes
-use Rattle.taf_sources.specs.Trail.{trailOf}
+use Rattle.taf_sources.specs.Trail.{trail_of}
 use Rattle.taf_sources.specs.Trail as walk
 
 -- a spot of a part, and the group that was taken there, from its first byte up to the one behind its last
@@ -41,7 +41,7 @@ abbrev none : ℕ → Spot → Example
 none part s = record { part = part; spot = s; source = source.None }
 
 abbrev found : Edition → String → Example → Source
-found e t x = source_of (originIn x.part x.spot (trailOf e (bytes t)))
+found e t x = source_of (origin_in x.part x.spot (trail_of e (bytes t)))
 
 -- "TEMPO at once after PROB30" belongs to that word; under FM there is no group for a period
 abbrev pub present : List Example
@@ -81,14 +81,14 @@ pub worked : Worked edition.Present "TAF LEMD 011100Z 0112/0212 27010KT CAVOK PR
     × Worked edition.Of2005 "TAF LEMD 011100Z 011262 27010KT CAVOK BECMG 1214 4000 FM2000 20005KT CAVOK=" of-2005
 unfolding figures.figures figures.scan figures.field_at
     quoted.lead
-    groups.groupsIn groups.groupsFrom groups.pastParting
-    text.equalsAt
-    pattern.low pattern.high pattern.fits pattern.hasPattern pattern.hasAny
-    shape.leading shape.split shape.parts_of shape.begins shape.value_of shape.pick_of shape.scanParts shape.answered shape.scanOf shape.hasShape shape.spellings
-    seek.seek seek.anywhere seek.findOf
-    turn.turnAt
-    weather.codes_of weather.areCodes weather.signedCodes weather.hasWeather
-    row.row row.changeWords
-    read.openedBy
-    trails.trail trails.originIn routes.move_on walk.wordMove walk.trailOf
+    groups.groups_in groups.groups_from groups.past_parting
+    text.equals_at
+    pattern.low pattern.high pattern.fits pattern.has_pattern pattern.has_any
+    shape.leading shape.split shape.parts_of shape.begins shape.value_of shape.pick_of shape.scan_parts shape.answered shape.scan_of shape.has_shape shape.spellings
+    seek.seek seek.anywhere seek.find_of
+    turn.turn_at
+    weather.codes_of weather.are_codes weather.signed_codes weather.has_weather
+    row.row row.change_words
+    read.opened_by
+    trails.trail trails.origin_in routes.move_on walk.word_move walk.trail_of
 worked = (refl, refl)

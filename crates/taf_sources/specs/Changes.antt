@@ -11,29 +11,29 @@ use Rattle.record.specs.declared.aerodrome.Visibility.{Visibility}
 use Rattle.record.specs.declared.aerodrome.Change.{Change}
 use Rattle.record.specs.declared.aerodrome.Edition.{Edition}
 use Rattle.record.specs.declared.aerodrome.Taf.{Taf}
-use Rattle.record.specs.Taf.{blankPeriod, blankLeg, blankChange, setPeriod}
-use Rattle.taf_row.specs.Row.{word, changeForm, readPeriod}
-use Rattle.taf.specs.Read.{openedBy}
-use Rattle.body_sources.specs.Items.{WindSaid, VisibilitySaid, WeatherItem, weatherAt, WeatherSaid, SkyItem, skyAt, SkySaid}
+use Rattle.record.specs.Taf.{blank_period, blank_leg, blank_change, set_period}
+use Rattle.taf_row.specs.Row.{word, change_form, read_period}
+use Rattle.taf.specs.Read.{opened_by}
+use Rattle.body_sources.specs.Items.{WindSaid, VisibilitySaid, WeatherItem, weather_at, WeatherSaid, SkyItem, sky_at, SkySaid}
 use Rattle.taf_sources.specs.declared.kinds.ChangeElement.{ChangeElement}
 use Rattle.taf_sources.specs.declared.kinds.ChangeElement.TheVariants as element
 
 -- ---- which group says a change's period: "BECMG, TEMPO, PROB30, PROB40, PROB TEMPO, each with YYGG/YYGG, or FMYYGGgg"
 
-abbrev pub isFrom : Opening → Bool
-isFrom opening.None = false
-isFrom opening.Becoming = false
-isFrom opening.Temporary = false
-isFrom (opening.Probable n) = false
-isFrom (opening.ProbablyTemporary n) = false
-isFrom opening.From = true
+abbrev pub is_from : Opening → Bool
+is_from opening.None = false
+is_from opening.Becoming = false
+is_from opening.Temporary = false
+is_from (opening.Probable n) = false
+is_from (opening.ProbablyTemporary n) = false
+is_from opening.From = true
 
 -- a group of its own; or FM, the word
-abbrev pub periodOf : Change → Period
-periodOf c = cond (isFrom c.opening) blankPeriod c.period
+abbrev pub period_of : Change → Period
+period_of c = cond (is_from c.opening) blank_period c.period
 
-abbrev pub beginningOf : Change → Period
-beginningOf c = cond (isFrom c.opening) c.period blankPeriod
+abbrev pub beginning_of : Change → Period
+beginning_of c = cond (is_from c.opening) c.period blank_period
 
 -- ---- the items at the places of its row
 
@@ -58,23 +58,23 @@ Value element.Visibility = Visibility
 Value element.Weather = WeatherItem
 Value element.Clouds = SkyItem
 
-abbrev pub valueIn : (e : ChangeElement) → ℕ → Change → Value e
-valueIn element.Period k c = periodOf c
-valueIn element.Wind k c = c.body.wind
-valueIn element.Visibility k c = c.body.visibility
-valueIn element.Weather k c = weatherAt k c.body
-valueIn element.Clouds k c = skyAt k c.body
+abbrev pub value_in : (e : ChangeElement) → ℕ → Change → Value e
+value_in element.Period k c = period_of c
+value_in element.Wind k c = c.body.wind
+value_in element.Visibility k c = c.body.visibility
+value_in element.Weather k c = weather_at k c.body
+value_in element.Clouds k c = sky_at k c.body
 
 abbrev pub Said : Edition → (e : ChangeElement) → Group → Value e → Type 0
-Said x element.Period g v = readPeriod (changeForm x) g ≡ Good v
+Said x element.Period g v = read_period (change_form x) g ≡ Good v
 Said x element.Wind g v = WindSaid true g v
 Said x element.Visibility g v = VisibilitySaid true g v
 Said x element.Weather g v = WeatherSaid true g v
 Said x element.Clouds g v = SkySaid true g v
 
 -- the change that part q of a report is, 1 to 16
-abbrev pub changeAt : ℕ → Taf → Change
-changeAt q r = get_or r.changes.items (q - 1) blankChange
+abbrev pub change_at : ℕ → Taf → Change
+change_at q r = get_or r.changes.items (q - 1) blank_change
 
 -- ---- the word that opened part q, and TEMPO where it belongs to that word
 
@@ -88,13 +88,13 @@ first_word (opening.ProbablyTemporary n) = opening.Probable n
 first_word opening.From = opening.From
 
 -- whether TEMPO belongs to it
-abbrev pub isJoined : Opening → Bool
-isJoined opening.None = false
-isJoined opening.Becoming = false
-isJoined opening.Temporary = false
-isJoined (opening.Probable n) = false
-isJoined (opening.ProbablyTemporary n) = true
-isJoined opening.From = false
+abbrev pub is_joined : Opening → Bool
+is_joined opening.None = false
+is_joined opening.Becoming = false
+is_joined opening.Temporary = false
+is_joined (opening.Probable n) = false
+is_joined (opening.ProbablyTemporary n) = true
+is_joined opening.From = false
 
 -- the word, and the time of FM
 pub record WordItem : Type 0 where
@@ -102,14 +102,14 @@ pub record WordItem : Type 0 where
   pub begins : Period
 
 abbrev pub word_of : Change → WordItem
-word_of c = record { opening = first_word c.opening; begins = beginningOf c }
+word_of c = record { opening = first_word c.opening; begins = beginning_of c }
 
 abbrev pub no_word : WordItem
-no_word = record { opening = opening.None; begins = blankPeriod }
+no_word = record { opening = opening.None; begins = blank_period }
 
 -- what the word's definition says of its bytes: it opens such a change, of which no more is known than when it begins
 abbrev pub WordSaid : Edition → Group → WordItem → Type 0
-WordSaid x g v = openedBy x g ≡ Good (record { kind = v.opening; start = setPeriod v.begins blankLeg })
+WordSaid x g v = opened_by x g ≡ Good (record { kind = v.opening; start = set_period v.begins blank_leg })
 
 -- TEMPO is a word: that it stands there is all it says
 pub record TempoSaid (g : Group) (v : Bool) : Type 0 where

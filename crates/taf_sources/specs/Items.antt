@@ -11,9 +11,9 @@ use Rattle.record.specs.declared.aerodrome.Wind.{Wind}
 use Rattle.record.specs.declared.aerodrome.Visibility.{Visibility}
 use Rattle.record.specs.declared.aerodrome.Leg.{Leg}
 use Rattle.record.specs.declared.aerodrome.Edition.{Edition}
-use Rattle.aerodrome_groups.specs.Head.{stationOf, readTime}
-use Rattle.taf_row.specs.Row.{word, correctionOf, ownForm, readPeriod}
-use Rattle.body_sources.specs.Items.{WindSaid, VisibilitySaid, WeatherItem, weatherAt, WeatherSaid, SkyItem, skyAt, SkySaid}
+use Rattle.aerodrome_groups.specs.Head.{station_of, read_time}
+use Rattle.taf_row.specs.Row.{word, correction_of, own_form, read_period}
+use Rattle.body_sources.specs.Items.{WindSaid, VisibilitySaid, WeatherItem, weather_at, WeatherSaid, SkyItem, sky_at, SkySaid}
 use Rattle.taf_sources.specs.declared.kinds.Element.{Element}
 use Rattle.taf_sources.specs.declared.kinds.Element.TheVariants as element
 
@@ -68,17 +68,17 @@ value_of element.Period k r = r.period
 value_of element.Cancelled k r = r.cancelled
 value_of element.Wind k r = r.body.wind
 value_of element.Visibility k r = r.body.visibility
-value_of element.Weather k r = weatherAt k r.body
-value_of element.Clouds k r = skyAt k r.body
+value_of element.Weather k r = weather_at k r.body
+value_of element.Clouds k r = sky_at k r.body
 
 -- WHAT THE DEFINITION OF THE GROUP SAYS OF ITS BYTES, in an edition. NIL and CNL are words: that the group stands is all they say.
 abbrev pub Said : Edition → (e : Element) → Group → Value e → Type 0
 Said x element.Name g v = word "TAF" g ≡ true
-Said x element.Correction g v = v ≡ correctionOf g
-Said x element.Station g v = v ≡ stationOf g
-Said x element.Time g v = readTime g ≡ Good v
+Said x element.Correction g v = v ≡ correction_of g
+Said x element.Station g v = v ≡ station_of g
+Said x element.Time g v = read_time g ≡ Good v
 Said x element.Nil g v = v ≡ true
-Said x element.Period g v = readPeriod (ownForm x) g ≡ Good v
+Said x element.Period g v = read_period (own_form x) g ≡ Good v
 Said x element.Cancelled g v = v ≡ true
 Said x element.Wind g v = WindSaid true g v
 Said x element.Visibility g v = VisibilitySaid true g v

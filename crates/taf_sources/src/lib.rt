@@ -3,11 +3,11 @@ pub mod kinds;
 
 ghost use Rattle.std.specs.Prelude.{◌≡◌};
 ghost use Rattle.record.specs.declared.aerodrome.Opening.{Opening};
-ghost use Rattle.taf.specs.Read.{afterProbable};
-ghost use Rattle.sources.specs.Trail.{Joins, originIn, source_of};
+ghost use Rattle.taf.specs.Read.{after_probable};
+ghost use Rattle.sources.specs.Trail.{Joins, origin_in, source_of};
 ghost use Rattle.taf_sources.specs.Items as leg;
 ghost use Rattle.taf_sources.specs.Changes as change;
-ghost use Rattle.taf_sources.specs.Trail.{wordMove, trailOf, markAt, rowOf, belongs, metMove, metOf};
+ghost use Rattle.taf_sources.specs.Trail.{word_move, trail_of, mark_at, row_of, belongs, met_move, met_of};
 
 use kinds::{ChangeElement, Element, Met, Step};
 use places::kinds::Turn;
@@ -24,7 +24,7 @@ use text::kinds::Cut;
 
 // The row that a group is held to: of the main part, or of the change that `opener` opened.
 fn row_of(part: usize, opener: Opening) -> Part
-    ensures { result ≡ rowOf part opener }
+    ensures { result ≡ row_of part opener }
 {
     if part == 0 {
         Part::Main
@@ -43,7 +43,7 @@ fn does_belong(part: usize, opener: Opening, place: usize, count: usize, g: &[u8
 
 // PROB30 or PROB40, and TEMPO.
 fn with_tempo(opener: Opening) -> Opening
-    ensures { result ≡ afterProbable opener }
+    ensures { result ≡ after_probable opener }
 {
     match opener {
         Opening::None => Opening::None,
@@ -57,7 +57,7 @@ fn with_tempo(opener: Opening) -> Opening
 
 // A group that belongs to the word before it, from start up to end.
 fn join(opener: Opening, start: usize, end: usize) -> Met
-    ensures { result ≡ metMove opener start end (Joins (afterProbable opener)) }
+    ensures { result ≡ met_move opener start end (Joins (after_probable opener)) }
 {
     let both = with_tempo(opener);
     Met::Group(Step {
@@ -73,7 +73,7 @@ fn join(opener: Opening, start: usize, end: usize) -> Met
 
 // A change word, from start up to end, whatever opened the part before it.
 fn meet_word(edition: Edition, g: &[u8], start: usize, end: usize) -> Met
-    ensures { (o : Opening) → result ≡ metMove o start end (wordMove edition g.now) }
+    ensures { (o : Opening) → result ≡ met_move o start end (word_move edition g.now) }
 {
     let opened = open_change(edition, g);
     match opened {
@@ -100,7 +100,7 @@ fn meet(
     place: usize,
     count: usize,
 ) -> Met
-    ensures { result ≡ metOf edition text.now from (markAt part opener place count) }
+    ensures { result ≡ met_of edition text.now from (mark_at part opener place count) }
 {
     let Cut::Group { start, end } = text::next_group(text, from) else {
         return Met::Over;
@@ -133,7 +133,7 @@ fn meet(
 
 // The group that was taken at a spot of a part, in a text that is accepted as a TAF of that edition.
 pub fn find(edition: Edition, text: &[u8], part: usize, spot: Spot) -> Source
-    ensures { result ≡ source_of (originIn part spot (trailOf edition text.now)) }
+    ensures { result ≡ source_of (origin_in part spot (trail_of edition text.now)) }
 {
     let mut here = 0;
     let mut opener = Opening::None;

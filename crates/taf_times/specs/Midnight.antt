@@ -7,32 +7,32 @@ use Rattle.record.specs.declared.aerodrome.Instant.{Instant}
 use Rattle.record.specs.declared.aerodrome.Period.{Period}
 use Rattle.record.specs.declared.aerodrome.Change.{Change}
 use Rattle.record.specs.declared.aerodrome.Taf.{Taf}
-use Rattle.record.specs.Taf.{setPeriod}
-use Rattle.taf_times.specs.Moments.{dayBefore}
+use Rattle.record.specs.Taf.{set_period}
+use Rattle.taf_times.specs.Moments.{day_before}
 use Rattle.taf_times.specs.Move.{counted}
 
-abbrev pub isHourZero : Number → Bool
-isHourZero number.Missing = false
-isHourZero (number.Is h) = eqb h 0
+abbrev pub is_hour_zero : Number → Bool
+is_hour_zero number.Missing = false
+is_hour_zero (number.Is h) = eqb h 0
 
-abbrev pub theDayBefore : ℕ → Number → Number
-theDayBefore days number.Missing = number.Missing
-theDayBefore days (number.Is d) = number.Is (dayBefore days d)
+abbrev pub the_day_before : ℕ → Number → Number
+the_day_before days number.Missing = number.Missing
+the_day_before days (number.Is d) = number.Is (day_before days d)
 
-abbrev pub endBefore : ℕ → Instant → Instant
-endBefore days t = cond (isHourZero t.hour) (record { day = theDayBefore days t.day; hour = number.Is 24; minute = t.minute }) t
+abbrev pub end_before : ℕ → Instant → Instant
+end_before days t = cond (is_hour_zero t.hour) (record { day = the_day_before days t.day; hour = number.Is 24; minute = t.minute }) t
 
-abbrev pub periodBefore : ℕ → Period → Period
-periodBefore days p = record { from = p.from; to = endBefore days p.to }
+abbrev pub period_before : ℕ → Period → Period
+period_before days p = record { from = p.from; to = end_before days p.to }
 
-abbrev pub changeBefore : ℕ → Change → Change
-changeBefore days c = record { opening = c.opening; period = periodBefore days c.period; body = c.body }
+abbrev pub change_before : ℕ → Change → Change
+change_before days c = record { opening = c.opening; period = period_before days c.period; body = c.body }
 
 -- every end at hour 00 as 24 of the day before, all else as it is
-unfoldable pub midnightsBefore : ℕ → Taf → Taf
-midnightsBefore days t =
+unfoldable pub midnights_before : ℕ → Taf → Taf
+midnights_before days t =
     record {
       edition = t.edition;
-      leg = setPeriod (periodBefore days t.leg.period) t.leg;
-      changes = record { items = map (changeBefore days) (counted t.changes) ++ drop t.changes.count t.changes.items; count = t.changes.count };
+      leg = set_period (period_before days t.leg.period) t.leg;
+      changes = record { items = map (change_before days) (counted t.changes) ++ drop t.changes.count t.changes.items; count = t.changes.count };
     }

@@ -7,8 +7,8 @@ ghost use Rattle.std.specs.Prelude.{◌≡◌, ◌++◌, map, ◌≤◌, take, d
 ghost use Rattle.figures.specs.Figures.{every};
 ghost use Rattle.record.specs.declared.aerodrome.Change.{Change};
 ghost use Rattle.text.specs.declared.kinds.Judged.TheVariants as judged;
-ghost use Rattle.record.specs.Taf.{blankTaf};
-ghost use Rattle.taf_times.specs.Move.{daysIn, monthFits, wholeFits, spanFits, changeOf, whole_of, timesFit, judgeTimes, movedLeg, movedChange, movedChanges, timesIn, movedBy, timesMoved};
+ghost use Rattle.record.specs.Taf.{blank_taf};
+ghost use Rattle.taf_times.specs.Move.{days_in, month_fits, whole_fits, span_fits, change_of, whole_of, times_fit, judge_times, moved_leg, moved_change, moved_changes, times_in, moved_by, times_moved};
 
 use crate::kinds::{MovedTaf, Span};
 use crate::times::{change_in, change_span, is_from, period_in, period_span};
@@ -19,7 +19,7 @@ use text::kinds::{Judged, Refusal};
 // ---- the month
 
 fn days_in(days: u32, p: Period) -> bool
-    ensures { result ≡ daysIn days p }
+    ensures { result ≡ days_in days p }
 {
     let from = p.from;
     let to = p.to;
@@ -30,7 +30,7 @@ fn days_in(days: u32, p: Period) -> bool
 
 // Those of the changes that count.
 fn changes_in(days: u32, items: [Change; 16], count: usize) -> bool
-    ensures { result ≡ every (λ (c : Change). daysIn days c.period) (take count items) }
+    ensures { result ≡ every (λ (c : Change). days_in days c.period) (take count items) }
 {
     let mut i = 0;
     while i < 16 {
@@ -48,7 +48,7 @@ fn changes_in(days: u32, items: [Change; 16], count: usize) -> bool
 }
 
 fn month_fits(days: u32, t: Taf) -> bool
-    ensures { result ≡ monthFits days t }
+    ensures { result ≡ month_fits days t }
 {
     let leg = t.leg;
     let changes = t.changes;
@@ -62,20 +62,20 @@ fn month_fits(days: u32, t: Taf) -> bool
 
 fn whole_fits(w: Span, count: usize) -> bool
     requires { w.from ≤ 200000 }
-    ensures { result ≡ wholeFits w count }
+    ensures { result ≡ whole_fits w count }
 {
     (w.from < w.to) & (w.to <= w.from + 2880) & ((count == 0) | (w.to <= w.from + 1440))
 }
 
 fn span_fits(w: Span, s: Span) -> bool
-    ensures { result ≡ spanFits w s }
+    ensures { result ≡ span_fits w s }
 {
     (s.from < s.to) & (w.from <= s.from) & (s.from < w.to) & (s.to <= w.to)
 }
 
 fn change_of(edition: Edition, days: u32, w: Span, c: Change) -> Span
     requires { (days ≤ 31) × (w.from ≤ 200000) }
-    ensures { result ≡ changeOf edition days w c }
+    ensures { result ≡ change_of edition days w c }
 {
     let opening = c.opening;
     let period = c.period;
@@ -84,7 +84,7 @@ fn change_of(edition: Edition, days: u32, w: Span, c: Change) -> Span
 
 fn changes_fit(edition: Edition, days: u32, w: Span, items: [Change; 16], count: usize) -> bool
     requires { (days ≤ 31) × (w.from ≤ 200000) }
-    ensures { result ≡ every (λ (c : Change). spanFits w (changeOf edition days w c)) (take count items) }
+    ensures { result ≡ every (λ (c : Change). span_fits w (change_of edition days w c)) (take count items) }
 {
     let mut i = 0;
     while i < 16 {
@@ -103,7 +103,7 @@ fn changes_fit(edition: Edition, days: u32, w: Span, items: [Change; 16], count:
 
 fn times_fit(days: u32, t: Taf) -> bool
     requires { days ≤ 31 }
-    ensures { result ≡ timesFit days t }
+    ensures { result ≡ times_fit days t }
 {
     let edition = t.edition;
     let leg = t.leg;
@@ -120,7 +120,7 @@ fn times_fit(days: u32, t: Taf) -> bool
 
 fn moved_leg(to: Edition, days: u32, t: Taf) -> Leg
     requires { days ≤ 31 }
-    ensures { result ≡ movedLeg to days t }
+    ensures { result ≡ moved_leg to days t }
 {
     let edition = t.edition;
     let mut leg = t.leg;
@@ -135,7 +135,7 @@ fn moved_leg(to: Edition, days: u32, t: Taf) -> Leg
 
 fn moved_change(from: Edition, to: Edition, days: u32, w: Span, c: Change) -> Change
     requires { (days ≤ 31) × (w.from ≤ 200000) }
-    ensures { result ≡ movedChange from to days w c }
+    ensures { result ≡ moved_change from to days w c }
 {
     let opening = c.opening;
     let mut change = c;
@@ -154,7 +154,7 @@ fn moved_each(
     count: usize,
 ) -> [Change; 16]
     requires { (days ≤ 31) × (w.from ≤ 200000) }
-    ensures { result ≡ map (movedChange from to days w) (take count items) ++ drop count items }
+    ensures { result ≡ map (moved_change from to days w) (take count items) ++ drop count items }
 {
     let mut moved = items;
     let mut i = 0;
@@ -170,7 +170,7 @@ fn moved_each(
 
 fn times_in(to: Edition, days: u32, t: Taf) -> Taf
     requires { days ≤ 31 }
-    ensures { result ≡ timesIn to days t }
+    ensures { result ≡ times_in to days t }
 {
     let from = t.edition;
     let old = t.leg;
@@ -190,7 +190,7 @@ fn times_in(to: Edition, days: u32, t: Taf) -> Taf
 
 // A TAF that is not moved.
 pub fn refuse(refusal: Refusal) -> MovedTaf
-    ensures { result ≡ movedBy (judged.Refused refusal) blankTaf }
+    ensures { result ≡ moved_by (judged.Refused refusal) blank_taf }
 {
     let forecast = blank_taf();
     MovedTaf {
@@ -202,7 +202,7 @@ pub fn refuse(refusal: Refusal) -> MovedTaf
 // The TAF with its times in this edition, so many days being in the starting month; or 11 where the month or a day does not fit, 15 where the times do not.
 // That it is a TAF of the other edition that the writer takes is judged above this.
 pub fn move_times(to: Edition, days: u32, t: Taf) -> MovedTaf
-    ensures { result ≡ timesMoved to days t }
+    ensures { result ≡ times_moved to days t }
 {
     if month_fits(days, t) {
         if times_fit(days, t) {

@@ -1,7 +1,7 @@
 // The moments that periods and change times name, and the periods that name them.
 ghost use Rattle.std.specs.Prelude.{◌≡◌, ◌≤◌};
-ghost use Rattle.record.specs.Taf.{blankInstant};
-ghost use Rattle.taf_times.specs.Times.{twoFigures, isFrom, dated, periodSpan, changeBegins, changeEnds, changeSpan, timeAt, beginAt, end_at, endAfter, inEdition, end_in, periodIn, changeIn};
+ghost use Rattle.record.specs.Taf.{blank_instant};
+ghost use Rattle.taf_times.specs.Times.{two_figures, is_from, dated, period_span, change_begins, change_ends, change_span, time_at, begin_at, end_at, end_after, in_edition, end_in, period_in, change_in};
 
 use crate::kinds::Span;
 use crate::moments::{
@@ -13,7 +13,7 @@ use record::values::Number;
 // ---- numbers of the record
 
 fn two_figures(n: Number) -> u32
-    ensures { (result ≡ twoFigures n) × (result ≤ 99) }
+    ensures { (result ≡ two_figures n) × (result ≤ 99) }
 {
     match n {
         Number::Missing => 0,
@@ -22,7 +22,7 @@ fn two_figures(n: Number) -> u32
 }
 
 pub fn is_from(o: Opening) -> bool
-    ensures { result ≡ isFrom o }
+    ensures { result ≡ is_from o }
 {
     match o {
         Opening::None => false,
@@ -50,7 +50,7 @@ fn dated(days: u32, start: u32, t: Instant) -> u32
 
 pub fn period_span(edition: Edition, days: u32, p: Period) -> Span
     requires { days ≤ 31 }
-    ensures { (result ≡ periodSpan edition days p) × (result.from ≤ 200000) }
+    ensures { (result ≡ period_span edition days p) × (result.from ≤ 200000) }
 {
     let begins = p.from;
     let ends = p.to;
@@ -72,7 +72,7 @@ pub fn period_span(edition: Edition, days: u32, p: Period) -> Span
 
 fn change_begins(edition: Edition, days: u32, whole: Span, t: Instant) -> u32
     requires { (days ≤ 31) × (whole.from ≤ 200000) }
-    ensures { (result ≡ changeBegins edition days whole t) × (result ≤ 210000) }
+    ensures { (result ≡ change_begins edition days whole t) × (result ≤ 210000) }
 {
     let hour = t.hour;
     let minute = t.minute;
@@ -84,7 +84,7 @@ fn change_begins(edition: Edition, days: u32, whole: Span, t: Instant) -> u32
 
 fn change_ends(edition: Edition, days: u32, whole: Span, begins: u32, t: Instant) -> u32
     requires { (days ≤ 31) × (begins ≤ 210000) }
-    ensures { result ≡ changeEnds edition days whole begins t }
+    ensures { result ≡ change_ends edition days whole begins t }
 {
     let hour = t.hour;
     match edition {
@@ -96,7 +96,7 @@ fn change_ends(edition: Edition, days: u32, whole: Span, begins: u32, t: Instant
 // Under FM it lasts to the end of the report's period.
 pub fn change_span(edition: Edition, days: u32, whole: Span, endless: bool, p: Period) -> Span
     requires { (days ≤ 31) × (whole.from ≤ 200000) }
-    ensures { result ≡ changeSpan edition days whole endless p }
+    ensures { result ≡ change_span edition days whole endless p }
 {
     let begins = p.from;
     let ends = p.to;
@@ -115,7 +115,7 @@ pub fn change_span(edition: Edition, days: u32, whole: Span, endless: bool, p: P
 
 // A missing number where there is no instant.
 fn blank_instant() -> Instant
-    ensures { result ≡ blankInstant }
+    ensures { result ≡ blank_instant }
 {
     Instant {
         day: Number::Missing,
@@ -126,7 +126,7 @@ fn blank_instant() -> Instant
 
 // YYGGgg
 fn time_at(days: u32, t: u32) -> Instant
-    ensures { result ≡ timeAt days t }
+    ensures { result ≡ time_at days t }
 {
     let day = day_in(days, t / 60 / 24);
     Instant {
@@ -138,7 +138,7 @@ fn time_at(days: u32, t: u32) -> Instant
 
 // YYGG of a beginning.
 fn begin_at(days: u32, t: u32) -> Instant
-    ensures { result ≡ beginAt days t }
+    ensures { result ≡ begin_at days t }
 {
     let day = day_in(days, t / 60 / 24);
     Instant {
@@ -164,7 +164,7 @@ fn end_at(days: u32, t: u32) -> Instant
 // G2
 fn end_after(w: Span) -> Instant
     requires { w.from ≤ 200000 }
-    ensures { result ≡ endAfter w }
+    ensures { result ≡ end_after w }
 {
     let hour = lengthened(w.from, w.to, end_hour(w.to));
     Instant {
@@ -176,7 +176,7 @@ fn end_after(w: Span) -> Instant
 
 // A change time has a day in the present edition only.
 fn in_edition(edition: Edition, t: Instant) -> Instant
-    ensures { result ≡ inEdition edition t }
+    ensures { result ≡ in_edition edition t }
 {
     let hour = t.hour;
     let minute = t.minute;
@@ -202,7 +202,7 @@ fn end_in(edition: Edition, days: u32, w: Span) -> Instant
 
 pub fn period_in(edition: Edition, days: u32, w: Span) -> Period
     requires { w.from ≤ 200000 }
-    ensures { result ≡ periodIn edition days w }
+    ensures { result ≡ period_in edition days w }
 {
     let from = begin_at(days, w.from);
     let to = end_in(edition, days, w);
@@ -210,7 +210,7 @@ pub fn period_in(edition: Edition, days: u32, w: Span) -> Period
 }
 
 pub fn change_in(edition: Edition, days: u32, endless: bool, s: Span) -> Period
-    ensures { result ≡ changeIn edition days endless s }
+    ensures { result ≡ change_in edition days endless s }
 {
     if endless {
         let from = in_edition(edition, time_at(days, s.from));

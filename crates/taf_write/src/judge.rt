@@ -5,8 +5,8 @@ ghost use Rattle.text.specs.declared.kinds.Judged.TheVariants as judged;
 ghost use Rattle.text.specs.Judge.{judge, and_then};
 ghost use Rattle.record.specs.Missing.{between};
 ghost use Rattle.taf_row.specs.declared.kinds.Part.TheVariants as part;
-ghost use Rattle.taf_row.specs.Row.{ownForm};
-ghost use Rattle.taf.specs.Write.{judgePart, isHourOf, isHourAlone, periodFits, fromFits, openingFits, judgeChange, judgeEach, judgeChanges, foreignBlank, judgeOf, judgeIn};
+ghost use Rattle.taf_row.specs.Row.{own_form};
+ghost use Rattle.taf.specs.Write.{judge_part, is_hour_of, is_hour_alone, period_fits, from_fits, opening_fits, judge_change, judge_each, judge_changes, foreign_blank, judge_of, judge_in};
 
 use aerodrome_groups::judge::{instant_fits, judge_station, judge_time};
 use body::judge::{has_element, judge_body};
@@ -21,7 +21,7 @@ use text::kinds::Judged;
 
 // Its body, of which a change group needs one element.
 fn judge_part(w: Part, b: Body) -> Judged
-    ensures { result ≡ judgePart w b }
+    ensures { result ≡ judge_part w b }
 {
     let main = is_main(w);
     let told = judge_pair(main | has_element(b), true);
@@ -32,7 +32,7 @@ fn judge_part(w: Part, b: Body) -> Judged
 
 // A day and an hour up to the last, without minutes.
 fn is_hour(t: Instant, last: u32) -> bool
-    ensures { result ≡ isHourOf (λ h. leb h last) t }
+    ensures { result ≡ is_hour_of (λ h. leb h last) t }
 {
     let day = t.day;
     let hour = t.hour;
@@ -42,7 +42,7 @@ fn is_hour(t: Instant, last: u32) -> bool
 
 // An hour from the first up to the last, without day and minutes.
 fn is_hour_alone(t: Instant, first: u32, last: u32) -> bool
-    ensures { result ≡ isHourAlone (between first last) t }
+    ensures { result ≡ is_hour_alone (between first last) t }
 {
     let day = t.day;
     let hour = t.hour;
@@ -51,7 +51,7 @@ fn is_hour_alone(t: Instant, first: u32, last: u32) -> bool
 }
 
 fn period_fits(form: Form, p: Period) -> bool
-    ensures { result ≡ periodFits form p }
+    ensures { result ≡ period_fits form p }
 {
     let from = p.from;
     let to = p.to;
@@ -66,7 +66,7 @@ fn period_fits(form: Form, p: Period) -> bool
 
 // The time of FMYYGGgg or FMGGgg.
 fn from_fits(edition: Edition, t: Instant) -> bool
-    ensures { result ≡ fromFits edition t }
+    ensures { result ≡ from_fits edition t }
 {
     let day = t.day;
     let hour = t.hour;
@@ -78,7 +78,7 @@ fn from_fits(edition: Edition, t: Instant) -> bool
 }
 
 fn opening_fits(edition: Edition, o: Opening, p: Period) -> bool
-    ensures { result ≡ openingFits edition o p }
+    ensures { result ≡ opening_fits edition o p }
 {
     let from = p.from;
     let to = p.to;
@@ -96,7 +96,7 @@ fn opening_fits(edition: Edition, o: Opening, p: Period) -> bool
 // ---- changes
 
 fn judge_change(edition: Edition, c: Change) -> Judged
-    ensures { result ≡ judgeChange edition c }
+    ensures { result ≡ judge_change edition c }
 {
     let opening = c.opening;
     let period = c.period;
@@ -108,7 +108,7 @@ fn judge_change(edition: Edition, c: Change) -> Judged
 // The first `count`.
 fn judge_each(edition: Edition, items: [Change; 16], count: usize) -> Judged
     requires { count ≤ 16 }
-    ensures { result ≡ judgeEach edition (take count items) }
+    ensures { result ≡ judge_each edition (take count items) }
 {
     let mut i = 0;
     while i < count {
@@ -122,7 +122,7 @@ fn judge_each(edition: Edition, items: [Change; 16], count: usize) -> Judged
 }
 
 fn judge_changes(edition: Edition, cs: Changes) -> Judged
-    ensures { result ≡ judgeChanges edition cs }
+    ensures { result ≡ judge_changes edition cs }
 {
     let items = cs.items;
     let count = cs.count;
@@ -138,7 +138,7 @@ fn judge_changes(edition: Edition, cs: Changes) -> Judged
 
 // A NIL report has nothing after its time, a cancelled one nothing after its period.
 fn foreign_blank(t: Taf) -> bool
-    ensures { result ≡ foreignBlank t }
+    ensures { result ≡ foreign_blank t }
 {
     let leg = t.leg;
     let period = leg.period;
@@ -151,7 +151,7 @@ fn foreign_blank(t: Taf) -> bool
 }
 
 fn judge_main(b: Body) -> Judged
-    ensures { result ≡ judgePart part.Main b }
+    ensures { result ≡ judge_part part.Main b }
 {
     let main = Part::Main;
     judge_part(main, b)
@@ -159,7 +159,7 @@ fn judge_main(b: Body) -> Judged
 
 // What follows the period: a cancelled report has nothing more to judge.
 fn judge_forecast(t: Taf) -> Judged
-    ensures { result ≡ cond t.leg.cancelled judged.Fine (and_then (judgePart part.Main t.leg.body) (judgeChanges t.edition t.changes)) }
+    ensures { result ≡ cond t.leg.cancelled judged.Fine (and_then (judge_part part.Main t.leg.body) (judge_changes t.edition t.changes)) }
 {
     let edition = t.edition;
     let leg = t.leg;
@@ -174,7 +174,7 @@ fn judge_forecast(t: Taf) -> Judged
 
 // What follows the time: a NIL report has nothing more to judge.
 fn judge_rest(t: Taf) -> Judged
-    ensures { result ≡ cond t.leg.nil judged.Fine (and_then (judge (periodFits (ownForm t.edition) t.leg.period) true) (cond t.leg.cancelled judged.Fine (and_then (judgePart part.Main t.leg.body) (judgeChanges t.edition t.changes)))) }
+    ensures { result ≡ cond t.leg.nil judged.Fine (and_then (judge (period_fits (own_form t.edition) t.leg.period) true) (cond t.leg.cancelled judged.Fine (and_then (judge_part part.Main t.leg.body) (judge_changes t.edition t.changes)))) }
 {
     let edition = t.edition;
     let leg = t.leg;
@@ -191,7 +191,7 @@ fn judge_rest(t: Taf) -> Judged
 
 // A record by its own edition.
 fn judge_record(t: Taf) -> Judged
-    ensures { result ≡ judgeOf t }
+    ensures { result ≡ judge_of t }
 {
     let leg = t.leg;
     let station = leg.station;
@@ -203,7 +203,7 @@ fn judge_record(t: Taf) -> Judged
 
 // A record of the other edition is refused before anything else of it is judged.
 pub fn judge(edition: Edition, t: Taf) -> Judged
-    ensures { result ≡ judgeIn edition t }
+    ensures { result ≡ judge_in edition t }
 {
     let its = t.edition;
     and_then(judge_pair(edition.is_same(its), true), judge_record(t))

@@ -4,13 +4,13 @@ ghost use Rattle.figures.specs.Put.{Put};
 ghost use Rattle.figures.specs.Quote.{bytes};
 ghost use Rattle.text.specs.declared.kinds.Judged.TheVariants as judged;
 ghost use Rattle.text.specs.Groups.{written};
-ghost use Rattle.text.specs.Write.{answerBy, bufferBy};
-ghost use Rattle.places.specs.Engine.{written as groupsAt};
+ghost use Rattle.text.specs.Write.{answer_by, buffer_by};
+ghost use Rattle.places.specs.Engine.{written as groups_at};
 ghost use Rattle.record.specs.declared.aerodrome.Edition.TheVariants as edition;
 ghost use Rattle.taf_row.specs.declared.kinds.Form.TheVariants as form;
 ghost use Rattle.taf_row.specs.declared.kinds.Part.TheVariants as part;
-ghost use Rattle.taf_row.specs.Row.{showCorrection, showHour, showHourAlone, ownForm, showPeriod, row};
-ghost use Rattle.taf.specs.Write.{judgeOf, showChance, showFrom, legOf, showOpening, showChange, showEach, groups_of, canonicalOf, writtenIn, bufferIn};
+ghost use Rattle.taf_row.specs.Row.{show_correction, show_hour, show_hour_alone, own_form, show_period, row};
+ghost use Rattle.taf.specs.Write.{judge_of, show_chance, show_from, leg_of, show_opening, show_change, show_each, groups_of, canonical_of, written_in, buffer_in};
 
 use crate::judge::judge;
 use aerodrome_groups::write::{put_station, put_time, put_two};
@@ -27,7 +27,7 @@ use text::write::{close_report, deliver, open_group, put_group, put_if};
 // ---- the head
 
 fn put_correction(out: &mut [u8], at: usize, c: Correction) -> usize
-    ensures { Put out.old at (written at (showCorrection c)) result out.new }
+    ensures { Put out.old at (written at (show_correction c)) result out.new }
 {
     match c {
         Correction::None => at,
@@ -38,7 +38,7 @@ fn put_correction(out: &mut [u8], at: usize, c: Correction) -> usize
 
 // YYGG
 fn put_hour(out: &mut [u8], at: usize, t: Instant) -> usize
-    ensures { Put out.old at (showHour t) result out.new }
+    ensures { Put out.old at (show_hour t) result out.new }
 {
     let day = t.day;
     let hour = t.hour;
@@ -48,7 +48,7 @@ fn put_hour(out: &mut [u8], at: usize, t: Instant) -> usize
 
 // GG
 fn put_hour_alone(out: &mut [u8], at: usize, t: Instant) -> usize
-    ensures { Put out.old at (showHourAlone t) result out.new }
+    ensures { Put out.old at (show_hour_alone t) result out.new }
 {
     let hour = t.hour;
     put_two(out, at, hour)
@@ -56,7 +56,7 @@ fn put_hour_alone(out: &mut [u8], at: usize, t: Instant) -> usize
 
 // YYGG/YYGG
 fn put_both_days(out: &mut [u8], at: usize, p: Period) -> usize
-    ensures { Put out.old at (written at (showPeriod form.BothDays p ∷ [])) result out.new }
+    ensures { Put out.old at (written at (show_period form.BothDays p ∷ [])) result out.new }
 {
     let from = p.from;
     let to = p.to;
@@ -68,7 +68,7 @@ fn put_both_days(out: &mut [u8], at: usize, p: Period) -> usize
 
 // Y1Y1G1G1G2G2
 fn put_first_day(out: &mut [u8], at: usize, p: Period) -> usize
-    ensures { Put out.old at (written at (showPeriod form.FirstDay p ∷ [])) result out.new }
+    ensures { Put out.old at (written at (show_period form.FirstDay p ∷ [])) result out.new }
 {
     let from = p.from;
     let to = p.to;
@@ -79,7 +79,7 @@ fn put_first_day(out: &mut [u8], at: usize, p: Period) -> usize
 
 // GGGeGe
 fn put_no_day(out: &mut [u8], at: usize, p: Period) -> usize
-    ensures { Put out.old at (written at (showPeriod form.NoDay p ∷ [])) result out.new }
+    ensures { Put out.old at (written at (show_period form.NoDay p ∷ [])) result out.new }
 {
     let from = p.from;
     let to = p.to;
@@ -89,7 +89,7 @@ fn put_no_day(out: &mut [u8], at: usize, p: Period) -> usize
 }
 
 fn put_period(out: &mut [u8], at: usize, form: Form, p: Period) -> usize
-    ensures { Put out.old at (written at (showPeriod form p ∷ [])) result out.new }
+    ensures { Put out.old at (written at (show_period form p ∷ [])) result out.new }
 {
     match form {
         Form::BothDays => put_both_days(out, at, p),
@@ -100,7 +100,7 @@ fn put_period(out: &mut [u8], at: usize, form: Form, p: Period) -> usize
 
 // The period that the forecast is valid for; a NIL report has none.
 fn put_valid(out: &mut [u8], at: usize, nil: bool, form: Form, p: Period) -> usize
-    ensures { Put out.old at (written at (cond nil [] (showPeriod form p ∷ []))) result out.new }
+    ensures { Put out.old at (written at (cond nil [] (show_period form p ∷ []))) result out.new }
 {
     if nil {
         at
@@ -111,7 +111,7 @@ fn put_valid(out: &mut [u8], at: usize, nil: bool, form: Form, p: Period) -> usi
 
 // TAF, AMD or COR, CCCC, YYGGggZ, NIL, the period, CNL: the first eight places of the main part.
 fn put_main(out: &mut [u8], at: usize, edition: Edition, r: Leg) -> usize
-    ensures { Put out.old at (written at (groupsAt (take 8 (row edition part.Main)) r)) result out.new }
+    ensures { Put out.old at (written at (groups_at (take 8 (row edition part.Main)) r)) result out.new }
 {
     let correction = r.correction;
     let station = r.station;
@@ -130,7 +130,7 @@ fn put_main(out: &mut [u8], at: usize, edition: Edition, r: Leg) -> usize
 
 // Of these a change group's part has the period alone, and none under FM.
 fn put_head(out: &mut [u8], at: usize, edition: Edition, w: Part, r: Leg) -> usize
-    ensures { Put out.old at (written at (groupsAt (take 8 (row edition w)) r)) result out.new }
+    ensures { Put out.old at (written at (groups_at (take 8 (row edition w)) r)) result out.new }
 {
     let nil = r.nil;
     let period = r.period;
@@ -145,7 +145,7 @@ fn put_head(out: &mut [u8], at: usize, edition: Edition, w: Part, r: Leg) -> usi
 
 // The head and then the body.
 fn put_part(out: &mut [u8], at: usize, edition: Edition, w: Part, r: Leg) -> usize
-    ensures { Put out.old at (written at (groupsAt (row edition w) r)) result out.new }
+    ensures { Put out.old at (written at (groups_at (row edition w) r)) result out.new }
 {
     let body = r.body;
     let headed = put_head(out, at, edition, w, r);
@@ -156,7 +156,7 @@ fn put_part(out: &mut [u8], at: usize, edition: Edition, w: Part, r: Leg) -> usi
 
 // PROB30, PROB40
 fn put_chance(out: &mut [u8], at: usize, chance: u32) -> usize
-    ensures { Put out.old at (written at (showChance chance ∷ [])) result out.new }
+    ensures { Put out.old at (written at (show_chance chance ∷ [])) result out.new }
 {
     let opened = open_group(out, at);
     let begun = put_text(out, opened, b"PROB");
@@ -165,7 +165,7 @@ fn put_chance(out: &mut [u8], at: usize, chance: u32) -> usize
 
 // FMYYGGgg
 fn put_from_day(out: &mut [u8], at: usize, t: Instant) -> usize
-    ensures { Put out.old at (written at (showFrom edition.Present t ∷ [])) result out.new }
+    ensures { Put out.old at (written at (show_from edition.Present t ∷ [])) result out.new }
 {
     let day = t.day;
     let hour = t.hour;
@@ -179,7 +179,7 @@ fn put_from_day(out: &mut [u8], at: usize, t: Instant) -> usize
 
 // FMGGgg
 fn put_from_hour(out: &mut [u8], at: usize, t: Instant) -> usize
-    ensures { Put out.old at (written at (showFrom edition.Of2005 t ∷ [])) result out.new }
+    ensures { Put out.old at (written at (show_from edition.Of2005 t ∷ [])) result out.new }
 {
     let hour = t.hour;
     let minute = t.minute;
@@ -190,7 +190,7 @@ fn put_from_hour(out: &mut [u8], at: usize, t: Instant) -> usize
 }
 
 fn put_from(out: &mut [u8], at: usize, edition: Edition, t: Instant) -> usize
-    ensures { Put out.old at (written at (showFrom edition t ∷ [])) result out.new }
+    ensures { Put out.old at (written at (show_from edition t ∷ [])) result out.new }
 {
     match edition {
         Edition::Present => put_from_day(out, at, t),
@@ -200,14 +200,14 @@ fn put_from(out: &mut [u8], at: usize, edition: Edition, t: Instant) -> usize
 
 // PROB30 TEMPO, PROB40 TEMPO
 fn put_chances(out: &mut [u8], at: usize, chance: u32) -> usize
-    ensures { Put out.old at (written at (showChance chance ∷ bytes "TEMPO" ∷ [])) result out.new }
+    ensures { Put out.old at (written at (show_chance chance ∷ bytes "TEMPO" ∷ [])) result out.new }
 {
     let likely = put_chance(out, at, chance);
     put_group(out, likely, b"TEMPO")
 }
 
 fn put_opening(out: &mut [u8], at: usize, edition: Edition, o: Opening, p: Period) -> usize
-    ensures { Put out.old at (written at (showOpening edition o p)) result out.new }
+    ensures { Put out.old at (written at (show_opening edition o p)) result out.new }
 {
     let from = p.from;
     match o {
@@ -222,7 +222,7 @@ fn put_opening(out: &mut [u8], at: usize, edition: Edition, o: Opening, p: Perio
 
 // A change group's part, its head blank.
 fn leg_of(c: Change) -> Leg
-    ensures { result ≡ legOf c }
+    ensures { result ≡ leg_of c }
 {
     let correction = Correction::None;
     let period = c.period;
@@ -241,7 +241,7 @@ fn leg_of(c: Change) -> Leg
 }
 
 fn put_change(out: &mut [u8], at: usize, edition: Edition, c: Change) -> usize
-    ensures { Put out.old at (written at (showChange edition c)) result out.new }
+    ensures { Put out.old at (written at (show_change edition c)) result out.new }
 {
     let opening = c.opening;
     let period = c.period;
@@ -257,7 +257,7 @@ fn at_most_sixteen(count: usize) -> usize
 
 // The first `count` changes; all where the count is too large.
 fn put_each(out: &mut [u8], at: usize, edition: Edition, items: [Change; 16], count: usize) -> usize
-    ensures { Put out.old at (written at (showEach edition (take count items))) result out.new }
+    ensures { Put out.old at (written at (show_each edition (take count items))) result out.new }
 {
     let end = at_most_sixteen(count);
     let mut next = at;
@@ -287,8 +287,8 @@ fn put_report(out: &mut [u8], t: Taf) -> usize
 
 // A record that is judged fine: its text, at most 2,048 bytes, is made first, so that its length is known before the lent buffer is touched.
 fn write_fine(t: Taf, out: &mut [u8]) -> Written
-    requires { judgeOf t ≡ judged.Fine }
-    ensures { (result ≡ answerBy judged.Fine (canonicalOf t) (length out.old)) × (out.new ≡ bufferBy judged.Fine (canonicalOf t) out.old) }
+    requires { judge_of t ≡ judged.Fine }
+    ensures { (result ≡ answer_by judged.Fine (canonical_of t) (length out.old)) × (out.new ≡ buffer_by judged.Fine (canonical_of t) out.old) }
 {
     let mut text = [0u8; 2048];
     let end = put_report(&mut text, t);
@@ -297,7 +297,7 @@ fn write_fine(t: Taf, out: &mut [u8]) -> Written
 
 // In an edition: a record of the other one is refused.
 pub fn write_in(edition: Edition, t: Taf, out: &mut [u8]) -> Written
-    ensures { (result ≡ writtenIn edition t (length out.old)) × (out.new ≡ bufferIn edition t out.old) }
+    ensures { (result ≡ written_in edition t (length out.old)) × (out.new ≡ buffer_in edition t out.old) }
 {
     let verdict = judge(edition, t);
     match verdict {
@@ -308,7 +308,7 @@ pub fn write_in(edition: Edition, t: Taf, out: &mut [u8]) -> Written
 
 // In the present edition.
 pub fn write(t: Taf, out: &mut [u8]) -> Written
-    ensures { (result ≡ writtenIn edition.Present t (length out.old)) × (out.new ≡ bufferIn edition.Present t out.old) }
+    ensures { (result ≡ written_in edition.Present t (length out.old)) × (out.new ≡ buffer_in edition.Present t out.old) }
 {
     write_in(Edition::Present, t, out)
 }

@@ -13,7 +13,7 @@ use borrow.Author.Tests.{le-leb, lt-leb, leb-true, leb-false}
 use Rattle.text.specs.declared.kinds.Cut.{Cut}
 use Rattle.text.specs.declared.kinds.Cut.TheVariants.{Group, End}
 use Rattle.text.specs.Bytes.{parting, inner, lead}
-use Rattle.text.specs.Groups.{Piece, groupsIn, groupsFrom, cut_at, pastParting, next_of, part_of}
+use Rattle.text.specs.Groups.{Piece, groups_in, groups_from, cut_at, past_parting, next_of, part_of}
 use Rattle.text.proofs.Leads.{lead-cons-yes, lead-cons-no, lead-yes, lead-end, lead-le, stops}
 
 -- ---- a part of a text
@@ -54,24 +54,24 @@ cut-group : (t : List ℕ) (s : ℕ) → s < length t → inner (get_or t s 0) �
 unfolding cut_at
 cut-group t s h e = rw (drop-cons t s 0 h, e, cut_at)
 
-pub past_end : (t : List ℕ) (at : ℕ) → length t ≤ at → pastParting t at ≡ length t
-unfolding pastParting
-past_end t at h = rw (le-leb (length t) at h, pastParting)
+pub past_end : (t : List ℕ) (at : ℕ) → length t ≤ at → past_parting t at ≡ length t
+unfolding past_parting
+past_end t at h = rw (le-leb (length t) at h, past_parting)
 
-pub past-within : (t : List ℕ) (at : ℕ) → at ≤ length t → pastParting t at ≡ at + lead parting (drop at t)
-unfolding pastParting
+pub past-within : (t : List ℕ) (at : ℕ) → at ≤ length t → past_parting t at ≡ at + lead parting (drop at t)
+unfolding past_parting
 past-within t at h = go (leb (length t) at) refl
   where
-    go : (b : Bool) → leb (length t) at ≡ b → pastParting t at ≡ at + lead parting (drop at t)
+    go : (b : Bool) → leb (length t) at ≡ b → past_parting t at ≡ at + lead parting (drop at t)
     go true e = let over : length t ≤ at = leb-true _ _ e in past_end t at over ∙ omega (arith, lead-end parting t at over)
-    go false e = rw (e, pastParting)
+    go false e = rw (e, past_parting)
 
 pub next_past : (t : List ℕ) (at : ℕ) → length t ≤ at → next_of t at ≡ End (length t)
 unfolding next_of
 next_past t at h = rw (past_end t at h) (cut-end t (length t) (omega arith))
 
 module _ (t : List ℕ) (at s : ℕ) (before : at < length t) (here : s ≡ at + lead parting (drop at t)) where
-  past_is : pastParting t at ≡ s
+  past_is : past_parting t at ≡ s
   past_is = past-within t at (omega arith) ∙ sym here
 
   pub next-end : length t ≤ s → next_of t at ≡ End s
@@ -86,10 +86,10 @@ module _ (t : List ℕ) (at s : ℕ) (before : at < length t) (here : s ≡ at +
   unfolding next_of
   next-group h e = rw past_is (cut-group t s h e)
 
--- ---- how `groupsIn` unrolls
-at-parting : (p x : ℕ) (xs : List ℕ) → parting x ≡ true → groupsIn p 0 (x ∷ xs) ≡ groupsIn (suc p) 0 xs
-unfolding groupsIn
-at-parting p x xs e = rw (e, groupsIn)
+-- ---- how `groups_in` unrolls
+at-parting : (p x : ℕ) (xs : List ℕ) → parting x ≡ true → groups_in p 0 (x ∷ xs) ≡ groups_in (suc p) 0 xs
+unfolding groups_in
+at-parting p x xs e = rw (e, groups_in)
 
 pub inner-not-parting : (x : ℕ) → inner x ≡ true → parting x ≡ false
 inner-not-parting x e = go (parting x) refl
@@ -98,58 +98,58 @@ inner-not-parting x e = go (parting x) refl
     go true h = absurd (false≢true (rw h at e))
     go false h = h
 
-at-stop : (p x : ℕ) (xs : List ℕ) → parting x ≡ false → inner x ≡ false → groupsIn p 0 (x ∷ xs) ≡ []
-unfolding groupsIn
-at-stop p x xs b e = rw (b, groupsIn) (rw e)
+at-stop : (p x : ℕ) (xs : List ℕ) → parting x ≡ false → inner x ≡ false → groups_in p 0 (x ∷ xs) ≡ []
+unfolding groups_in
+at-stop p x xs b e = rw (b, groups_in) (rw e)
 
 -- the bytes that are passed over
-skipped : (p s : ℕ) (l : List ℕ) → groupsIn p s l ≡ groupsIn (p + s) 0 (drop s l)
-unfolding groupsIn
-skipped p s [] = ap (groupsIn (p + s) 0) (sym (drop-nil s))
-skipped p zero (x ∷ xs) = ap (λ (k : ℕ). groupsIn k 0 (x ∷ xs)) (sym (add-zero p))
-skipped p (suc s) (x ∷ xs) = skipped (suc p) s xs ∙ ap (λ (k : ℕ). groupsIn k 0 (drop s xs)) (simp (suc-add, add-suc))
+skipped : (p s : ℕ) (l : List ℕ) → groups_in p s l ≡ groups_in (p + s) 0 (drop s l)
+unfolding groups_in
+skipped p s [] = ap (groups_in (p + s) 0) (sym (drop-nil s))
+skipped p zero (x ∷ xs) = ap (λ (k : ℕ). groups_in k 0 (x ∷ xs)) (sym (add-zero p))
+skipped p (suc s) (x ∷ xs) = skipped (suc p) s xs ∙ ap (λ (k : ℕ). groups_in k 0 (drop s xs)) (simp (suc-add, add-suc))
 
 -- a group at the front: it, and the groups after it
 pub at-group : (p x : ℕ) (xs : List ℕ) → inner x ≡ true
-    → groupsIn p 0 (x ∷ xs) ≡ record { start = p; bytes = take (lead inner (x ∷ xs)) (x ∷ xs) } ∷ groupsIn (p + lead inner (x ∷ xs)) 0 (drop (lead inner (x ∷ xs)) (x ∷ xs))
-unfolding groupsIn
+    → groups_in p 0 (x ∷ xs) ≡ record { start = p; bytes = take (lead inner (x ∷ xs)) (x ∷ xs) } ∷ groups_in (p + lead inner (x ∷ xs)) 0 (drop (lead inner (x ∷ xs)) (x ∷ xs))
+unfolding groups_in
 at-group p x xs e =
-    let rest : groupsIn (suc p) (lead inner xs) xs ≡ groupsIn (p + lead inner (x ∷ xs)) 0 (drop (lead inner (x ∷ xs)) (x ∷ xs)) =
+    let rest : groups_in (suc p) (lead inner xs) xs ≡ groups_in (p + lead inner (x ∷ xs)) 0 (drop (lead inner (x ∷ xs)) (x ∷ xs)) =
     skipped (suc p) (lead inner xs) xs
-    ∙ rw (lead-cons-yes inner x xs e) (ap (λ (k : ℕ). groupsIn k 0 (drop (lead inner xs) xs)) (simp (suc-add, add-suc))) in
-    rw (inner-not-parting x e, groupsIn) (rw e (ap (λ (g : List Piece). record { start = p; bytes = take (lead inner (x ∷ xs)) (x ∷ xs) } ∷ g) rest))
+    ∙ rw (lead-cons-yes inner x xs e) (ap (λ (k : ℕ). groups_in k 0 (drop (lead inner xs) xs)) (simp (suc-add, add-suc))) in
+    rw (inner-not-parting x e, groups_in) (rw e (ap (λ (g : List Piece). record { start = p; bytes = take (lead inner (x ∷ xs)) (x ∷ xs) } ∷ g) rest))
 
 -- parting bytes at the front
-past-parting : (p : ℕ) (l : List ℕ) → groupsIn p 0 l ≡ groupsIn (p + lead parting l) 0 (drop (lead parting l) l)
-unfolding groupsIn lead
+past-parting : (p : ℕ) (l : List ℕ) → groups_in p 0 l ≡ groups_in (p + lead parting l) 0 (drop (lead parting l) l)
+unfolding groups_in lead
 past-parting p [] = refl
 past-parting p (x ∷ xs) = go (parting x) refl (past-parting (suc p) xs)
   where
-    go : (b : Bool) → parting x ≡ b → groupsIn (suc p) 0 xs ≡ groupsIn (suc p + lead parting xs) 0 (drop (lead parting xs) xs)
-        → groupsIn p 0 (x ∷ xs) ≡ groupsIn (p + lead parting (x ∷ xs)) 0 (drop (lead parting (x ∷ xs)) (x ∷ xs))
-    go true e ih = rw (lead-cons-yes parting x xs e) (at-parting p x xs e ∙ ih ∙ ap (λ (k : ℕ). groupsIn k 0 (drop (lead parting xs) xs)) (simp (suc-add, add-suc)))
+    go : (b : Bool) → parting x ≡ b → groups_in (suc p) 0 xs ≡ groups_in (suc p + lead parting xs) 0 (drop (lead parting xs) xs)
+        → groups_in p 0 (x ∷ xs) ≡ groups_in (p + lead parting (x ∷ xs)) 0 (drop (lead parting (x ∷ xs)) (x ∷ xs))
+    go true e ih = rw (lead-cons-yes parting x xs e) (at-parting p x xs e ∙ ih ∙ ap (λ (k : ℕ). groups_in k 0 (drop (lead parting xs) xs)) (simp (suc-add, add-suc)))
     go false e ih = rw (lead-cons-no parting x xs e, add-zero)
 
 at_front : (p : ℕ) (l : List ℕ) (x : ℕ) (xs : List ℕ) → l ≡ x ∷ xs → inner x ≡ true
-    → groupsIn p 0 l ≡ record { start = p; bytes = take (lead inner l) l } ∷ groupsIn (p + lead inner l) 0 (drop (lead inner l) l)
+    → groups_in p 0 l ≡ record { start = p; bytes = take (lead inner l) l } ∷ groups_in (p + lead inner l) 0 (drop (lead inner l) l)
 at_front p l x xs e h = rw e (at-group p x xs h)
 
 -- ---- the groups of a text from a position on
-pub from_end : (t : List ℕ) (at : ℕ) → length t ≤ at → groupsFrom t at ≡ []
-unfolding groupsFrom groupsIn
-from_end t at h = ap (groupsIn at 0) (drop_of_length-le t h)
+pub from_end : (t : List ℕ) (at : ℕ) → length t ≤ at → groups_from t at ≡ []
+unfolding groups_from groups_in
+from_end t at h = ap (groups_in at 0) (drop_of_length-le t h)
 
-pub from-parting : (t : List ℕ) (at s : ℕ) → s ≡ at + lead parting (drop at t) → groupsFrom t at ≡ groupsFrom t s
-unfolding groupsFrom
+pub from-parting : (t : List ℕ) (at s : ℕ) → s ≡ at + lead parting (drop at t) → groups_from t at ≡ groups_from t s
+unfolding groups_from
 from-parting t at s e = past-parting at (drop at t) ∙ rw (drop-drop, ← e)
 
-pub from-stop : (t : List ℕ) (s : ℕ) → s < length t → parting (get_or t s 0) ≡ false → inner (get_or t s 0) ≡ false → groupsFrom t s ≡ []
-unfolding groupsFrom
-from-stop t s h b e = ap (groupsIn s 0) (drop-cons t s 0 h) ∙ at-stop _ _ _ b e
+pub from-stop : (t : List ℕ) (s : ℕ) → s < length t → parting (get_or t s 0) ≡ false → inner (get_or t s 0) ≡ false → groups_from t s ≡ []
+unfolding groups_from
+from-stop t s h b e = ap (groups_in s 0) (drop-cons t s 0 h) ∙ at-stop _ _ _ b e
 
 pub from-group : (t : List ℕ) (s : ℕ) → s < length t → inner (get_or t s 0) ≡ true
-    → groupsFrom t s ≡ record { start = s; bytes = take (lead inner (drop s t)) (drop s t) } ∷ groupsFrom t (s + lead inner (drop s t))
-unfolding groupsFrom
+    → groups_from t s ≡ record { start = s; bytes = take (lead inner (drop s t)) (drop s t) } ∷ groups_from t (s + lead inner (drop s t))
+unfolding groups_from
 from-group t s h e = at_front s (drop s t) _ _ (drop-cons t s 0 h) e ∙ rw drop-drop
 
 -- ---- what the next group says of the groups: the two unrolling equations
@@ -158,11 +158,11 @@ pub record Follows (t : List ℕ) (at s e : ℕ) : Type 0 where
   pub after : at ≤ s
   pub some : s < e
   pub within : e ≤ length t
-  pub groups : groupsFrom t at ≡ record { start = s; bytes = part_of t s e } ∷ groupsFrom t e
+  pub groups : groups_from t at ≡ record { start = s; bytes = part_of t s e } ∷ groups_from t e
 
 abbrev pub NextLaw : List ℕ → ℕ → Cut → Type 0
 NextLaw t at (Group s e) = Follows t at s e
-NextLaw t at (End e) = groupsFrom t at ≡ []
+NextLaw t at (End e) = groups_from t at ≡ []
 
 module _ (t : List ℕ) (at : ℕ) (before : at < length t) where
   here : ℕ
@@ -210,5 +210,5 @@ next-law t at = go (leb (length t) at) refl
 pub when-group : (t : List ℕ) (at s e : ℕ) → Group s e ≡ next_of t at → Follows t at s e
 when-group t at s e h = subst (NextLaw t at) (sym h) (next-law t at)
 
-pub when-end : (t : List ℕ) (at e : ℕ) → End e ≡ next_of t at → groupsFrom t at ≡ []
+pub when-end : (t : List ℕ) (at e : ℕ) → End e ≡ next_of t at → groups_from t at ≡ []
 when-end t at e h = subst (NextLaw t at) (sym h) (next-law t at)

@@ -14,8 +14,8 @@ use lib.Dec.{eqb}
 use Rattle.text.specs.declared.kinds.Bytes.TheVariants.{Sound}
 use Rattle.text.specs.declared.kinds.Tail.TheVariants.{Clear}
 use Rattle.text.specs.Bytes.{parting, inner, other, allowed, lead}
-use Rattle.text.specs.Groups.{Piece, groupsIn, groupsFrom, part_of, spaced, parted, join, opening, placed, written, Every, Everywhere, Whole, Wholes}
-use Rattle.text.specs.Text.{equalsAt, bytes_of, tailOf, trimmedOf}
+use Rattle.text.specs.Groups.{Piece, groups_in, groups_from, part_of, spaced, parted, join, opening, placed, written, Every, Everywhere, Whole, Wholes}
+use Rattle.text.specs.Text.{equals_at, bytes_of, tail_of, trimmed_of}
 use Rattle.text.proofs.Leads.{lead-cons-yes, lead-cons-no, lead-end}
 use Rattle.text.proofs.Groups.{at-group, inner-not-parting, part-is, whole_part}
 use Rattle.text.proofs.Texts.{bytes-sound, tail-clear, trimmed-start, trimmed-equals}
@@ -65,25 +65,25 @@ wholes-other (g ∷ gs) w = (every-so inner other inner-other g w.0.1, wholes-ot
 
 -- ---- cutting undoes joining
 front : (p : ℕ) (g : List ℕ) (y : ℕ) (ys : List ℕ) → Whole g → inner y ≡ false
-    → groupsIn p 0 (g ++ y ∷ ys) ≡ record { start = p; bytes = g } ∷ groupsIn (p + length g) 0 (y ∷ ys)
+    → groups_in p 0 (g ++ y ∷ ys) ≡ record { start = p; bytes = g } ∷ groups_in (p + length g) 0 (y ∷ ys)
 front p [] y ys w e = absurd w.0
 front p (x ∷ g) y ys w e = at-group p x (g ++ y ∷ ys) w.1.0
     ∙ rw (every-until inner (x ∷ g) y ys w.1 e, take-append_seam (x ∷ g) (y ∷ ys), drop-append_seam (x ∷ g) (y ∷ ys))
 
 front-spaced : (p : ℕ) (g : List ℕ) (gs : List (List ℕ)) → Whole g
-    → groupsIn p 0 ((g ++ spaced gs) ++ (61 ∷ [])) ≡ record { start = p; bytes = g } ∷ groupsIn (p + length g) 0 (spaced gs ++ (61 ∷ []))
+    → groups_in p 0 ((g ++ spaced gs) ++ (61 ∷ [])) ≡ record { start = p; bytes = g } ∷ groups_in (p + length g) 0 (spaced gs ++ (61 ∷ []))
 unfolding spaced
 front-spaced p g [] w = rw (append_assoc g [] (61 ∷ [])) (front p g 61 [] w refl)
 front-spaced p g (h ∷ gs) w = rw (append_assoc g (32 ∷ (h ++ spaced gs)) (61 ∷ [])) (front p g 32 ((h ++ spaced gs) ++ (61 ∷ [])) w refl)
 
-spaced-trip : (p : ℕ) (gs : List (List ℕ)) → Wholes gs → groupsIn p 0 (spaced gs ++ (61 ∷ [])) ≡ placed (p + 1) gs
-unfolding spaced groupsIn placed
+spaced-trip : (p : ℕ) (gs : List (List ℕ)) → Wholes gs → groups_in p 0 (spaced gs ++ (61 ∷ [])) ≡ placed (p + 1) gs
+unfolding spaced groups_in placed
 spaced-trip p [] w = refl
 spaced-trip p (g ∷ gs) w = rw (add-one p) (front-spaced (suc p) g gs w.0 ∙ ap (λ (r : List Piece). record { start = suc p; bytes = g } ∷ r) (spaced-trip (suc p + length g) gs w.1))
 
 -- the groups cut from a joined text are those that were joined, at their places
-pub round_trip : (gs : List (List ℕ)) → Wholes gs → groupsFrom (join gs) 0 ≡ placed 0 gs
-unfolding join parted groupsFrom groupsIn placed
+pub round_trip : (gs : List (List ℕ)) → Wholes gs → groups_from (join gs) 0 ≡ placed 0 gs
+unfolding join parted groups_from groups_in placed
 round_trip [] w = refl
 round_trip (g ∷ gs) w = front-spaced 0 g gs w.0 ∙ ap (λ (r : List Piece). record { start = 0; bytes = g } ∷ r) (spaced-trip (0 + length g) gs w.1)
 
@@ -92,7 +92,7 @@ unfolding placed
 placed-bytes p [] = refl
 placed-bytes p (g ∷ gs) = ap (λ (r : List (List ℕ)). g ∷ r) (placed-bytes (p + length g + 1) gs)
 
-pub round-trip-bytes : (gs : List (List ℕ)) → Wholes gs → map (λ (g : Piece). g.bytes) (groupsFrom (join gs) 0) ≡ gs
+pub round-trip-bytes : (gs : List (List ℕ)) → Wholes gs → map (λ (g : Piece). g.bytes) (groups_from (join gs) 0) ≡ gs
 round-trip-bytes gs w = ap (map (λ (g : Piece). g.bytes)) (round_trip gs w) ∙ placed-bytes 0 gs
 
 -- ---- a joined text as a whole
@@ -100,12 +100,12 @@ pub length-join : (gs : List (List ℕ)) → length (join gs) ≡ length (parted
 unfolding join
 length-join gs = length-append (parted gs) (61 ∷ [])
 
-pub join-equals : (gs : List (List ℕ)) → Wholes gs → equalsAt (join gs) ≡ length (parted gs)
-unfolding join equalsAt
+pub join-equals : (gs : List (List ℕ)) → Wholes gs → equals_at (join gs) ≡ length (parted gs)
+unfolding join equals_at
 join-equals gs w = every-until other (parted gs) 61 [] (every-parted other gs refl (wholes-other gs w)) refl
 
 -- nothing follows its "="
-pub join-tail : (gs : List (List ℕ)) → Wholes gs → tailOf (join gs) ≡ Clear
+pub join-tail : (gs : List (List ℕ)) → Wholes gs → tail_of (join gs) ≡ Clear
 join-tail gs w =
     let n = length (parted gs) in
     let none = lead-end parting (join gs) (n + 1) (omega (arith, length-join gs)) in
@@ -119,11 +119,11 @@ join-sound gs a h = bytes-sound (join gs) (λ e. omega (arith, length-join gs)) 
     every = unfold join in every-lead allowed (parted gs ++ (61 ∷ [])) (every_append allowed (parted gs) (61 ∷ []) (every-parted allowed gs refl a) (refl, tt))
 
 -- it is its own trimmed part
-pub join-trimmed : (gs : List (List ℕ)) → 0 < length gs → Wholes gs → trimmedOf (join gs) ≡ join gs
+pub join-trimmed : (gs : List (List ℕ)) → 0 < length gs → Wholes gs → trimmed_of (join gs) ≡ join gs
 join-trimmed [] h w = absurd (omega arith)
 join-trimmed ([] ∷ gs) h w = absurd w.0.0
 join-trimmed ((x ∷ g) ∷ gs) h w =
-    unfold trimmedOf in
+    unfold trimmed_of in
     rw (trimmed-start (join hs) n equals 0 (sym none) some, trimmed-equals (join hs) n equals 0 (sym none) some (omega (arith, length-join hs)))
     (whole_part (join hs) (n + 1) (sym (length-join hs)))
   where
@@ -133,7 +133,7 @@ join-trimmed ((x ∷ g) ∷ gs) h w =
     n : ℕ
     n = length (parted hs)
 
-    equals : n ≡ equalsAt (join hs)
+    equals : n ≡ equals_at (join hs)
     equals = sym (join-equals hs w)
 
     none : lead parting (join hs) ≡ 0

@@ -11,7 +11,7 @@ use Rattle.text.specs.declared.kinds.Verdict.TheVariants as verdict
 use Rattle.text.specs.declared.kinds.Written.{Written}
 use Rattle.text.specs.declared.kinds.Written.TheVariants as answer
 use Rattle.text.specs.Refusals.{number_of}
-use Rattle.text.specs.Numbers.{AnswerNumbers, verdictNumbers, writtenNumbers}
+use Rattle.text.specs.Numbers.{AnswerNumbers, verdict_numbers, written_numbers}
 
 -- the refusals in the order of their numbers, 0 being none
 pub data Numbered : Type 0 where
@@ -53,24 +53,24 @@ by_number refusal.Value = refl
 by_number refusal.Times = refl
 
 -- the answer that has these numbers
-abbrev verdictOf : Numbered → ℕ → Verdict
-verdictOf none n = verdict.Accepted n
-verdictOf (some f) n = verdict.Refused f n
+abbrev verdict_of : Numbered → ℕ → Verdict
+verdict_of none n = verdict.Accepted n
+verdict_of (some f) n = verdict.Refused f n
 
 abbrev written_by : Numbered → ℕ → Written
 written_by none n = answer.Count n
 written_by (some f) n = answer.Refused f
 
-verdict-back : (v : Verdict) → verdictOf (numbered (verdictNumbers v).refusal) (verdictNumbers v).value ≡ v
+verdict-back : (v : Verdict) → verdict_of (numbered (verdict_numbers v).refusal) (verdict_numbers v).value ≡ v
 verdict-back (verdict.Accepted rest) = refl
 verdict-back (verdict.Refused f at) = rw (by_number f)
 
-written_back : (w : Written) → written_by (numbered (writtenNumbers w).refusal) (writtenNumbers w).value ≡ w
+written_back : (w : Written) → written_by (numbered (written_numbers w).refusal) (written_numbers w).value ≡ w
 written_back (answer.Count n) = refl
 written_back (answer.Refused f) = rw (by_number f)
 
-pub verdict-told : (v w : Verdict) → verdictNumbers v ≡ verdictNumbers w → v ≡ w
-verdict-told v w e = sym (verdict-back v) ∙ ap (λ (n : AnswerNumbers). verdictOf (numbered n.refusal) n.value) e ∙ verdict-back w
+pub verdict-told : (v w : Verdict) → verdict_numbers v ≡ verdict_numbers w → v ≡ w
+verdict-told v w e = sym (verdict-back v) ∙ ap (λ (n : AnswerNumbers). verdict_of (numbered n.refusal) n.value) e ∙ verdict-back w
 
-pub written-told : (v w : Written) → writtenNumbers v ≡ writtenNumbers w → v ≡ w
+pub written-told : (v w : Written) → written_numbers v ≡ written_numbers w → v ≡ w
 written-told v w e = sym (written_back v) ∙ ap (λ (n : AnswerNumbers). written_by (numbered n.refusal) n.value) e ∙ written_back w

@@ -10,7 +10,7 @@ use lib.Dec.{leb}
 use borrow.Author.Tests.{le-leb, lt-leb}
 use denote.Ref.{Bor}
 use Rattle.text.specs.Groups.{part_of}
-use Rattle.text.specs.Part.{partPlace, PartAt}
+use Rattle.text.specs.Part.{part_place, PartAt}
 use Rattle.text.proofs.Groups.{part-is, part-nothing}
 
 -- is there a part of a text of n bytes from s up to e?
@@ -23,12 +23,12 @@ ends-early n s e h = simp (lt-leb s e h)
 pub ends-late : (n s e : ℕ) → s ≤ e → n < e → there n s e ≡ false
 ends-late n s e h k = simp (le-leb s e h, lt-leb e n k)
 
-place_is : (t : List ℕ) (s e : ℕ) → s ≤ e → e ≤ length t → partPlace t s e ≡ s
-unfolding partPlace
+place_is : (t : List ℕ) (s e : ℕ) → s ≤ e → e ≤ length t → part_place t s e ≡ s
+unfolding part_place
 place_is t s e h k = simp (le-leb s e h, le-leb e (length t) k)
 
-place_none : (t : List ℕ) (s e : ℕ) → there (length t) s e ≡ false → partPlace t s e ≡ length t
-unfolding partPlace
+place_none : (t : List ℕ) (s e : ℕ) → there (length t) s e ≡ false → part_place t s e ≡ length t
+unfolding part_place
 place_none t s e h = rw h
 
 module _ (t r : Bor (List ℕ)) where

@@ -16,7 +16,7 @@ use Rattle.text.specs.declared.kinds.Refusal.TheVariants as refusal
 use Rattle.text.specs.declared.kinds.Judged.TheVariants as judged
 use Rattle.text.specs.declared.kinds.Written.TheVariants as answer
 use Rattle.text.specs.Groups.{join, opening, written, Wholes}
-use Rattle.text.specs.Write.{answerBy, bufferBy}
+use Rattle.text.specs.Write.{answer_by, buffer_by}
 use Rattle.text.proofs.Joins.{written-append, parted-written}
 
 -- where no room is left one text is put as another is
@@ -80,11 +80,11 @@ module _ {n end : ℕ} {e : List ℕ} (gs : List (List ℕ)) (w : Wholes gs) (sh
   made-text = rw (made-end, ← zero-add (length (join gs))) (put-before made fits)
 
 -- ---- the lent buffer without room, and with it
-pub no_room : (x b : List ℕ) → length b < length x → (answer.Refused refusal.Room ≡ answerBy judged.Fine x (length b)) × (b ≡ bufferBy judged.Fine x b)
+pub no_room : (x b : List ℕ) → length b < length x → (answer.Refused refusal.Room ≡ answer_by judged.Fine x (length b)) × (b ≡ buffer_by judged.Fine x b)
 no_room x b h = (rw (lt-leb (length x) (length b) h), rw (lt-leb (length x) (length b) h))
 
 pub with-room : {x b e : List ℕ} {n : ℕ} → length x ≤ length b → Put b 0 x n e
-    → (answer.Count n ≡ answerBy judged.Fine x (length b)) × (e ≡ bufferBy judged.Fine x b)
+    → (answer.Count n ≡ answer_by judged.Fine x (length b)) × (e ≡ buffer_by judged.Fine x b)
 with-room {x} {b} h p =
     let l = le-leb (length x) (length b) h in
     (rw l (ap answer.Count (put_next p (omega arith) ∙ zero-add (length x))), rw l p.text)

@@ -16,6 +16,6 @@ abbrev pub refuses : String → ℕ → ℕ → Example
 refuses text number place = record { text = bytes text; answer = number ∷ place ∷ [] }
 
 -- what is answered to a text, by the numbers of its reading, those of writing its record, and the record's canonical text
-abbrev pub answerTo : AnswerNumbers → AnswerNumbers → List ℕ → List ℕ
-answerTo read written canonical =
+abbrev pub answer_to : AnswerNumbers → AnswerNumbers → List ℕ → List ℕ
+answer_to read written canonical =
     cond (eqb read.refusal 0) (cond (eqb written.refusal 0) canonical (written.refusal ∷ [])) (read.refusal ∷ read.value ∷ [])

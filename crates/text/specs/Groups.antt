@@ -11,21 +11,21 @@ pub record Piece : Type 0 where
   pub bytes : List ℕ
 
 -- the groups of a list that stands at position p, of which the first s bytes are passed over: up to the first "=" or the end
-unfoldable pub groupsIn : ℕ → ℕ → List ℕ → List Piece
-groupsIn p s [] = []
-groupsIn p zero (x ∷ xs) =
+unfoldable pub groups_in : ℕ → ℕ → List ℕ → List Piece
+groups_in p s [] = []
+groups_in p zero (x ∷ xs) =
     elim (parting x) [
-      | true ↦ groupsIn (suc p) zero xs
+      | true ↦ groups_in (suc p) zero xs
       | false ↦ elim (inner x) [
-        | true ↦ record { start = p; bytes = take (lead inner (x ∷ xs)) (x ∷ xs) } ∷ groupsIn (suc p) (lead inner xs) xs
+        | true ↦ record { start = p; bytes = take (lead inner (x ∷ xs)) (x ∷ xs) } ∷ groups_in (suc p) (lead inner xs) xs
         | false ↦ []
       ]
     ]
-groupsIn p (suc s) (x ∷ xs) = groupsIn (suc p) s xs
+groups_in p (suc s) (x ∷ xs) = groups_in (suc p) s xs
 
 -- all groups of a text from a position on, up to the first "=" or the end
-unfoldable pub groupsFrom : List ℕ → ℕ → List Piece
-groupsFrom text at = groupsIn at 0 (drop at text)
+unfoldable pub groups_from : List ℕ → ℕ → List Piece
+groups_from text at = groups_in at 0 (drop at text)
 
 -- what stands at position p, where the list there begins with no parting byte
 unfoldable pub cut_at : ℕ → List ℕ → Cut
@@ -33,12 +33,12 @@ cut_at p [] = End p
 cut_at p (x ∷ xs) = elim (inner x) [ true ↦ Group p (p + lead inner (x ∷ xs)) | false ↦ End p ]
 
 -- the first position at or after `at` that holds no parting byte; the length, past the end
-unfoldable pub pastParting : List ℕ → ℕ → ℕ
-pastParting text at = elim (leb (length text) at) [ true ↦ length text | false ↦ at + lead parting (drop at text) ]
+unfoldable pub past_parting : List ℕ → ℕ → ℕ
+past_parting text at = elim (leb (length text) at) [ true ↦ length text | false ↦ at + lead parting (drop at text) ]
 
 -- the next group at or after a position, or where the groups end
 unfoldable pub next_of : List ℕ → ℕ → Cut
-next_of text at = cut_at (pastParting text at) (drop (pastParting text at) text)
+next_of text at = cut_at (past_parting text at) (drop (past_parting text at) text)
 
 -- the part from s up to e; the empty part where there is none
 unfoldable pub part_of : List ℕ → ℕ → ℕ → List ℕ

@@ -13,11 +13,11 @@ pub record AnswerNumbers : Type 0 where
   pub value : ℕ
 
 -- of a text: where the unread rest begins, or the place of the fault
-abbrev pub verdictNumbers : Verdict → AnswerNumbers
-verdictNumbers (verdict.Accepted rest) = record { refusal = 0; value = rest }
-verdictNumbers (verdict.Refused f at) = record { refusal = number_of f; value = at }
+abbrev pub verdict_numbers : Verdict → AnswerNumbers
+verdict_numbers (verdict.Accepted rest) = record { refusal = 0; value = rest }
+verdict_numbers (verdict.Refused f at) = record { refusal = number_of f; value = at }
 
 -- of a record: the count of bytes written, which is 0 where it is refused
-abbrev pub writtenNumbers : Written → AnswerNumbers
-writtenNumbers (answer.Count n) = record { refusal = 0; value = n }
-writtenNumbers (answer.Refused f) = record { refusal = number_of f; value = 0 }
+abbrev pub written_numbers : Written → AnswerNumbers
+written_numbers (answer.Count n) = record { refusal = 0; value = n }
+written_numbers (answer.Refused f) = record { refusal = number_of f; value = 0 }

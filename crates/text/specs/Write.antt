@@ -9,14 +9,14 @@ use Rattle.text.specs.declared.kinds.Judged.TheVariants as judged
 use Rattle.text.specs.declared.kinds.Written.{Written}
 use Rattle.text.specs.declared.kinds.Written.TheVariants as answer
 
-abbrev pub fitsIn : ℕ → List ℕ → Bool
-fitsIn room text = leb (length text) room
+abbrev pub fits_in : ℕ → List ℕ → Bool
+fits_in room text = leb (length text) room
 
 -- a record's judgement, its canonical text, and how many bytes the buffer has
-abbrev pub answerBy : Judged → List ℕ → ℕ → Written
-answerBy judged.Fine text room = cond (fitsIn room text) (answer.Count (length text)) (answer.Refused refusal.Room)
-answerBy (judged.Refused f) text room = answer.Refused f
+abbrev pub answer_by : Judged → List ℕ → ℕ → Written
+answer_by judged.Fine text room = cond (fits_in room text) (answer.Count (length text)) (answer.Refused refusal.Room)
+answer_by (judged.Refused f) text room = answer.Refused f
 
-abbrev pub bufferBy : Judged → List ℕ → List ℕ → List ℕ
-bufferBy judged.Fine text b = cond (fitsIn (length b) text) (splice b 0 text) b
-bufferBy (judged.Refused f) text b = b
+abbrev pub buffer_by : Judged → List ℕ → List ℕ → List ℕ
+buffer_by judged.Fine text b = cond (fits_in (length b) text) (splice b 0 text) b
+buffer_by (judged.Refused f) text b = b

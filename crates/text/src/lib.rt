@@ -9,7 +9,7 @@ ghost use Rattle.text.specs.Refusals.{number_of};
 ghost use Rattle.text.specs.Bytes.{parting, inner, allowed, passes, lead, last_end};
 ghost use Rattle.text.specs.Groups.{next_of, part_of};
 ghost use Rattle.text.specs.Part.{PartAt};
-ghost use Rattle.text.specs.Text.{equalsAt, bytes_of, tailOf, TrimmedPart};
+ghost use Rattle.text.specs.Text.{equals_at, bytes_of, tail_of, TrimmedPart};
 
 use kinds::{Bytes, Cut, Refusal, Tail};
 
@@ -187,7 +187,7 @@ fn are_all(text: &[u8], run: Run) -> bool
 // The place of the first "="; the length where there is none. In most texts it is the last byte that parts no groups: then those before it are
 // looked at many at a time, and not one by one.
 fn find_equals(text: &[u8]) -> usize
-    ensures { result ≡ equalsAt text.now }
+    ensures { result ≡ equals_at text.now }
 {
     let end = find_last_end(text);
     if 0 < end {
@@ -220,7 +220,7 @@ pub fn judge_bytes(text: &[u8]) -> Bytes
 
 // What follows the first "=".
 pub fn tail(text: &[u8]) -> Tail
-    ensures { result ≡ tailOf text.now }
+    ensures { result ≡ tail_of text.now }
 {
     let equals = find_equals(text);
     if text.len() <= equals {

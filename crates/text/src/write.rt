@@ -3,7 +3,7 @@ ghost use Rattle.std.specs.Prelude.{◌≡◌, cond, ◌∷◌, [], length};
 ghost use Rattle.figures.specs.Put.{Put};
 ghost use Rattle.text.specs.declared.kinds.Judged.TheVariants as judged;
 ghost use Rattle.text.specs.Groups.{opening, written};
-ghost use Rattle.text.specs.Write.{answerBy, bufferBy};
+ghost use Rattle.text.specs.Write.{answer_by, buffer_by};
 
 use crate::kinds::{Refusal, Written};
 use figures::put;
@@ -43,7 +43,7 @@ pub fn close_report(out: &mut [u8], at: usize) -> usize
 
 // The text of a record that is judged fine goes into the lent buffer if it has room.
 pub fn deliver(text: &[u8], out: &mut [u8]) -> Written
-    ensures { (result ≡ answerBy judged.Fine text.now (length out.old)) × (out.new ≡ bufferBy judged.Fine text.now out.old) }
+    ensures { (result ≡ answer_by judged.Fine text.now (length out.old)) × (out.new ≡ buffer_by judged.Fine text.now out.old) }
 {
     if out.len() < text.len() {
         return Written::Refused(Refusal::Room);

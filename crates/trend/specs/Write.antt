@@ -12,53 +12,53 @@ use Rattle.record.specs.declared.aerodrome.Tendency.TheVariants as tendency
 use Rattle.record.specs.declared.aerodrome.Body.{Body}
 use Rattle.record.specs.declared.aerodrome.TrendChange.{TrendChange}
 use Rattle.record.specs.declared.aerodrome.Trend.{Trend}
-use Rattle.record.specs.Trend.{setTendency, blankTrendChange}
-use Rattle.record.specs.SilentAerodrome.{noTendency, isBlankTrendChange}
-use Rattle.elements.specs.Body.{changing, judgeBody, hasElement}
-use Rattle.trend_row.specs.Times.{hoursFit}
+use Rattle.record.specs.Trend.{set_tendency, blank_trend_change}
+use Rattle.record.specs.SilentAerodrome.{no_tendency, is_blank_trend_change}
+use Rattle.elements.specs.Body.{changing, judge_body, has_element}
+use Rattle.trend_row.specs.Times.{hours_fit}
 use Rattle.trend_row.specs.Row.{row}
 
 -- ---- judging: the count and the slots past it, then change by change its word, its times, its body, and that it has an element
 
-abbrev pub judgeChangeBody : Body → Judged
-judgeChangeBody b = and_then (judgeBody changing b) (judge (hasElement b) true)
+abbrev pub judge_change_body : Body → Judged
+judge_change_body b = and_then (judge_body changing b) (judge (has_element b) true)
 
 -- "NOSIG beside one 7": at the word, before its times and its body
-unfoldable pub judgeChange : Bool → TrendChange → Judged
-judgeChange nosig c = and_then (judge (not (noTendency c.tendency)) (not nosig)) (and_then (judge (hoursFit c.times.is) true) (judgeChangeBody c.body))
+unfoldable pub judge_change : Bool → TrendChange → Judged
+judge_change nosig c = and_then (judge (not (no_tendency c.tendency)) (not nosig)) (and_then (judge (hours_fit c.times.is) true) (judge_change_body c.body))
 
-abbrev pub judgeEach : Bool → List TrendChange → Judged
-judgeEach nosig [] = judged.Fine
-judgeEach nosig (c ∷ cs) = and_then (judgeChange nosig c) (judgeEach nosig cs)
+abbrev pub judge_each : Bool → List TrendChange → Judged
+judge_each nosig [] = judged.Fine
+judge_each nosig (c ∷ cs) = and_then (judge_change nosig c) (judge_each nosig cs)
 
-unfoldable pub judgeTrend : Trend → Judged
-judgeTrend t = and_then (judge (leb t.count 3 && every isBlankTrendChange (drop t.count t.items)) true) (judgeEach t.nosig (take t.count t.items))
+unfoldable pub judge_trend : Trend → Judged
+judge_trend t = and_then (judge (leb t.count 3 && every is_blank_trend_change (drop t.count t.items)) true) (judge_each t.nosig (take t.count t.items))
 
 -- ---- the groups
 
-abbrev pub showWord : Tendency → List Group
-showWord tendency.None = []
-showWord tendency.Becoming = bytes "BECMG" ∷ []
-showWord tendency.Temporary = bytes "TEMPO" ∷ []
+abbrev pub show_word : Tendency → List Group
+show_word tendency.None = []
+show_word tendency.Becoming = bytes "BECMG" ∷ []
+show_word tendency.Temporary = bytes "TEMPO" ∷ []
 
-unfoldable pub showChange : TrendChange → List Group
-showChange c = showWord c.tendency ++ written (row true) c
+unfoldable pub show_change : TrendChange → List Group
+show_change c = show_word c.tendency ++ written (row true) c
 
-abbrev pub showEach : List TrendChange → List Group
-showEach [] = []
-showEach (c ∷ cs) = showChange c ++ showEach cs
+abbrev pub show_each : List TrendChange → List Group
+show_each [] = []
+show_each (c ∷ cs) = show_change c ++ show_each cs
 
-abbrev pub showNosig : Bool → List Group
-showNosig nosig = cond nosig (bytes "NOSIG" ∷ []) []
+abbrev pub show_nosig : Bool → List Group
+show_nosig nosig = cond nosig (bytes "NOSIG" ∷ []) []
 
-unfoldable pub showTrend : Trend → List Group
-showTrend t = showNosig t.nosig ++ showEach (take t.count t.items)
+unfoldable pub show_trend : Trend → List Group
+show_trend t = show_nosig t.nosig ++ show_each (take t.count t.items)
 
 -- ---- what is read back: each rounded number the reading of its class, all else as it is
 
-unfoldable pub classChange : TrendChange → TrendChange
-classChange c = put_all (row true) c (setTendency c.tendency blankTrendChange)
+unfoldable pub class_change : TrendChange → TrendChange
+class_change c = put_all (row true) c (set_tendency c.tendency blank_trend_change)
 
-unfoldable pub classTrend : Trend → Trend
-classTrend t =
-    record { items = map classChange (take t.count t.items) ++ drop t.count t.items; count = t.count; nosig = t.nosig }
+unfoldable pub class_trend : Trend → Trend
+class_trend t =
+    record { items = map class_change (take t.count t.items) ++ drop t.count t.items; count = t.count; nosig = t.nosig }

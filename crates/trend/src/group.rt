@@ -1,7 +1,7 @@
 // One group of a trend's change: where it goes in the row of places, which what was read before has no part in, and what it says there.
 ghost use Rattle.std.specs.Prelude.{◌≡◌, Bool};
-ghost use Rattle.shapes.specs.Pattern.{hasAny};
-ghost use Rattle.places.specs.Turn.{turnAt};
+ghost use Rattle.shapes.specs.Pattern.{has_any};
+ghost use Rattle.places.specs.Turn.{turn_at};
 ghost use Rattle.metar_row.specs.Row.{words};
 ghost use Rattle.trend_row.specs.Row.{row};
 ghost use Rattle.trend.specs.Said.{Says};
@@ -18,7 +18,7 @@ use trend_row::times::{read_at, read_from, read_until};
 
 // The group's turn, where `count` groups stand at `place`.
 pub fn decide(free: bool, place: usize, count: usize, g: &[u8]) -> Turn
-    ensures { result ≡ turnAt (row free) (hasAny words) place count g.now }
+    ensures { result ≡ turn_at (row free) (has_any words) place count g.now }
 {
     if 8 <= place {
         return Turn::Refused(Refusal::Shape);

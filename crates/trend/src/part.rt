@@ -1,15 +1,15 @@
 // The groups of one part of a trend, up to the word that ends it or up to the end of the text.
 ghost use Rattle.std.specs.Prelude.{◌≡◌, not, length};
-ghost use Rattle.text.specs.Text.{tailOf};
-ghost use Rattle.shapes.specs.Pattern.{hasAny};
-ghost use Rattle.places.specs.Answer.{endVerdict};
+ghost use Rattle.text.specs.Text.{tail_of};
+ghost use Rattle.shapes.specs.Pattern.{has_any};
+ghost use Rattle.places.specs.Answer.{end_verdict};
 ghost use Rattle.body.specs.Met.{Meets};
 ghost use Rattle.metar_row.specs.Row.{words};
-ghost use Rattle.trend_row.specs.Row.{isChange, row};
-ghost use Rattle.trend_row.specs.Tests.{lacksIn};
-ghost use Rattle.trend.specs.Read.{tendencyOf, start_of};
-ghost use Rattle.trend.specs.Said.{changeSaid};
-ghost use Rattle.trend.specs.Step.{refusedAt, MetWord, PartDone};
+ghost use Rattle.trend_row.specs.Row.{is_change, row};
+ghost use Rattle.trend_row.specs.Tests.{lacks_in};
+ghost use Rattle.trend.specs.Read.{tendency_of, start_of};
+ghost use Rattle.trend.specs.Said.{change_said};
+ghost use Rattle.trend.specs.Step.{refused_at, MetWord, PartDone};
 ghost use Rattle.trend.specs.declared.kinds.Next.TheVariants as next;
 
 use crate::group::{decide, say_at};
@@ -28,7 +28,7 @@ use trend_row::row::is_change;
 use trend_row::tests::lacks;
 
 fn tendency_of(word: Word) -> Tendency
-    ensures { result ≡ tendencyOf word }
+    ensures { result ≡ tendency_of word }
 {
     match word {
         Word::Nosig => Tendency::None,
@@ -55,7 +55,7 @@ fn start_of(word: Word) -> TrendChange
 // ---- the part with what follows it, which the loop hands over in one piece
 
 fn end_part(text: &[u8], word: Word, change: TrendChange) -> PartRead
-    ensures { result ≡ record { next = next.End (endVerdict (tailOf text.now) (length text.now) (lacksIn word change.body)); change = change } }
+    ensures { result ≡ record { next = next.End (end_verdict (tail_of text.now) (length text.now) (lacks_in word change.body)); change = change } }
 {
     let body = change.body;
     let verdict = end_verdict(text, lacks(word, body));
@@ -71,7 +71,7 @@ fn leave_part(
     n: usize,
     change: TrendChange,
 ) -> PartRead
-    ensures { (result.change ≡ change) × MetWord g.now start end n (not (isChange word)) (lacksIn word change.body) result.next }
+    ensures { (result.change ≡ change) × MetWord g.now start end n (not (is_change word)) (lacks_in word change.body) result.next }
 {
     let body = change.body;
     let next = meet_word(g, start, end, n, !is_change(word), lacks(word, body));
@@ -79,7 +79,7 @@ fn leave_part(
 }
 
 fn refuse_part(refusal: Refusal, place: usize, change: TrendChange) -> PartRead
-    ensures { result ≡ record { next = refusedAt refusal place; change = change } }
+    ensures { result ≡ record { next = refused_at refusal place; change = change } }
 {
     let next = refuse(refusal, place);
     PartRead { next, change }
@@ -95,7 +95,7 @@ fn meet(
     times: Times,
     body: Body,
 ) -> Met
-    ensures { Meets (row free) (hasAny words) changeSaid place count (λ c. (c.times ≡ times) × (c.body ≡ body)) text.now from result }
+    ensures { Meets (row free) (has_any words) change_said place count (λ c. (c.times ≡ times) × (c.body ≡ body)) text.now from result }
 {
     let Cut::Group { start, end } = text::next_group(text, from) else {
         return Met::Over;

@@ -1,8 +1,8 @@
 // What a word comes to, after the observation or after a part of the trend.
 ghost use Rattle.std.specs.Prelude.{◌≡◌};
-ghost use Rattle.shapes.specs.Pattern.{hasAny};
-ghost use Rattle.metar_row.specs.Row.{stopWords};
-ghost use Rattle.trend.specs.Step.{refusedAt, nosigMet, changeMet, MetWord};
+ghost use Rattle.shapes.specs.Pattern.{has_any};
+ghost use Rattle.metar_row.specs.Row.{stop_words};
+ghost use Rattle.trend.specs.Step.{refused_at, nosig_met, change_met, MetWord};
 
 use crate::kinds::Next;
 use shapes::has_pattern;
@@ -11,13 +11,13 @@ use trend_row::kinds::Word;
 use trend_row::tests::is_full;
 
 pub fn refuse(refusal: Refusal, place: usize) -> Next
-    ensures { result ≡ refusedAt refusal place }
+    ensures { result ≡ refused_at refusal place }
 {
     Next::End(Verdict::Refused { refusal, place })
 }
 
 fn is_stop_word(g: &[u8]) -> bool
-    ensures { result ≡ hasAny stopWords g.now }
+    ensures { result ≡ has_any stop_words g.now }
 {
     let shear = has_pattern(g, b"WS");
     let remarks = has_pattern(g, b"RMK");
@@ -26,7 +26,7 @@ fn is_stop_word(g: &[u8]) -> bool
 
 // NOSIG from start up to end, after n changes or after NOSIG.
 fn meet_nosig(start: usize, end: usize, n: usize, nosig: bool) -> Next
-    ensures { result ≡ nosigMet start end n nosig }
+    ensures { result ≡ nosig_met start end n nosig }
 {
     if nosig {
         return refuse(Refusal::Order, start);
@@ -42,7 +42,7 @@ fn meet_nosig(start: usize, end: usize, n: usize, nosig: bool) -> Next
 
 // BECMG or TEMPO, after n changes or after NOSIG.
 fn meet_change(g: &[u8], start: usize, end: usize, n: usize, nosig: bool) -> Next
-    ensures { result ≡ changeMet g.now start end n nosig }
+    ensures { result ≡ change_met g.now start end n nosig }
 {
     if nosig {
         return refuse(Refusal::Disagreement, start);

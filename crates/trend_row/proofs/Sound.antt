@@ -5,7 +5,7 @@ use mathlib.Core.Path.{◌≡◌, refl}
 use mathlib.Core.Bool.{Bool, true, false}
 use mathlib.Core.List.{[], ◌∷◌}
 use Rattle.figures.specs.Quote.{bytes}
-use Rattle.shapes.specs.Pattern.{low, high, clash, clashEach, allApart, hasPattern, hasAny}
+use Rattle.shapes.specs.Pattern.{low, high, clash, clash_each, all_apart, has_pattern, has_any}
 use Rattle.shapes.specs.Shape.{leading, split, parts_of, spellings}
 use Rattle.places.specs.Engine.{Group}
 use Rattle.places.proofs.ReadBack.{one-pattern, sound, Covered}
@@ -16,13 +16,13 @@ use Rattle.metar_row.specs.Row.{words}
 use Rattle.trend_row.specs.Row.{row}
 
 pub row-sound : (free : Bool) → sound words (row free) ≡ true
-unfolding row words low high clash clashEach allApart leading split parts_of spellings codes_of
+unfolding row words low high clash clash_each all_apart leading split parts_of spellings codes_of
 row-sound true = refl
 row-sound false = refl
 
 -- any group fits the pattern of any bytes
-all_fit : (g : Group) → hasAny (bytes "*" ∷ []) g ≡ true
-unfolding hasAny hasPattern
+all_fit : (g : Group) → has_any (bytes "*" ∷ []) g ≡ true
+unfolding has_any has_pattern
 all_fit [] = refl
 all_fit (b ∷ bs) = refl
 

@@ -8,33 +8,33 @@ use Rattle.places.specs.Lift.{lift, open_in, shut}
 use Rattle.record.specs.declared.aerodrome.Times.{Times}
 use Rattle.record.specs.declared.aerodrome.Body.{Body}
 use Rattle.record.specs.declared.aerodrome.TrendChange.{TrendChange}
-use Rattle.record.specs.Trend.{setTimes, setBody}
-use Rattle.elements.specs.Body.{changing, windPlace, visibilityPlace, weatherPlace, skyPlace}
-use Rattle.metar_row.specs.Row.{isKnown}
+use Rattle.record.specs.Trend.{set_times, set_body}
+use Rattle.elements.specs.Body.{changing, wind_place, visibility_place, weather_place, sky_place}
+use Rattle.metar_row.specs.Row.{is_known}
 use Rattle.trend_row.specs.declared.kinds.Word.{Word}
 use Rattle.trend_row.specs.declared.kinds.Word.TheVariants as word
-use Rattle.trend_row.specs.Times.{fromPlace, untilPlace, at_place}
+use Rattle.trend_row.specs.Times.{from_place, until_place, at_place}
 
 -- BECMG and TEMPO open a change, "NOSIG alone" does not
-abbrev pub isChange : Word → Bool
-isChange word.Nosig = false
-isChange word.Becoming = true
-isChange word.Temporary = true
+abbrev pub is_change : Word → Bool
+is_change word.Nosig = false
+is_change word.Becoming = true
+is_change word.Temporary = true
 
-abbrev pub ofTimes : Bool → Place Times → Place TrendChange
-ofTimes free p = open_in free (lift (λ (c : TrendChange). c.times) setTimes p)
+abbrev pub of_times : Bool → Place Times → Place TrendChange
+of_times free p = open_in free (lift (λ (c : TrendChange). c.times) set_times p)
 
-abbrev pub ofBody : Bool → Place Body → Place TrendChange
-ofBody free p = open_in free (lift (λ (c : TrendChange). c.body) setBody p)
+abbrev pub of_body : Bool → Place Body → Place TrendChange
+of_body free p = open_in free (lift (λ (c : TrendChange). c.body) set_body p)
 
 unfoldable pub row : Bool → List (Place TrendChange)
 row free =
-    shut isKnown (bytes "*" ∷ [])
-    ∷ ofTimes free fromPlace
-    ∷ ofTimes free untilPlace
-    ∷ ofTimes free at_place
-    ∷ ofBody free (windPlace changing)
-    ∷ ofBody free (visibilityPlace changing)
-    ∷ ofBody free (weatherPlace changing)
-    ∷ ofBody free (skyPlace changing)
+    shut is_known (bytes "*" ∷ [])
+    ∷ of_times free from_place
+    ∷ of_times free until_place
+    ∷ of_times free at_place
+    ∷ of_body free (wind_place changing)
+    ∷ of_body free (visibility_place changing)
+    ∷ of_body free (weather_place changing)
+    ∷ of_body free (sky_place changing)
     ∷ []

@@ -1,9 +1,9 @@
 // What the row of a trend's change has, in the code's words: which places have a group's shape, how many may stand, and which place a group goes to.
 // After NOSIG its places are closed.
 ghost use Rattle.std.specs.Prelude.{◌≡◌, ◌&&◌, drop};
-ghost use Rattle.places.specs.Seek.{answers, fitFrom, findOf};
-ghost use Rattle.places.specs.Engine.{placeAt, standsOf, mostsOf};
-ghost use Rattle.trend_row.specs.Row.{isChange, row};
+ghost use Rattle.places.specs.Seek.{answers, fit_from, find_of};
+ghost use Rattle.places.specs.Engine.{place_at, stands_of, mosts_of};
+ghost use Rattle.trend_row.specs.Row.{is_change, row};
 ghost use Rattle.trend_row.specs.Tests.{HasAt};
 
 use crate::kinds::Word;
@@ -17,7 +17,7 @@ use text::anew;
 use wind::read::{has_visibility, has_wind};
 
 pub fn is_change(word: Word) -> bool
-    ensures { result ≡ isChange word }
+    ensures { result ≡ is_change word }
 {
     match word {
         Word::Nosig => false,
@@ -45,7 +45,7 @@ fn has_at(place: usize, g: &[u8]) -> bool
 
 // How many groups may stand at each place?
 fn mosts(free: bool) -> [u8; 8]
-    ensures { result ≡ mostsOf (row free) }
+    ensures { result ≡ mosts_of (row free) }
 {
     if free {
         [0, 1, 1, 1, 1, 1, 3, 4]
@@ -56,7 +56,7 @@ fn mosts(free: bool) -> [u8; 8]
 
 // May this place, where `count` groups stand, answer for the group, and has it the group's shape? A shape is asked for only where it may.
 fn is_fit(free: bool, all: bool, place: usize, count: usize, g: &[u8]) -> bool
-    ensures { result ≡ (answers all count (placeAt (row free) place).most && (placeAt (row free) place).has g.now) }
+    ensures { result ≡ (answers all count (place_at (row free) place).most && (place_at (row free) place).has g.now) }
 {
     let most = mosts(free);
     if may_answer(all, count, most_at(&most, place)) {
@@ -68,7 +68,7 @@ fn is_fit(free: bool, all: bool, place: usize, count: usize, g: &[u8]) -> bool
 
 // The first such place from `place` on.
 fn fit_from(free: bool, all: bool, place: usize, count: usize, g: &[u8]) -> usize
-    ensures { result ≡ fitFrom all place count (drop place (standsOf (row free) g.now)) }
+    ensures { result ≡ fit_from all place count (drop place (stands_of (row free) g.now)) }
 {
     let group = anew(g);
     let mut i = place;
@@ -85,7 +85,7 @@ fn fit_from(free: bool, all: bool, place: usize, count: usize, g: &[u8]) -> usiz
 
 // The place that the group goes to. None must have a group.
 pub fn find(free: bool, place: usize, count: usize, g: &[u8]) -> Found
-    ensures { result ≡ findOf (standsOf (row free) g.now) place count }
+    ensures { result ≡ find_of (stands_of (row free) g.now) place count }
 {
     let fit = fit_from(free, false, place, count, g);
     if fit < 8 {

@@ -1,6 +1,6 @@
 // What decides at a word or at a change's end: whether the change lacks its element, whether there is room for one more, what the words are.
 ghost use Rattle.std.specs.Prelude.{◌≡◌};
-ghost use Rattle.trend_row.specs.Tests.{lacksIn, isFull};
+ghost use Rattle.trend_row.specs.Tests.{lacks_in, is_full};
 
 use crate::kinds::Word;
 use crate::row::is_change;
@@ -9,7 +9,7 @@ use record::aerodrome::Body;
 
 // Has a change no element?
 pub fn lacks(word: Word, b: Body) -> bool
-    ensures { result ≡ lacksIn word b }
+    ensures { result ≡ lacks_in word b }
 {
     let change = is_change(word);
     let some = has_element(b);
@@ -18,7 +18,7 @@ pub fn lacks(word: Word, b: Body) -> bool
 
 // There is no room for one change more.
 pub fn is_full(changes: usize) -> bool
-    ensures { result ≡ isFull changes }
+    ensures { result ≡ is_full changes }
 {
     3 <= changes
 }

@@ -2,8 +2,8 @@
 ghost use Rattle.std.specs.Prelude.{◌≡◌, ◌∷◌, [], ◌++◌};
 ghost use Rattle.figures.specs.Put.{Put};
 ghost use Rattle.text.specs.Groups.{written};
-ghost use Rattle.elements.specs.Answers.{asTimes};
-ghost use Rattle.trend_row.specs.Times.{isEnd, momentFits, withTime, isBarred, readTime, readFrom, readUntil, readAt, showMoment, showFrom, showUntil, showAt, hoursFit};
+ghost use Rattle.elements.specs.Answers.{as_times};
+ghost use Rattle.trend_row.specs.Times.{is_end, moment_fits, with_time, is_barred, read_time, read_from, read_until, read_at, show_moment, show_from, show_until, show_at, hours_fit};
 
 use crate::kinds::Mark;
 use elements::kinds::Said;
@@ -18,7 +18,7 @@ use text::write::open_group;
 
 // TL is where a change ends.
 fn is_end(mark: Mark) -> bool
-    ensures { result ≡ isEnd mark }
+    ensures { result ≡ is_end mark }
 {
     match mark {
         Mark::From => false,
@@ -29,7 +29,7 @@ fn is_end(mark: Mark) -> bool
 
 // 0000 to 2359, or where a change ends 2400 too
 fn is_right(end: bool, t: Moment) -> bool
-    ensures { result ≡ momentFits end t }
+    ensures { result ≡ moment_fits end t }
 {
     let hour = t.hour;
     let minute = t.minute;
@@ -40,7 +40,7 @@ fn is_right(end: bool, t: Moment) -> bool
 
 // The times that stand, with one more: TL after FM, or alone.
 fn with_time(mark: Mark, hours: Hours, t: Moment) -> Hours
-    ensures { result ≡ withTime mark hours t }
+    ensures { result ≡ with_time mark hours t }
 {
     match mark {
         Mark::From => Hours::From(t),
@@ -57,7 +57,7 @@ fn with_time(mark: Mark, hours: Hours, t: Moment) -> Hours
 
 // AT stands alone.
 fn is_barred(mark: Mark, hours: Hours) -> bool
-    ensures { result ≡ isBarred mark hours }
+    ensures { result ≡ is_barred mark hours }
 {
     match mark {
         Mark::From => false,
@@ -67,7 +67,7 @@ fn is_barred(mark: Mark, hours: Hours) -> bool
 }
 
 fn read_time(mark: Mark, g: &[u8], hours: Hours) -> Said
-    ensures { result ≡ asTimes (readTime mark g.now hours) }
+    ensures { result ≡ as_times (read_time mark g.now hours) }
 {
     if is_barred(mark, hours) {
         return Said::Refused(Refusal::Order);
@@ -88,7 +88,7 @@ fn read_time(mark: Mark, g: &[u8], hours: Hours) -> Said
 }
 
 pub fn read_from(g: &[u8]) -> Said
-    ensures { result ≡ asTimes (readFrom g.now) }
+    ensures { result ≡ as_times (read_from g.now) }
 {
     let mark = Mark::From;
     let none = Hours::None;
@@ -96,7 +96,7 @@ pub fn read_from(g: &[u8]) -> Said
 }
 
 pub fn read_until(g: &[u8], times: Times) -> Said
-    ensures { result ≡ asTimes (readUntil g.now times) }
+    ensures { result ≡ as_times (read_until g.now times) }
 {
     let mark = Mark::Until;
     let hours = times.is;
@@ -104,7 +104,7 @@ pub fn read_until(g: &[u8], times: Times) -> Said
 }
 
 pub fn read_at(g: &[u8], times: Times) -> Said
-    ensures { result ≡ asTimes (readAt g.now times) }
+    ensures { result ≡ as_times (read_at g.now times) }
 {
     let mark = Mark::At;
     let hours = times.is;
@@ -114,7 +114,7 @@ pub fn read_at(g: &[u8], times: Times) -> Said
 // ---- judging
 
 pub fn hours_fit(hours: Hours) -> bool
-    ensures { result ≡ hoursFit hours }
+    ensures { result ≡ hours_fit hours }
 {
     match hours {
         Hours::None => true,
@@ -128,7 +128,7 @@ pub fn hours_fit(hours: Hours) -> bool
 // ---- writing
 
 fn put_moment(out: &mut [u8], at: usize, word: &[u8], t: Moment) -> usize
-    ensures { Put out.old at (written at ((word.now ++ showMoment t) ∷ [])) result out.new }
+    ensures { Put out.old at (written at ((word.now ++ show_moment t) ∷ [])) result out.new }
 {
     let opened = open_group(out, at);
     let begun = put_text(out, opened, word);
@@ -138,7 +138,7 @@ fn put_moment(out: &mut [u8], at: usize, word: &[u8], t: Moment) -> usize
 
 // The times in their order.
 pub fn put_times(out: &mut [u8], at: usize, times: Times) -> usize
-    ensures { Put out.old at (written at (showFrom times.is ++ (showUntil times.is ++ showAt times.is))) result out.new }
+    ensures { Put out.old at (written at (show_from times.is ++ (show_until times.is ++ show_at times.is))) result out.new }
 {
     let hours = times.is;
     match hours {

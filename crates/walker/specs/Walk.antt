@@ -16,6 +16,6 @@ after_of (Group s e) = e
 after_of (End at) = at
 
 -- the groups that a walk gives where `cut` stands first and `later` are those after it
-abbrev pub givenFrom : List ℕ → Cut → List Piece → List Piece
-givenFrom text (Group s e) later = record { start = s; bytes = part_of text s e } ∷ later
-givenFrom text (End at) later = []
+abbrev pub given_from : List ℕ → Cut → List Piece → List Piece
+given_from text (Group s e) later = record { start = s; bytes = part_of text s e } ∷ later
+given_from text (End at) later = []

@@ -10,7 +10,7 @@ use lib.ListN.{length, drop, get_or}
 use lib.Dec.{eqb}
 use borrow.Author.Tests.{lt-ltb, le-ltb}
 use Rattle.record.specs.declared.aerodrome.Code.TheVariants as code
-use Rattle.elements.specs.Weather.{codes_of, among, allAmong, differ, code_at}
+use Rattle.elements.specs.Weather.{codes_of, among, all_among, differ, code_at}
 
 -- two letters more, or not
 pub next-code : (s : List ℕ) (i : ℕ) → 2 ≤ length s - i → codes_of (drop i s) ≡ (get_or s i 0 ∷ get_or s (i + 1) 0 ∷ []) ∷ codes_of (drop (i + 2) s)
@@ -62,13 +62,13 @@ module _ (a b : ℕ) (s : List ℕ) (i : ℕ) where
 -- all codes, by a test
 module _ (test : List ℕ → Bool) (s : List ℕ) (i : ℕ) where
   pub all-next : 2 ≤ length s - i → test (get_or s i 0 ∷ get_or s (i + 1) 0 ∷ []) ≡ true
-      → allAmong test (codes_of (drop (i + 2) s)) ≡ allAmong test (codes_of (drop i s))
+      → all_among test (codes_of (drop (i + 2) s)) ≡ all_among test (codes_of (drop i s))
   all-next h e = rw (next-code s i h, e)
 
-  pub all-stop : 2 ≤ length s - i → test (get_or s i 0 ∷ get_or s (i + 1) 0 ∷ []) ≡ false → false ≡ allAmong test (codes_of (drop i s))
+  pub all-stop : 2 ≤ length s - i → test (get_or s i 0 ∷ get_or s (i + 1) 0 ∷ []) ≡ false → false ≡ all_among test (codes_of (drop i s))
   all-stop h e = rw (next-code s i h, e)
 
-  pub all_end : length s - i < 2 → true ≡ allAmong test (codes_of (drop i s))
+  pub all_end : length s - i < 2 → true ≡ all_among test (codes_of (drop i s))
   all_end h = rw (no_code s i h)
 
 -- codes that differ

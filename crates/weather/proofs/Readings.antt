@@ -16,9 +16,9 @@ use Rattle.record.specs.declared.aerodrome.Code.TheVariants as code
 use Rattle.record.specs.declared.aerodrome.Phenomena.TheVariants as phenomena
 use Rattle.record.specs.declared.aerodrome.Weather.{Weather}
 use Rattle.elements.specs.declared.kinds.WeatherRead.TheVariants as weather
-use Rattle.elements.specs.Answers.{asWeather}
-use Rattle.elements.specs.Weather.{codes_of, among, allAmong, allCodes, is_code, isDescriptor, isSign, areCodes, someCodes, signedCodes, hasRecent, under, joined, intensityFits, weatherOf, code_at, saidWeather, unlessUnknown, onlyPlain, readRecent, one}
-use Rattle.weather.specs.Split.{intensityOf, signLength, descriptorOf, codeLength, told, reading_of}
+use Rattle.elements.specs.Answers.{as_weather}
+use Rattle.elements.specs.Weather.{codes_of, among, all_among, all_codes, is_code, is_descriptor, is_sign, are_codes, some_codes, signed_codes, has_recent, under, joined, intensity_fits, weather_of, code_at, said_weather, unless_unknown, only_plain, read_recent, one}
+use Rattle.weather.specs.Split.{intensity_of, sign_length, descriptor_of, code_length, told, reading_of}
 use Rattle.weather.proofs.Table.{in_table, all_alike, code-among}
 
 -- ---- shapes
@@ -27,29 +27,29 @@ even-next : (n : ℕ) → eqb (suc (suc n) % 2) 0 ≡ eqb (n % 2) 0
 even-next n = let e : suc (suc n) % 2 ≡ n % 2 = omega arith in rw e
 
 -- codes and nothing else are an even count of letters, each two a code
-are-codes : (s : List ℕ) → areCodes s ≡ (eqb (length s % 2) 0 && allAmong is_code (codes_of s))
-unfolding areCodes codes_of
+are-codes : (s : List ℕ) → are_codes s ≡ (eqb (length s % 2) 0 && all_among is_code (codes_of s))
+unfolding are_codes codes_of
 are-codes [] = refl
 are-codes (a ∷ []) = refl
-are-codes (a ∷ b ∷ s) = rw (are-codes s, even-next (length s)) (swap (is_code (a ∷ b ∷ [])) (eqb (length s % 2) 0) (allAmong is_code (codes_of s)))
+are-codes (a ∷ b ∷ s) = rw (are-codes s, even-next (length s)) (swap (is_code (a ∷ b ∷ [])) (eqb (length s % 2) 0) (all_among is_code (codes_of s)))
   where
     swap : (x y z : Bool) → (x && (y && z)) ≡ (y && (x && z))
     swap true y z = refl
     swap false true z = refl
     swap false false z = refl
 
-pub some-codes : (s : List ℕ) → someCodes s ≡ (ltb 0 (length s) && eqb (length s % 2) 0 && allAmong (λ c. among c allCodes) (codes_of s))
+pub some-codes : (s : List ℕ) → some_codes s ≡ (ltb 0 (length s) && eqb (length s % 2) 0 && all_among (λ c. among c all_codes) (codes_of s))
 some-codes s =
-    rw (are-codes s, all_alike (λ c. among c allCodes) is_code code-among (codes_of s))
-    (sym (and_assoc (ltb 0 (length s)) (eqb (length s % 2) 0) (allAmong is_code (codes_of s))))
+    rw (are-codes s, all_alike (λ c. among c all_codes) is_code code-among (codes_of s))
+    (sym (and_assoc (ltb 0 (length s)) (eqb (length s % 2) 0) (all_among is_code (codes_of s))))
 
-pub signed-codes : (g : Group) → signedCodes g ≡ cond (isSign (get_or g 0 0)) (someCodes (drop 1 g)) (someCodes g)
-unfolding signedCodes
+pub signed-codes : (g : Group) → signed_codes g ≡ cond (is_sign (get_or g 0 0)) (some_codes (drop 1 g)) (some_codes g)
+unfolding signed_codes
 signed-codes [] = refl
 signed-codes (b ∷ g) = refl
 
-pub recent-codes : (g : Group) → hasRecent g ≡ (eqb (get_or g 0 0) 82 && eqb (get_or g 1 0) 69 && signedCodes (drop 2 g))
-unfolding hasRecent
+pub recent-codes : (g : Group) → has_recent g ≡ (eqb (get_or g 0 0) 82 && eqb (get_or g 1 0) 69 && signed_codes (drop 2 g))
+unfolding has_recent
 recent-codes [] = refl
 recent-codes (r ∷ []) = rw (and-false (eqb r 82))
 recent-codes (r ∷ e ∷ g) = refl
@@ -57,40 +57,40 @@ recent-codes (r ∷ e ∷ g) = refl
 -- ---- the descriptor
 
 -- no descriptor has the second letter 0
-half : (a : ℕ) → isDescriptor (a ∷ 0 ∷ []) ≡ false
-half a = go (isDescriptor (a ∷ 0 ∷ [])) refl
+half : (a : ℕ) → is_descriptor (a ∷ 0 ∷ []) ≡ false
+half a = go (is_descriptor (a ∷ 0 ∷ [])) refl
   where
-    go : (t : Bool) → isDescriptor (a ∷ 0 ∷ []) ≡ t → t ≡ false
+    go : (t : Bool) → is_descriptor (a ∷ 0 ∷ []) ≡ t → t ≡ false
     go true h =
         absurd (false≢true (in_table (λ c. not (eqb (get_or c 1 0) 0)) (codes_of (bytes "MIBCPRDRBLSHTSFZ")) (unfold codes_of in refl) (a ∷ 0 ∷ []) h))
     go false h = refl
 
-joined_is : (s : List ℕ) → joined (codes_of s) ≡ under (descriptorOf s) (codes_of (drop (codeLength (descriptorOf s)) s))
-unfolding descriptorOf codes_of
+joined_is : (s : List ℕ) → joined (codes_of s) ≡ under (descriptor_of s) (codes_of (drop (code_length (descriptor_of s)) s))
+unfolding descriptor_of codes_of
 joined_is [] = refl
 joined_is (a ∷ []) = rw (half a)
-joined_is (a ∷ b ∷ s) = go (isDescriptor (a ∷ b ∷ [])) refl
+joined_is (a ∷ b ∷ s) = go (is_descriptor (a ∷ b ∷ [])) refl
   where
-    go : (t : Bool) → isDescriptor (a ∷ b ∷ []) ≡ t → joined (codes_of (a ∷ b ∷ s)) ≡ under (descriptorOf (a ∷ b ∷ s)) (codes_of (drop (codeLength (descriptorOf (a ∷ b ∷ s))) (a ∷ b ∷ s)))
+    go : (t : Bool) → is_descriptor (a ∷ b ∷ []) ≡ t → joined (codes_of (a ∷ b ∷ s)) ≡ under (descriptor_of (a ∷ b ∷ s)) (codes_of (drop (code_length (descriptor_of (a ∷ b ∷ s))) (a ∷ b ∷ s)))
     go true h = rw h
     go false h = rw h
 
 pub weather-of : (i : Intensity) (d : Code) (cs : List (List ℕ))
-    → weatherOf i (under d cs) ≡ record { is = phenomena.Is i d (code_at cs 0) (code_at cs 1) (code_at cs 2) }
+    → weather_of i (under d cs) ≡ record { is = phenomena.Is i d (code_at cs 0) (code_at cs 1) (code_at cs 2) }
 weather-of i code.None cs = refl
 weather-of i (code.Letters a b) cs = refl
 
 -- codes after their sign or VC, by the descriptor and what stands after it
-module _ (i : Intensity) (s : List ℕ) {d : Code} {rest : List ℕ} (named : d ≡ descriptorOf s) (left : rest ≡ drop (codeLength d) s) where
+module _ (i : Intensity) (s : List ℕ) {d : Code} {rest : List ℕ} (named : d ≡ descriptor_of s) (left : rest ≡ drop (code_length d) s) where
   parts : joined (codes_of s) ≡ under d (codes_of rest)
   parts = rw (joined_is s, ← named, ← left)
 
-  pub told-good : intensityFits i (under d (codes_of rest)) ≡ true
-      → weather.Good (record { is = phenomena.Is i d (code_at (codes_of rest) 0) (code_at (codes_of rest) 1) (code_at (codes_of rest) 2) }) ≡ asWeather (told i (codes_of s))
+  pub told-good : intensity_fits i (under d (codes_of rest)) ≡ true
+      → weather.Good (record { is = phenomena.Is i d (code_at (codes_of rest) 0) (code_at (codes_of rest) 1) (code_at (codes_of rest) 2) }) ≡ as_weather (told i (codes_of s))
   unfolding told
   told-good h = rw (parts, h, weather-of i d (codes_of rest))
 
-  pub told-bad : intensityFits i (under d (codes_of rest)) ≡ false → weather.Bad refusal.Figure ≡ asWeather (told i (codes_of s))
+  pub told-bad : intensity_fits i (under d (codes_of rest)) ≡ false → weather.Bad refusal.Figure ≡ as_weather (told i (codes_of s))
   unfolding told
   told-bad h = rw (parts, h)
 
@@ -113,16 +113,16 @@ is-vicinity : (a b : ℕ) → one "VC" (a ∷ b ∷ []) ≡ (eqb a 86 && eqb b 6
 unfolding codes_of
 is-vicinity a b = rw (and-true (eqb b 67), or-false (eqb a 86 && eqb b 67))
 
-pub said-is : (g : Group) → saidWeather g ≡ told (intensityOf g) (codes_of (drop (signLength (intensityOf g)) g))
-unfolding saidWeather intensityOf told
+pub said-is : (g : Group) → said_weather g ≡ told (intensity_of g) (codes_of (drop (sign_length (intensity_of g)) g))
+unfolding said_weather intensity_of told
 said-is [] = rw no-codes
 said-is (b ∷ g) = plus (eqb b 43) refl
   where
     Same : Type 0
-    Same = saidWeather (b ∷ g) ≡ told (intensityOf (b ∷ g)) (codes_of (drop (signLength (intensityOf (b ∷ g))) (b ∷ g)))
+    Same = said_weather (b ∷ g) ≡ told (intensity_of (b ∷ g)) (codes_of (drop (sign_length (intensity_of (b ∷ g))) (b ∷ g)))
 
     near : (g : Group) → eqb b 43 ≡ false → eqb b 45 ≡ false → (t : Bool) → (eqb b 86 && eqb (get_or g 0 0) 67) ≡ t
-        → saidWeather (b ∷ g) ≡ told (intensityOf (b ∷ g)) (codes_of (drop (signLength (intensityOf (b ∷ g))) (b ∷ g)))
+        → said_weather (b ∷ g) ≡ told (intensity_of (b ∷ g)) (codes_of (drop (sign_length (intensity_of (b ∷ g))) (b ∷ g)))
     near [] p m t h = rw (p, m, and-false (eqb b 86), half-code b)
     near (e ∷ g) p m true h = rw (p, m, h, one_code b e g, is-vicinity b e, h)
     near (e ∷ g) p m false h = rw (p, m, h, one_code b e g, is-vicinity b e, h)
@@ -137,12 +137,12 @@ said-is (b ∷ g) = plus (eqb b 43) refl
 
 -- ---- a reading and its answer
 
-pub reading-of : (x : Read Weather) → reading_of (asWeather x) ≡ x
+pub reading-of : (x : Read Weather) → reading_of (as_weather x) ≡ x
 reading-of (Good w) = refl
 reading-of (Bad f) = refl
 
-pub recent-is : (automatic : Bool) (g : Group) → readRecent automatic g ≡ unlessUnknown automatic (onlyPlain (saidWeather (drop 2 g)))
-unfolding readRecent saidWeather
+pub recent-is : (automatic : Bool) (g : Group) → read_recent automatic g ≡ unless_unknown automatic (only_plain (said_weather (drop 2 g)))
+unfolding read_recent said_weather
 recent-is automatic [] = refl
 recent-is automatic (r ∷ []) = refl
 recent-is automatic (r ∷ e ∷ g) = refl

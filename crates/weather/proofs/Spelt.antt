@@ -9,19 +9,19 @@ use lib.ListN.{length}
 use lib.Dec.{leb, eqb}
 use borrow.Author.Tests.{not-true, lt-ltb, lt-leb, leb-true, ne_eqb, eqb-true}
 use Rattle.figures.specs.Quote.{bytes}
-use Rattle.figures.specs.Figures.{every, isLetter}
+use Rattle.figures.specs.Figures.{every, is_letter}
 use Rattle.text.specs.Groups.{Every}
-use Rattle.shapes.specs.Pattern.{hasPattern, fits, low, high}
+use Rattle.shapes.specs.Pattern.{has_pattern, fits, low, high}
 use Rattle.shapes.proofs.Patterns.{both}
 use Rattle.record.specs.declared.aerodrome.Intensity.{Intensity}
 use Rattle.record.specs.declared.aerodrome.Intensity.TheVariants as intensity
 use Rattle.record.specs.declared.aerodrome.Code.{Code}
 use Rattle.record.specs.declared.aerodrome.Code.TheVariants as code
 use Rattle.record.specs.declared.aerodrome.Phenomena.TheVariants as phenomena
-use Rattle.elements.specs.Weather.{codes_of, one, is_code, areCodes, someCodes, signedCodes, allAmong, listed, saidWeather, codeText, signText, phenomenaText}
+use Rattle.elements.specs.Weather.{codes_of, one, is_code, are_codes, some_codes, signed_codes, all_among, listed, said_weather, code_text, sign_text_lem, phenomena_text}
 use Rattle.weather.specs.Split.{told}
 use Rattle.weather.proofs.Table.{in_table}
-use Rattle.weather.proofs.Fits.{joins, isJoined}
+use Rattle.weather.proofs.Fits.{joins, is_joined}
 
 -- ---- codes one after the other
 
@@ -29,38 +29,38 @@ abbrev pub spelt : List (List ℕ) → List ℕ
 spelt [] = []
 spelt (c ∷ cs) = c ++ spelt cs
 
-spelt-listed : (a : Code) (cs : List (List ℕ)) → spelt (listed a cs) ≡ codeText a ++ spelt cs
+spelt-listed : (a : Code) (cs : List (List ℕ)) → spelt (listed a cs) ≡ code_text a ++ spelt cs
 spelt-listed code.None cs = refl
 spelt-listed (code.Letters x y) cs = refl
 
 -- a record's text is its codes one after the other
-pub text-spelt : (i : Intensity) (d a b c : Code) → phenomenaText (phenomena.Is i d a b c) ≡ signText i ++ spelt (listed d (listed a (listed b (listed c []))))
+pub text-spelt : (i : Intensity) (d a b c : Code) → phenomena_text (phenomena.Is i d a b c) ≡ sign_text_lem i ++ spelt (listed d (listed a (listed b (listed c []))))
 text-spelt i d a b c =
     rw (spelt-listed d (listed a (listed b (listed c []))), spelt-listed a (listed b (listed c [])), spelt-listed b (listed c []), spelt-listed c [])
     (simp (append_assoc, append-nil))
 
 -- a code in its two letters
-module _ (P : List ℕ → Type 0) (k : (a b : ℕ) → isJoined (a ∷ b ∷ []) ≡ true → P (a ∷ b ∷ [])) where
-  by-letters : (c : List ℕ) → isJoined c ≡ true → P c
+module _ (P : List ℕ → Type 0) (k : (a b : ℕ) → is_joined (a ∷ b ∷ []) ≡ true → P (a ∷ b ∷ [])) where
+  by-letters : (c : List ℕ) → is_joined c ≡ true → P c
   by-letters c h = go c h (eqb-true (length c) 2 (in_table (λ c. eqb (length c) 2) joins (unfold codes_of in refl) c h))
     where
-      go : (c : List ℕ) → isJoined c ≡ true → length c ≡ 2 → P c
+      go : (c : List ℕ) → is_joined c ≡ true → length c ≡ 2 → P c
       go [] h e = absurd (omega arith)
       go (a ∷ []) h e = absurd (omega arith)
       go (a ∷ b ∷ []) h e = k a b h
       go (a ∷ b ∷ x ∷ c) h e = absurd (omega arith)
 
-module _ (a b : ℕ) (h : isJoined (a ∷ b ∷ []) ≡ true) where
+module _ (a b : ℕ) (h : is_joined (a ∷ b ∷ []) ≡ true) where
   is-code : is_code (a ∷ b ∷ []) ≡ true
   is-code = in_table is_code joins (unfold codes_of in refl) (a ∷ b ∷ []) h
 
   not-vicinity : one "VC" (a ∷ b ∷ []) ≡ false
   not-vicinity = not-true (one "VC" (a ∷ b ∷ [])) (in_table (λ c. not (one "VC" c)) joins (unfold codes_of in refl) (a ∷ b ∷ []) h)
 
-  letters : (isLetter a ≡ true) × (isLetter b ≡ true)
+  letters : (is_letter a ≡ true) × (is_letter b ≡ true)
   letters =
-      let t = both (isLetter a) (isLetter b && true) (in_table (every isLetter) joins (unfold codes_of in refl) (a ∷ b ∷ []) h) in
-      (t.0, (both (isLetter b) true t.1).0)
+      let t = both (is_letter a) (is_letter b && true) (in_table (every is_letter) joins (unfold codes_of in refl) (a ∷ b ∷ []) h) in
+      (t.0, (both (is_letter b) true t.1).0)
 
   high-letter : 65 ≤ a
   high-letter = leb-true 65 a (both (leb 65 a) (leb a 90) letters.0).0
@@ -77,69 +77,69 @@ module _ (a b : ℕ) (h : isJoined (a ∷ b ∷ []) ≡ true) where
 
 -- ---- the codes that are written
 
-module _ (P : ℕ → Bool) (k : (x : ℕ) → isLetter x ≡ true → P x ≡ true) where
-  pub spelt-every : (ds : List (List ℕ)) → allAmong isJoined ds ≡ true → Every P (spelt ds)
+module _ (P : ℕ → Bool) (k : (x : ℕ) → is_letter x ≡ true → P x ≡ true) where
+  pub spelt-every : (ds : List (List ℕ)) → all_among is_joined ds ≡ true → Every P (spelt ds)
   spelt-every [] h = tt
   spelt-every (c ∷ ds) h =
-      let t = both (isJoined c) (allAmong isJoined ds) h in
+      let t = both (is_joined c) (all_among is_joined ds) h in
       let rest = spelt-every ds t.1 in
       by-letters (λ c. Every P (c ++ spelt ds)) (λ a b j. (k a (letters a b j).0, (k b (letters a b j).1, rest))) c t.0
 
-pub spelt-length : (ds : List (List ℕ)) → allAmong isJoined ds ≡ true → length (spelt ds) ≡ 2 * length ds
+pub spelt-length : (ds : List (List ℕ)) → all_among is_joined ds ≡ true → length (spelt ds) ≡ 2 * length ds
 spelt-length [] h = refl
 spelt-length (c ∷ ds) h =
-    let t = both (isJoined c) (allAmong isJoined ds) h in
+    let t = both (is_joined c) (all_among is_joined ds) h in
     let rest = spelt-length ds t.1 in
     by-letters (λ c. length (c ++ spelt ds) ≡ 2 * length (c ∷ ds)) (λ a b j. omega arith) c t.0
 
-codes-back : (ds : List (List ℕ)) → allAmong isJoined ds ≡ true → codes_of (spelt ds) ≡ ds
+codes-back : (ds : List (List ℕ)) → all_among is_joined ds ≡ true → codes_of (spelt ds) ≡ ds
 unfolding codes_of
 codes-back [] h = refl
 codes-back (c ∷ ds) h =
-    let t = both (isJoined c) (allAmong isJoined ds) h in
+    let t = both (is_joined c) (all_among is_joined ds) h in
     let rest = codes-back ds t.1 in
     by-letters (λ c. codes_of (c ++ spelt ds) ≡ c ∷ ds) (λ a b j. ap (λ (l : List (List ℕ)). (a ∷ b ∷ []) ∷ l) rest) c t.0
 
-codes_all : (ds : List (List ℕ)) → allAmong isJoined ds ≡ true → areCodes (spelt ds) ≡ true
-unfolding areCodes
+codes_all : (ds : List (List ℕ)) → all_among is_joined ds ≡ true → are_codes (spelt ds) ≡ true
+unfolding are_codes
 codes_all [] h = refl
 codes_all (c ∷ ds) h =
-    let t = both (isJoined c) (allAmong isJoined ds) h in
+    let t = both (is_joined c) (all_among is_joined ds) h in
     let rest = codes_all ds t.1 in
-    by-letters (λ c. areCodes (c ++ spelt ds) ≡ true) (λ a b j. rw (is-code a b j) rest) c t.0
+    by-letters (λ c. are_codes (c ++ spelt ds) ≡ true) (λ a b j. rw (is-code a b j) rest) c t.0
 
-some-spelt : (ds : List (List ℕ)) → allAmong isJoined ds ≡ true → 1 ≤ length ds → someCodes (spelt ds) ≡ true
+some-spelt : (ds : List (List ℕ)) → all_among is_joined ds ≡ true → 1 ≤ length ds → some_codes (spelt ds) ≡ true
 some-spelt ds h n = rw (lt-ltb 0 (length (spelt ds)) (omega (arith, spelt-length ds h))) (codes_all ds h)
 
 -- ---- a group of a sign, VC or neither, and one or more codes: that it is not //, its shape, its reading
 
 -- the first code in its letters
-module _ (P : List (List ℕ) → Type 0) (k : (a b : ℕ) (ds : List (List ℕ)) → isJoined (a ∷ b ∷ []) ≡ true → allAmong isJoined ((a ∷ b ∷ []) ∷ ds) ≡ true → P ((a ∷ b ∷ []) ∷ ds)) where
-  by_first : (ds : List (List ℕ)) → allAmong isJoined ds ≡ true → 1 ≤ length ds → P ds
+module _ (P : List (List ℕ) → Type 0) (k : (a b : ℕ) (ds : List (List ℕ)) → is_joined (a ∷ b ∷ []) ≡ true → all_among is_joined ((a ∷ b ∷ []) ∷ ds) ≡ true → P ((a ∷ b ∷ []) ∷ ds)) where
+  by_first : (ds : List (List ℕ)) → all_among is_joined ds ≡ true → 1 ≤ length ds → P ds
   by_first [] h n = absurd (omega arith)
   by_first (c ∷ ds) h n =
-      by-letters (λ c. allAmong isJoined (c ∷ ds) ≡ true → P (c ∷ ds)) (λ a b j. k a b ds j) c (both (isJoined c) (allAmong isJoined ds) h).0 h
+      by-letters (λ c. all_among is_joined (c ∷ ds) ≡ true → P (c ∷ ds)) (λ a b j. k a b ds j) c (both (is_joined c) (all_among is_joined ds) h).0 h
 
-pub no-slashes : (i : Intensity) (ds : List (List ℕ)) → allAmong isJoined ds ≡ true → 1 ≤ length ds → hasPattern (signText i ++ spelt ds) (bytes "//") ≡ false
-unfolding hasPattern fits low high
+pub no-slashes : (i : Intensity) (ds : List (List ℕ)) → all_among is_joined ds ≡ true → 1 ≤ length ds → has_pattern (sign_text_lem i ++ spelt ds) (bytes "//") ≡ false
+unfolding has_pattern fits low high
 no-slashes intensity.None ds h n =
-    by_first (λ ds. hasPattern (spelt ds) (bytes "//") ≡ false) (λ a b ds j h. rw (not-slash a b j, and-false (leb 47 a))) ds h n
+    by_first (λ ds. has_pattern (spelt ds) (bytes "//") ≡ false) (λ a b ds j h. rw (not-slash a b j, and-false (leb 47 a))) ds h n
 no-slashes intensity.Light ds h n = refl
 no-slashes intensity.Heavy ds h n = refl
 no-slashes intensity.Vicinity ds h n = refl
 
-pub shape-spelt : (i : Intensity) (ds : List (List ℕ)) → allAmong isJoined ds ≡ true → 1 ≤ length ds → signedCodes (signText i ++ spelt ds) ≡ true
-unfolding signedCodes areCodes codes_of
+pub shape-spelt : (i : Intensity) (ds : List (List ℕ)) → all_among is_joined ds ≡ true → 1 ≤ length ds → signed_codes (sign_text_lem i ++ spelt ds) ≡ true
+unfolding signed_codes are_codes codes_of
 shape-spelt intensity.None ds h n =
-    by_first (λ ds. signedCodes (spelt ds) ≡ true) (λ a b ds j h. rw (not-plus a b j, not-minus a b j) (some-spelt ((a ∷ b ∷ []) ∷ ds) h (omega arith))) ds h n
+    by_first (λ ds. signed_codes (spelt ds) ≡ true) (λ a b ds j h. rw (not-plus a b j, not-minus a b j) (some-spelt ((a ∷ b ∷ []) ∷ ds) h (omega arith))) ds h n
 shape-spelt intensity.Light ds h n = some-spelt ds h n
 shape-spelt intensity.Heavy ds h n = some-spelt ds h n
 shape-spelt intensity.Vicinity ds h n = rw (lt-ltb 0 (length (86 ∷ 67 ∷ spelt ds)) (omega arith)) (codes_all ds h)
 
-pub said-spelt : (i : Intensity) (ds : List (List ℕ)) → allAmong isJoined ds ≡ true → 1 ≤ length ds → saidWeather (signText i ++ spelt ds) ≡ told i ds
-unfolding saidWeather told
+pub said-spelt : (i : Intensity) (ds : List (List ℕ)) → all_among is_joined ds ≡ true → 1 ≤ length ds → said_weather (sign_text_lem i ++ spelt ds) ≡ told i ds
+unfolding said_weather told
 said-spelt intensity.None ds h n =
-    by_first (λ ds. saidWeather (spelt ds) ≡ told intensity.None ds)
+    by_first (λ ds. said_weather (spelt ds) ≡ told intensity.None ds)
     (λ a b ds j h. rw (not-plus a b j, not-minus a b j, codes-back ((a ∷ b ∷ []) ∷ ds) h, not-vicinity a b j)) ds h n
 said-spelt intensity.Light ds h n = rw (codes-back ds h)
 said-spelt intensity.Heavy ds h n = rw (codes-back ds h)

@@ -8,7 +8,7 @@ use lib.Dec.{eqb}
 use borrow.Author.Tests.{eqb-true}
 use Rattle.figures.specs.Quote.{bytes}
 use Rattle.shapes.proofs.Patterns.{both, or_cases}
-use Rattle.elements.specs.Weather.{codes_of, same, among, allAmong, isDescriptor, isPrecipitation, isPhenomenon, one, is_code, allCodes}
+use Rattle.elements.specs.Weather.{codes_of, same, among, all_among, is_descriptor, is_precipitation, is_phenomenon, one, is_code, all_codes}
 
 pub same-eq : (c d : List ℕ) → same c d ≡ true → c ≡ d
 same-eq [] [] h = refl
@@ -21,21 +21,21 @@ same-eq (x ∷ c) (y ∷ d) h =
     cc
 
 -- what every code of a list passes, a code that is one of them passes
-pub in_table : (test : List ℕ → Bool) (ds : List (List ℕ)) → allAmong test ds ≡ true → (c : List ℕ) → among c ds ≡ true → test c ≡ true
+pub in_table : (test : List ℕ → Bool) (ds : List (List ℕ)) → all_among test ds ≡ true → (c : List ℕ) → among c ds ≡ true → test c ≡ true
 in_table test [] a c h = absurd (false≢true h)
 in_table test (d ∷ ds) a c h =
-    let t = both (test d) (allAmong test ds) a in
+    let t = both (test d) (all_among test ds) a in
     or_cases (same c d) (among c ds) h (λ e. rw (same-eq c d e) t.0) (in_table test ds t.1 c)
 
 -- and so codes that are each one of them
-pub all-in-table : (test : List ℕ → Bool) (ds : List (List ℕ)) → allAmong test ds ≡ true → (cs : List (List ℕ)) → allAmong (λ c. among c ds) cs ≡ true
-    → allAmong test cs ≡ true
+pub all-in-table : (test : List ℕ → Bool) (ds : List (List ℕ)) → all_among test ds ≡ true → (cs : List (List ℕ)) → all_among (λ c. among c ds) cs ≡ true
+    → all_among test cs ≡ true
 all-in-table test ds a [] h = refl
 all-in-table test ds a (c ∷ cs) h =
-    let t = both (among c ds) (allAmong (λ c. among c ds) cs) h in
+    let t = both (among c ds) (all_among (λ c. among c ds) cs) h in
     rw (in_table test ds a c t.0) (all-in-table test ds a cs t.1)
 
-pub all_alike : (f g : List ℕ → Bool) → ((c : List ℕ) → f c ≡ g c) → (cs : List (List ℕ)) → allAmong f cs ≡ allAmong g cs
+pub all_alike : (f g : List ℕ → Bool) → ((c : List ℕ) → f c ≡ g c) → (cs : List (List ℕ)) → all_among f cs ≡ all_among g cs
 all_alike f g e [] = refl
 all_alike f g e (c ∷ cs) = rw (e c, all_alike f g e cs)
 
@@ -44,11 +44,11 @@ among-append c [] ys = refl
 among-append c (x ∷ xs) ys = rw (among-append c xs ys) (sym (or_assoc (same c x) (among c xs) (among c ys)))
 
 -- a code of the table is one of all
-pub code-among : (c : List ℕ) → among c allCodes ≡ is_code c
+pub code-among : (c : List ℕ) → among c all_codes ≡ is_code c
 code-among c =
-    rw (or_assoc (isDescriptor c || isPrecipitation c) (isPhenomenon c) (one "VC" c), or_assoc (isDescriptor c) (isPrecipitation c) (isPhenomenon c || one "VC" c))
+    rw (or_assoc (is_descriptor c || is_precipitation c) (is_phenomenon c) (one "VC" c), or_assoc (is_descriptor c) (is_precipitation c) (is_phenomenon c || one "VC" c))
     (split
-    ∙ ap (λ (t : Bool). isDescriptor c || t) (among-append c precipitation (phenomenon ++ vicinity) ∙ ap (λ (t : Bool). isPrecipitation c || t) (among-append c phenomenon vicinity)))
+    ∙ ap (λ (t : Bool). is_descriptor c || t) (among-append c precipitation (phenomenon ++ vicinity) ∙ ap (λ (t : Bool). is_precipitation c || t) (among-append c phenomenon vicinity)))
   where
     descriptor : List (List ℕ)
     descriptor = codes_of (bytes "MIBCPRDRBLSHTSFZ")
@@ -62,8 +62,8 @@ code-among c =
     vicinity : List (List ℕ)
     vicinity = codes_of (bytes "VC")
 
-    whole : allCodes ≡ descriptor ++ (precipitation ++ (phenomenon ++ vicinity))
+    whole : all_codes ≡ descriptor ++ (precipitation ++ (phenomenon ++ vicinity))
     whole = unfold codes_of in refl
 
-    split : among c allCodes ≡ (isDescriptor c || among c (precipitation ++ (phenomenon ++ vicinity)))
+    split : among c all_codes ≡ (is_descriptor c || among c (precipitation ++ (phenomenon ++ vicinity)))
     split = rw whole (among-append c descriptor (precipitation ++ (phenomenon ++ vicinity)))

@@ -10,30 +10,30 @@ use Rattle.record.specs.declared.aerodrome.Weather.{Weather}
 use Rattle.elements.specs.declared.kinds.WeatherRead.{WeatherRead}
 use Rattle.elements.specs.declared.kinds.WeatherRead.TheVariants as weather
 use Rattle.elements.specs.Parts.{provided}
-use Rattle.elements.specs.Weather.{isDescriptor, intensityFits, weatherOf, joined}
+use Rattle.elements.specs.Weather.{is_descriptor, intensity_fits, weather_of, joined}
 
 -- "+", "-", "VC"
-unfoldable pub intensityOf : Group → Intensity
-intensityOf g =
+unfoldable pub intensity_of : Group → Intensity
+intensity_of g =
     cond (eqb (get_or g 0 0) 43) intensity.Heavy
     (cond (eqb (get_or g 0 0) 45) intensity.Light (cond (eqb (get_or g 0 0) 86 && eqb (get_or g 1 0) 67) intensity.Vicinity intensity.None))
 
-abbrev pub signLength : Intensity → ℕ
-signLength intensity.None = 0
-signLength intensity.Light = 1
-signLength intensity.Heavy = 1
-signLength intensity.Vicinity = 2
+abbrev pub sign_length : Intensity → ℕ
+sign_length intensity.None = 0
+sign_length intensity.Light = 1
+sign_length intensity.Heavy = 1
+sign_length intensity.Vicinity = 2
 
-unfoldable pub descriptorOf : List ℕ → Code
-descriptorOf s = cond (isDescriptor (get_or s 0 0 ∷ get_or s 1 0 ∷ [])) (code.Letters (get_or s 0 0) (get_or s 1 0)) code.None
+unfoldable pub descriptor_of : List ℕ → Code
+descriptor_of s = cond (is_descriptor (get_or s 0 0 ∷ get_or s 1 0 ∷ [])) (code.Letters (get_or s 0 0) (get_or s 1 0)) code.None
 
-abbrev pub codeLength : Code → ℕ
-codeLength code.None = 0
-codeLength (code.Letters a b) = 2
+abbrev pub code_length : Code → ℕ
+code_length code.None = 0
+code_length (code.Letters a b) = 2
 
 -- codes after their sign or VC: the weather, if they may stand so
 unfoldable pub told : Intensity → List (List ℕ) → Read Weather
-told i cs = provided (intensityFits i (joined cs)) (Good (weatherOf i (joined cs)))
+told i cs = provided (intensity_fits i (joined cs)) (Good (weather_of i (joined cs)))
 
 -- a reading by its answer
 abbrev pub reading_of : WeatherRead → Read Weather

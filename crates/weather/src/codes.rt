@@ -1,8 +1,8 @@
 // The codes of table 4678, two letters each, and how they are joined. A text of codes is the codes one after the other; a letter that is left over at
 // its end says nothing.
 ghost use Rattle.std.specs.Prelude.{◌≡◌, ◌&&◌, ◌∷◌, []};
-ghost use Rattle.elements.specs.Weather.{codes_of, among, isDescriptor, allAmong, differ, precipitations, single, suits, under, right, inVicinity, signed, intensityFits, code_at};
-ghost use Rattle.weather.specs.Split.{descriptorOf, codeLength};
+ghost use Rattle.elements.specs.Weather.{codes_of, among, is_descriptor, all_among, differ, precipitations, single, suits, under, right, in_vicinity, signed, intensity_fits, code_at};
+ghost use Rattle.weather.specs.Split.{descriptor_of, code_length};
 
 use figures::byte_at;
 use record::aerodrome::{Code, Intensity};
@@ -24,7 +24,7 @@ pub fn is_one(codes: &[u8], a: u8, b: u8) -> bool
 
 // Every code of s is one of the codes.
 pub fn all_among(codes: &[u8], s: &[u8]) -> bool
-    ensures { result ≡ allAmong (λ c. among c (codes_of codes.now)) (codes_of s.now) }
+    ensures { result ≡ all_among (λ c. among c (codes_of codes.now)) (codes_of s.now) }
 {
     let mut i = 0;
     while 2 <= s.len() - i {
@@ -76,7 +76,7 @@ fn is_single(codes: &[u8], s: &[u8]) -> bool
 
 // Precipitations of these kinds only.
 fn falls_as(codes: &[u8], s: &[u8]) -> bool
-    ensures { result ≡ (precipitations (codes_of s.now) && allAmong (λ c. among c (codes_of codes.now)) (codes_of s.now)) }
+    ensures { result ≡ (precipitations (codes_of s.now) && all_among (λ c. among c (codes_of codes.now)) (codes_of s.now)) }
 {
     if are_precipitations(s) {
         all_among(codes, s)
@@ -115,7 +115,7 @@ pub fn is_right(d: Code, s: &[u8]) -> bool
 
 // They may stand after VC.
 pub fn is_near(d: Code, s: &[u8]) -> bool
-    ensures { result ≡ inVicinity (under d (codes_of s.now)) }
+    ensures { result ≡ in_vicinity (under d (codes_of s.now)) }
 {
     match d {
         Code::None => is_single(b"DSSSFGFCPOVA", s),
@@ -142,7 +142,7 @@ pub fn takes_sign(heavy: bool, d: Code, s: &[u8]) -> bool
 
 // They may stand after this sign, or VC, or neither.
 pub fn intensity_fits(i: Intensity, d: Code, s: &[u8]) -> bool
-    ensures { result ≡ intensityFits i (under d (codes_of s.now)) }
+    ensures { result ≡ intensity_fits i (under d (codes_of s.now)) }
 {
     match i {
         Intensity::None => is_right(d, s),
@@ -153,14 +153,14 @@ pub fn intensity_fits(i: Intensity, d: Code, s: &[u8]) -> bool
 }
 
 pub fn is_descriptor(a: u8, b: u8) -> bool
-    ensures { result ≡ isDescriptor (a ∷ b ∷ []) }
+    ensures { result ≡ is_descriptor (a ∷ b ∷ []) }
 {
     is_one(b"MIBCPRDRBLSHTSFZ", a, b)
 }
 
 // The descriptor that stands first, if one does.
 pub fn descriptor_of(s: &[u8]) -> Code
-    ensures { result ≡ descriptorOf s.now }
+    ensures { result ≡ descriptor_of s.now }
 {
     let first = byte_at(s, 0);
     let second = byte_at(s, 1);
@@ -172,7 +172,7 @@ pub fn descriptor_of(s: &[u8]) -> Code
 }
 
 pub fn code_length(c: Code) -> usize
-    ensures { result ≡ codeLength c }
+    ensures { result ≡ code_length c }
 {
     match c {
         Code::None => 0,

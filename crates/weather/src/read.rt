@@ -1,8 +1,8 @@
 // What a weather group says. A caller holds the group to its shape first, `has_weather` or `has_recent`; what has another shape is a wrong figure.
 ghost use Rattle.std.specs.Prelude.{◌≡◌};
-ghost use Rattle.elements.specs.Answers.{asWeather};
-ghost use Rattle.elements.specs.Weather.{codes_of, someCodes, signedCodes, hasWeather, hasRecent, saidWeather, isUnknown, hasUnknown, unlessUnknown, plain, is_plain, onlyPlain, readWeather, readRecent, withWeather};
-ghost use Rattle.weather.specs.Split.{intensityOf, signLength, told, reading_of};
+ghost use Rattle.elements.specs.Answers.{as_weather};
+ghost use Rattle.elements.specs.Weather.{codes_of, some_codes, signed_codes, has_weather, has_recent, said_weather, is_unknown, has_unknown, unless_unknown, plain, is_plain, only_plain, read_weather, read_recent, with_weather};
+ghost use Rattle.weather.specs.Split.{intensity_of, sign_length, told, reading_of};
 
 use crate::codes::{all_among, code_at, code_length, descriptor_of, intensity_fits};
 use elements::kinds::WeatherRead;
@@ -14,7 +14,7 @@ use text::kinds::Refusal;
 
 // One or more codes of the table, and nothing else.
 fn are_codes(g: &[u8]) -> bool
-    ensures { result ≡ someCodes g.now }
+    ensures { result ≡ some_codes g.now }
 {
     let n = g.len();
     if (0 < n) & (n % 2 == 0) {
@@ -29,7 +29,7 @@ fn are_codes(g: &[u8]) -> bool
 
 // The same after a sign or none.
 fn are_signed_codes(g: &[u8]) -> bool
-    ensures { result ≡ signedCodes g.now }
+    ensures { result ≡ signed_codes g.now }
 {
     let b = byte_at(g, 0);
     if (b == b'+') | (b == b'-') {
@@ -40,13 +40,13 @@ fn are_signed_codes(g: &[u8]) -> bool
 }
 
 pub fn has_weather(g: &[u8]) -> bool
-    ensures { result ≡ hasWeather g.now }
+    ensures { result ≡ has_weather g.now }
 {
     has_pattern(g, b"//") | are_signed_codes(g)
 }
 
 pub fn has_recent(g: &[u8]) -> bool
-    ensures { result ≡ hasRecent g.now }
+    ensures { result ≡ has_recent g.now }
 {
     let r = byte_at(g, 0);
     let e = byte_at(g, 1);
@@ -54,7 +54,7 @@ pub fn has_recent(g: &[u8]) -> bool
 }
 
 fn intensity_of(g: &[u8]) -> Intensity
-    ensures { result ≡ intensityOf g.now }
+    ensures { result ≡ intensity_of g.now }
 {
     let a = byte_at(g, 0);
     let b = byte_at(g, 1);
@@ -71,7 +71,7 @@ fn intensity_of(g: &[u8]) -> Intensity
 }
 
 fn sign_length(i: Intensity) -> usize
-    ensures { result ≡ signLength i }
+    ensures { result ≡ sign_length i }
 {
     match i {
         Intensity::None => 0,
@@ -83,7 +83,7 @@ fn sign_length(i: Intensity) -> usize
 
 // What codes say after their sign or VC.
 fn tell(i: Intensity, s: &[u8]) -> WeatherRead
-    ensures { result ≡ asWeather (told i (codes_of s.now)) }
+    ensures { result ≡ as_weather (told i (codes_of s.now)) }
 {
     let d = descriptor_of(s);
     let rest = rest_from(s, code_length(d));
@@ -105,14 +105,14 @@ fn tell(i: Intensity, s: &[u8]) -> WeatherRead
 }
 
 fn say_weather(g: &[u8]) -> WeatherRead
-    ensures { result ≡ asWeather (saidWeather g.now) }
+    ensures { result ≡ as_weather (said_weather g.now) }
 {
     let i = intensity_of(g);
     tell(i, rest_from(g, sign_length(i)))
 }
 
 pub fn is_unknown(c: Code) -> bool
-    ensures { result ≡ isUnknown c }
+    ensures { result ≡ is_unknown c }
 {
     match c {
         Code::None => false,
@@ -121,7 +121,7 @@ pub fn is_unknown(c: Code) -> bool
 }
 
 pub fn has_unknown(p: Phenomena) -> bool
-    ensures { result ≡ hasUnknown p }
+    ensures { result ≡ has_unknown p }
 {
     match p {
         Phenomena::Missing => false,
@@ -137,7 +137,7 @@ pub fn has_unknown(p: Phenomena) -> bool
 
 // UP stands only in an automatic report.
 fn unless_unknown(automatic: bool, x: WeatherRead) -> WeatherRead
-    ensures { result ≡ asWeather (unlessUnknown automatic (reading_of x)) }
+    ensures { result ≡ as_weather (unless_unknown automatic (reading_of x)) }
 {
     match x {
         WeatherRead::Good(w) => {
@@ -180,7 +180,7 @@ fn has_no_sign(i: Intensity) -> bool
 
 // Recent weather has no sign and no VC.
 fn only_plain(x: WeatherRead) -> WeatherRead
-    ensures { result ≡ asWeather (onlyPlain (reading_of x)) }
+    ensures { result ≡ as_weather (only_plain (reading_of x)) }
 {
     match x {
         WeatherRead::Good(w) => {
@@ -197,7 +197,7 @@ fn only_plain(x: WeatherRead) -> WeatherRead
 
 // Present or forecast weather: // is missing, which a forecast has none of.
 pub fn read_weather(forecast: bool, automatic: bool, g: &[u8]) -> WeatherRead
-    ensures { result ≡ asWeather (readWeather forecast automatic g.now) }
+    ensures { result ≡ as_weather (read_weather forecast automatic g.now) }
 {
     if has_pattern(g, b"//") {
         if forecast {
@@ -213,14 +213,14 @@ pub fn read_weather(forecast: bool, automatic: bool, g: &[u8]) -> WeatherRead
 }
 
 pub fn read_recent(automatic: bool, g: &[u8]) -> WeatherRead
-    ensures { result ≡ asWeather (readRecent automatic g.now) }
+    ensures { result ≡ as_weather (read_recent automatic g.now) }
 {
     unless_unknown(automatic, only_plain(say_weather(rest_from(g, 2))))
 }
 
 // One more where k stand; past the third there is no room.
 pub fn add_weather(k: usize, ws: Weathers, w: Weather) -> Weathers
-    ensures { result ≡ withWeather k ws w }
+    ensures { result ≡ with_weather k ws w }
 {
     if k < 3 {
         let mut items = ws.items;

@@ -10,25 +10,25 @@ use Rattle.figures.specs.Put.{Put}
 use Rattle.figures.proofs.Puts.{put_next, put-before, length-put}
 use Rattle.record.specs.declared.aerodrome.Code.{Code}
 use Rattle.record.specs.declared.aerodrome.Code.TheVariants as code
-use Rattle.elements.specs.Weather.{codes_of, codeText, listed}
+use Rattle.elements.specs.Weather.{codes_of, code_text, listed}
 
-codes-listed : (a : Code) (s : List ℕ) → codes_of (codeText a ++ s) ≡ listed a (codes_of s)
+codes-listed : (a : Code) (s : List ℕ) → codes_of (code_text a ++ s) ≡ listed a (codes_of s)
 unfolding codes_of
 codes-listed code.None s = refl
 codes-listed (code.Letters x y) s = refl
 
-last-listed : (c : Code) → codes_of (codeText c) ≡ listed c []
+last-listed : (c : Code) → codes_of (code_text c) ≡ listed c []
 unfolding codes_of
 last-listed code.None = refl
 last-listed (code.Letters x y) = refl
 
-at_most_two : (c : Code) → length (codeText c) ≤ 2
+at_most_two : (c : Code) → length (code_text c) ≤ 2
 at_most_two code.None = omega arith
 at_most_two (code.Letters x y) = omega arith
 
-module _ (a b c : Code) {r : ℕ} {e : List ℕ} (p : Put (replicate 6 0) 0 (codeText a ++ codeText b ++ codeText c) r e) where
+module _ (a b c : Code) {r : ℕ} {e : List ℕ} (p : Put (replicate 6 0) 0 (code_text a ++ code_text b ++ code_text c) r e) where
   abbrev text : List ℕ
-  text = codeText a ++ codeText b ++ codeText c
+  text = code_text a ++ code_text b ++ code_text c
 
   room : 0 + length text ≤ 6
   room =
@@ -48,4 +48,4 @@ module _ (a b c : Code) {r : ℕ} {e : List ℕ} (p : Put (replicate 6 0) 0 (cod
   spelt = rw (put_next p room) (put-before p room)
 
   pub spelt-codes : codes_of (take r e) ≡ listed a (listed b (listed c []))
-  spelt-codes = rw (spelt, append_assoc (codeText a) (codeText b) (codeText c), codes-listed a (codeText b ++ codeText c), codes-listed b (codeText c), last-listed c)
+  spelt-codes = rw (spelt, append_assoc (code_text a) (code_text b) (code_text c), codes-listed a (code_text b ++ code_text c), codes-listed b (code_text c), last-listed c)

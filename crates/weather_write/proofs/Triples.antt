@@ -15,9 +15,9 @@ use Rattle.text.specs.Judge.{and_then}
 use Rattle.figures.specs.Quote.{bytes}
 use Rattle.places.specs.Engine.{Group}
 use Rattle.record.specs.declared.aerodrome.Weather.{Weather}
-use Rattle.record.specs.Body.{blankWeather}
-use Rattle.elements.specs.Weather.{judgeEach, phenomenaText, showWeather, showRecent}
-use Rattle.weather_write.specs.Three.{shownAs}
+use Rattle.record.specs.Body.{blank_weather}
+use Rattle.elements.specs.Weather.{judge_each, phenomena_text, show_weather, show_recent}
+use Rattle.weather_write.specs.Three.{shown_as}
 
 -- a list of three by its elements
 three-of : {A : Type 0} (items : List A) (d : A) → length items ≡ 3 → get_or items 0 d ∷ get_or items 1 d ∷ get_or items 2 d ∷ [] ≡ items
@@ -34,7 +34,7 @@ past i n h = lt-ltb i (suc (suc (suc n))) (omega arith)
 -- what stands before a count
 judged-each : (test : Weather → Judged) (x y z : Weather) (n : ℕ)
     → and_then (cond (ltb 0 n) (test x) judged.Fine) (and_then (cond (ltb 1 n) (test y) judged.Fine) (cond (ltb 2 n) (test z) judged.Fine))
-    ≡ judgeEach test (take n (x ∷ y ∷ z ∷ []))
+    ≡ judge_each test (take n (x ∷ y ∷ z ∷ []))
 judged-each test x y z zero = refl
 judged-each test x y z (suc zero) = refl
 judged-each test x y z (suc (suc zero)) = refl
@@ -53,17 +53,17 @@ shown-each show x y z (suc (suc (suc n))) = rw (past 0 n (omega arith), past 1 n
 
 module _ (items : List Weather) (e : length items ≡ 3) where
   pub each-judged : (test : Weather → Judged) (n : ℕ)
-      → and_then (cond (ltb 0 n) (test (get_or items 0 blankWeather)) judged.Fine) (and_then (cond (ltb 1 n) (test (get_or items 1 blankWeather)) judged.Fine) (cond (ltb 2 n) (test (get_or items 2 blankWeather)) judged.Fine))
-      ≡ judgeEach test (take n items)
-  each-judged test n = judged-each test _ _ _ n ∙ ap (λ (l : List Weather). judgeEach test (take n l)) (three-of items blankWeather e)
+      → and_then (cond (ltb 0 n) (test (get_or items 0 blank_weather)) judged.Fine) (and_then (cond (ltb 1 n) (test (get_or items 1 blank_weather)) judged.Fine) (cond (ltb 2 n) (test (get_or items 2 blank_weather)) judged.Fine))
+      ≡ judge_each test (take n items)
+  each-judged test n = judged-each test _ _ _ n ∙ ap (λ (l : List Weather). judge_each test (take n l)) (three-of items blank_weather e)
 
   pub each-shown : (show : Weather → Group) (n : ℕ)
-      → cond (ltb 0 n) (show (get_or items 0 blankWeather) ∷ []) [] ++ cond (ltb 1 n) (show (get_or items 1 blankWeather) ∷ []) [] ++ cond (ltb 2 n) (show (get_or items 2 blankWeather) ∷ []) []
+      → cond (ltb 0 n) (show (get_or items 0 blank_weather) ∷ []) [] ++ cond (ltb 1 n) (show (get_or items 1 blank_weather) ∷ []) [] ++ cond (ltb 2 n) (show (get_or items 2 blank_weather) ∷ []) []
       ≡ map show (take n items)
-  each-shown show n = shown-each show _ _ _ n ∙ ap (λ (l : List Weather). map show (take n l)) (three-of items blankWeather e)
+  each-shown show n = shown-each show _ _ _ n ∙ ap (λ (l : List Weather). map show (take n l)) (three-of items blank_weather e)
 
 -- a weather's group by its parts
-pub shown-as : (recent : Bool) (w : Weather) → shownAs recent w ≡ cond recent (bytes "RE") [] ++ phenomenaText w.is
-unfolding showWeather showRecent
+pub shown-as : (recent : Bool) (w : Weather) → shown_as recent w ≡ cond recent (bytes "RE") [] ++ phenomena_text w.is
+unfolding show_weather show_recent
 shown-as true w = refl
 shown-as false w = refl

@@ -7,14 +7,14 @@ use Rattle.text.specs.Judge.{judge, and_then}
 use Rattle.places.specs.Engine.{Group}
 use Rattle.record.specs.declared.aerodrome.Weather.{Weather}
 use Rattle.record.specs.declared.aerodrome.Weathers.{Weathers}
-use Rattle.elements.specs.Weather.{showWeather, showRecent, threeFit}
+use Rattle.elements.specs.Weather.{show_weather, show_recent, three_fit}
 
 -- a weather as a recent or as a present or forecast one
-abbrev pub shownAs : Bool → Weather → Group
-shownAs recent w = cond recent (showRecent w) (showWeather w)
+abbrev pub shown_as : Bool → Weather → Group
+shown_as recent w = cond recent (show_recent w) (show_weather w)
 
 -- three judgements, the first `count` of them, after the judgement of the count
-abbrev pub judgeThree : Weathers → Judged → Judged → Judged → Judged
-judgeThree ws a b c =
-    and_then (judge (threeFit ws) true)
+abbrev pub judge_three : Weathers → Judged → Judged → Judged → Judged
+judge_three ws a b c =
+    and_then (judge (three_fit ws) true)
     (and_then (cond (ltb 0 ws.count) a judged.Fine) (and_then (cond (ltb 1 ws.count) b judged.Fine) (cond (ltb 2 ws.count) c judged.Fine)))

@@ -2,8 +2,8 @@
 // (refusal 7).
 ghost use Rattle.std.specs.Prelude.{◌≡◌, cond, []};
 ghost use Rattle.text.specs.declared.kinds.Judged.TheVariants as judged;
-ghost use Rattle.elements.specs.Weather.{is_none, gapless, listed, under, isDescribed, intensityFits, phenomenaFit, judgeWeather, judgeRecent, threeFit, judgeWeathers};
-ghost use Rattle.weather_write.specs.Three.{judgeThree};
+ghost use Rattle.elements.specs.Weather.{is_none, gapless, listed, under, is_described, intensity_fits, phenomena_fit, judge_weather, judge_recent, three_fit, judge_weathers};
+ghost use Rattle.weather_write.specs.Three.{judge_three};
 
 use crate::write::put_code;
 use record::aerodrome::{Code, Intensity, Phenomena, Weather, Weathers};
@@ -29,7 +29,7 @@ fn has_no_gap(a: Code, b: Code, c: Code) -> bool
 }
 
 fn is_described(d: Code) -> bool
-    ensures { result ≡ isDescribed d }
+    ensures { result ≡ is_described d }
 {
     match d {
         Code::None => true,
@@ -39,7 +39,7 @@ fn is_described(d: Code) -> bool
 
 // The codes are joined as they may be.
 fn codes_fit(i: Intensity, d: Code, a: Code, b: Code, c: Code) -> bool
-    ensures { result ≡ intensityFits i (under d (listed a (listed b (listed c [])))) }
+    ensures { result ≡ intensity_fits i (under d (listed a (listed b (listed c [])))) }
 {
     let mut letters = [0u8; 6];
     let first = put_code(&mut letters, 0, a);
@@ -49,7 +49,7 @@ fn codes_fit(i: Intensity, d: Code, a: Code, b: Code, c: Code) -> bool
 }
 
 fn phenomena_fit(p: Phenomena) -> bool
-    ensures { result ≡ phenomenaFit p }
+    ensures { result ≡ phenomena_fit p }
 {
     match p {
         Phenomena::Missing => false,
@@ -69,7 +69,7 @@ fn phenomena_fit(p: Phenomena) -> bool
 
 // Beside CAVOK or NSW no weather stands.
 pub fn judge_weather(forecast: bool, automatic: bool, beside: bool, w: Weather) -> Judged
-    ensures { result ≡ judgeWeather forecast automatic beside w }
+    ensures { result ≡ judge_weather forecast automatic beside w }
 {
     let is = w.is;
     judge(
@@ -79,7 +79,7 @@ pub fn judge_weather(forecast: bool, automatic: bool, beside: bool, w: Weather) 
 }
 
 pub fn judge_recent(automatic: bool, w: Weather) -> Judged
-    ensures { result ≡ judgeRecent automatic w }
+    ensures { result ≡ judge_recent automatic w }
 {
     let is = w.is;
     judge(
@@ -90,7 +90,7 @@ pub fn judge_recent(automatic: bool, w: Weather) -> Judged
 
 // The count, and what stands past it.
 pub fn count_fits(ws: Weathers) -> bool
-    ensures { result ≡ threeFit ws }
+    ensures { result ≡ three_fit ws }
 {
     let count = ws.count;
     (count <= 3) & ws.is_blank_from(count)
@@ -105,7 +105,7 @@ fn judge_where(stands: bool, j: Judged) -> Judged
 
 // Three judgements, the first `count` of them.
 fn judge_three(ws: Weathers, a: Judged, b: Judged, c: Judged) -> Judged
-    ensures { result ≡ judgeThree ws a b c }
+    ensures { result ≡ judge_three ws a b c }
 {
     let count = ws.count;
     let third = judge_where(2 < count, c);
@@ -115,7 +115,7 @@ fn judge_three(ws: Weathers, a: Judged, b: Judged, c: Judged) -> Judged
 }
 
 pub fn judge_weathers(forecast: bool, automatic: bool, beside: bool, ws: Weathers) -> Judged
-    ensures { result ≡ judgeWeathers (judgeWeather forecast automatic beside) ws }
+    ensures { result ≡ judge_weathers (judge_weather forecast automatic beside) ws }
 {
     let items = ws.items;
     judge_three(
@@ -127,7 +127,7 @@ pub fn judge_weathers(forecast: bool, automatic: bool, beside: bool, ws: Weather
 }
 
 pub fn judge_recents(automatic: bool, ws: Weathers) -> Judged
-    ensures { result ≡ judgeWeathers (judgeRecent automatic) ws }
+    ensures { result ≡ judge_weathers (judge_recent automatic) ws }
 {
     let items = ws.items;
     judge_three(

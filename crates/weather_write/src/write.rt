@@ -4,15 +4,15 @@ ghost use Rattle.std.specs.Prelude.{cond, ◌∷◌, [], map, take};
 ghost use Rattle.figures.specs.Put.{Put};
 ghost use Rattle.figures.specs.Quote.{bytes};
 ghost use Rattle.text.specs.Groups.{written};
-ghost use Rattle.elements.specs.Weather.{codeText, signText, phenomenaText, showWeathers, showRecents};
-ghost use Rattle.weather_write.specs.Three.{shownAs};
+ghost use Rattle.elements.specs.Weather.{code_text, sign_text, phenomena_text, show_weathers, show_recents};
+ghost use Rattle.weather_write.specs.Three.{shown_as};
 
 use figures::put::{put_byte, put_text};
 use record::aerodrome::{Code, Intensity, Phenomena, Weather, Weathers};
 use text::write::open_group;
 
 pub fn put_code(out: &mut [u8], at: usize, c: Code) -> usize
-    ensures { Put out.old at (codeText c) result out.new }
+    ensures { Put out.old at (code_text c) result out.new }
 {
     match c {
         Code::None => at,
@@ -24,7 +24,7 @@ pub fn put_code(out: &mut [u8], at: usize, c: Code) -> usize
 }
 
 fn put_intensity(out: &mut [u8], at: usize, i: Intensity) -> usize
-    ensures { Put out.old at (signText i) result out.new }
+    ensures { Put out.old at (sign_text i) result out.new }
 {
     match i {
         Intensity::None => at,
@@ -35,7 +35,7 @@ fn put_intensity(out: &mut [u8], at: usize, i: Intensity) -> usize
 }
 
 fn put_phenomena(out: &mut [u8], at: usize, p: Phenomena) -> usize
-    ensures { Put out.old at (phenomenaText p) result out.new }
+    ensures { Put out.old at (phenomena_text p) result out.new }
 {
     match p {
         Phenomena::Missing => put_text(out, at, b"//"),
@@ -64,7 +64,7 @@ fn put_recent(out: &mut [u8], at: usize, recent: bool) -> usize
 
 // A weather, where one stands.
 fn put_weather(out: &mut [u8], at: usize, stands: bool, recent: bool, w: Weather) -> usize
-    ensures { Put out.old at (written at (cond stands (shownAs recent w ∷ []) [])) result out.new }
+    ensures { Put out.old at (written at (cond stands (shown_as recent w ∷ []) [])) result out.new }
 {
     if stands {
         let is = w.is;
@@ -78,7 +78,7 @@ fn put_weather(out: &mut [u8], at: usize, stands: bool, recent: bool, w: Weather
 
 // The first `count`, of three.
 fn put_each(out: &mut [u8], at: usize, recent: bool, ws: Weathers) -> usize
-    ensures { Put out.old at (written at (map (shownAs recent) (take ws.count ws.items))) result out.new }
+    ensures { Put out.old at (written at (map (shown_as recent) (take ws.count ws.items))) result out.new }
 {
     let items = ws.items;
     let count = ws.count;
@@ -88,13 +88,13 @@ fn put_each(out: &mut [u8], at: usize, recent: bool, ws: Weathers) -> usize
 }
 
 pub fn put_weathers(out: &mut [u8], at: usize, ws: Weathers) -> usize
-    ensures { Put out.old at (written at (showWeathers ws)) result out.new }
+    ensures { Put out.old at (written at (show_weathers ws)) result out.new }
 {
     put_each(out, at, false, ws)
 }
 
 pub fn put_recents(out: &mut [u8], at: usize, ws: Weathers) -> usize
-    ensures { Put out.old at (written at (showRecents ws)) result out.new }
+    ensures { Put out.old at (written at (show_recents ws)) result out.new }
 {
     put_each(out, at, true, ws)
 }

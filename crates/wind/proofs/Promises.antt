@@ -17,8 +17,8 @@ use Rattle.record.specs.declared.aerodrome.Variation.{Variation}
 use Rattle.record.specs.declared.aerodrome.View.{View}
 use Rattle.record.specs.declared.aerodrome.View.TheVariants as view
 use Rattle.record.proofs.Near.{Near, degrees-near, DirectionNear, direction-near}
-use Rattle.elements.specs.Wind.{extremesFit, judgeWind, judgeVariation, classExtremes, classVariation, classWind}
-use Rattle.elements.specs.Visibility.{viewFits, classView}
+use Rattle.elements.specs.Wind.{extremes_fit, judge_wind, judge_variation, class_extremes, class_variation, class_wind}
+use Rattle.elements.specs.Visibility.{view_fits, class_view}
 use Rattle.wind.proofs.SpeedLaws.{SpeedKept}
 use Rattle.wind.proofs.RoundTripWind.{direction-fits, mean-kept, gust-kept}
 use Rattle.wind.proofs.RoundTripVariation.{judged-fine}
@@ -32,7 +32,7 @@ pub record WindNear (w q : Wind) : Type 0 where
   pub gust : SpeedKept w.unit w.gust q.gust
   pub unit : q.unit ≡ w.unit
 
-pub wind-near : (forecast : Bool) (w : Wind) → judgeWind forecast w ≡ judged.Fine → WindNear w (classWind w)
+pub wind-near : (forecast : Bool) (w : Wind) → judge_wind forecast w ≡ judged.Fine → WindNear w (class_wind w)
 wind-near forecast w e =
     record { direction = direction-near w.direction (direction-fits forecast w e); speed = mean-kept forecast w e; gust = gust-kept forecast w e; unit = refl }
 
@@ -40,11 +40,11 @@ pub data ExtremesNear : Extremes → Extremes → Type 0 where
   no-extremes : ExtremesNear extremes.Missing extremes.Missing
   between : {a b d e : ℕ} → Near a d → Near b e → ExtremesNear (extremes.Between a b) (extremes.Between d e)
 
-extremes-near : (x : Extremes) → extremesFit x ≡ true → ExtremesNear x (classExtremes x)
+extremes-near : (x : Extremes) → extremes_fit x ≡ true → ExtremesNear x (class_extremes x)
 extremes-near extremes.Missing h = no-extremes
 extremes-near (extremes.Between a b) h = let t = both (leb a 359) (leb b 359) h in between (degrees-near a t.0) (degrees-near b t.1)
 
-pub variation-near : (v : Variation) → judgeVariation v ≡ judged.Fine → ExtremesNear v.is (classVariation v).is
+pub variation-near : (v : Variation) → judge_variation v ≡ judged.Fine → ExtremesNear v.is (class_variation v).is
 variation-near v e = extremes-near v.is (judged-fine v e).0
 
 -- ---- visibility, by its scale
@@ -54,7 +54,7 @@ pub data ViewRead : View → View → Type 0 where
   cavok : ViewRead view.Cavok view.Cavok
   metres : {m n : ℕ} → Down visibility m n → ViewRead (view.Metres m) (view.Metres n)
 
-pub visibility-read : (forecast : Bool) (v : View) → viewFits forecast v ≡ true → ViewRead v (classView v)
+pub visibility-read : (forecast : Bool) (v : View) → view_fits forecast v ≡ true → ViewRead v (class_view v)
 visibility-read forecast view.Missing h = no-view
 visibility-read forecast view.Cavok h = cavok
 visibility-read forecast (view.Metres m) h =

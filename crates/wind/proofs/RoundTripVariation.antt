@@ -12,22 +12,22 @@ use borrow.Author.Tests.{leb-true, le-leb}
 use Rattle.figures.proofs.Impossible.{impossible}
 use Rattle.figures.specs.Quote.{bytes}
 use Rattle.figures.specs.declared.kinds.Field.TheVariants as field
-use Rattle.figures.specs.Figures.{figures, numberText, fieldText, field_at}
+use Rattle.figures.specs.Figures.{figures, number_text, field_text, field_at}
 use Rattle.figures.proofs.Figures.{length-figures, field_back}
 use Rattle.text.specs.declared.kinds.Judged.TheVariants as judged
 use Rattle.text.proofs.Judging.{fine}
-use Rattle.shapes.specs.Pattern.{low, high, fits, hasPattern, hasAny}
+use Rattle.shapes.specs.Pattern.{low, high, fits, has_pattern, has_any}
 use Rattle.shapes.proofs.Patterns.{both, pattern-append, field-pattern}
-use Rattle.scales.specs.Rounded.{roundedDirection, dddFigure}
+use Rattle.scales.specs.Rounded.{rounded_direction, ddd_figure}
 use Rattle.scales.proofs.DirectionLaws.{rounded-below, ddd-most, ddd-back, ddd-again}
 use Rattle.places.specs.Engine.{Group, Good}
 use Rattle.record.specs.declared.aerodrome.Extremes.{Extremes}
 use Rattle.record.specs.declared.aerodrome.Extremes.TheVariants as extremes
 use Rattle.record.specs.declared.aerodrome.Variation.{Variation}
-use Rattle.elements.specs.Wind.{variationShape, readVariation, showVariation, extremesGroup, extremesFit, extremesAgree, judgeVariation, classExtremes, classVariation}
+use Rattle.elements.specs.Wind.{variation_shape, read_variation, show_variation, extremes_group, extremes_fit, extremes_agree, judge_variation, class_extremes, class_variation}
 
-pub variation-covered : (g : Group) → hasPattern g variationShape ≡ true → hasAny (variationShape ∷ []) g ≡ true
-unfolding hasAny
+pub variation-covered : (g : Group) → has_pattern g variation_shape ≡ true → has_any (variation_shape ∷ []) g ≡ true
+unfolding has_any
 variation-covered g h = rw h
 
 -- ---- two numbers of three figures with V between them
@@ -36,8 +36,8 @@ module _ (a b : ℕ) (h : a ≤ 360) (k : b ≤ 360) where
   abbrev pair : Group
   pair = figures 3 a ++ bytes "V" ++ figures 3 b
 
-  pair-shaped : hasPattern pair variationShape ≡ true
-  unfolding fieldText numberText hasPattern fits low high
+  pair-shaped : has_pattern pair variation_shape ≡ true
+  unfolding field_text number_text has_pattern fits low high
   pair-shaped =
       let three = length-figures 3 a in
       pattern-append (figures 3 a ++ bytes "V") (figures 3 b) (bytes "###V") (bytes "###") refl (length-append (figures 3 a) (bytes "V") ∙ ap (λ (n : ℕ). n + 1) three)
@@ -48,13 +48,13 @@ module _ (a b : ℕ) (h : a ≤ 360) (k : b ≤ 360) where
       )
 
   pair-from : field_at pair 0 3 ≡ field.Number a
-  unfolding fieldText numberText
+  unfolding field_text number_text
   pair-from =
       rw (append_assoc (figures 3 a) (bytes "V") (figures 3 b))
       (field_back [] (bytes "V" ++ figures 3 b) 3 (field.Number a) (omega arith) (omega arith) (omega arith))
 
   pair-to : field_at pair 4 3 ≡ field.Number b
-  unfolding fieldText numberText
+  unfolding field_text number_text
   pair-to =
       let four : length (figures 3 a ++ bytes "V") ≡ 4 = length-append (figures 3 a) (bytes "V") ∙ ap (λ (n : ℕ). n + 1) (length-figures 3 a) in
       rw (append-nil pair, four)
@@ -62,70 +62,70 @@ module _ (a b : ℕ) (h : a ≤ 360) (k : b ≤ 360) where
 
 -- ---- the extremes
 
-group-shaped : (x : Extremes) → extremesFit x ≡ true → (g : Group) → extremesGroup x ≡ g ∷ [] → hasPattern g variationShape ≡ true
+group-shaped : (x : Extremes) → extremes_fit x ≡ true → (g : Group) → extremes_group x ≡ g ∷ [] → has_pattern g variation_shape ≡ true
 group-shaped extremes.Missing h g s = impossible (cc)
 group-shaped (extremes.Between a b) h g s =
     let t = both (leb a 359) (leb b 359) h in
-    let same : pair (dddFigure a) (dddFigure b) (ddd-most a) (ddd-most b) ≡ g = cc in
-    rw same at (pair-shaped (dddFigure a) (dddFigure b) (ddd-most a) (ddd-most b))
+    let same : pair (ddd_figure a) (ddd_figure b) (ddd-most a) (ddd-most b) ≡ g = cc in
+    rw same at (pair-shaped (ddd_figure a) (ddd_figure b) (ddd-most a) (ddd-most b))
 
-group-back : (x : Extremes) → extremesFit x ≡ true → extremesAgree x ≡ true → (g : Group) → extremesGroup x ≡ g ∷ []
-    → readVariation g ≡ Good (record { is = classExtremes x })
-unfolding readVariation
+group-back : (x : Extremes) → extremes_fit x ≡ true → extremes_agree x ≡ true → (g : Group) → extremes_group x ≡ g ∷ []
+    → read_variation g ≡ Good (record { is = class_extremes x })
+unfolding read_variation
 group-back extremes.Missing h e g s = impossible (cc)
 group-back (extremes.Between a b) h e g s =
     let t = both (leb a 359) (leb b 359) h in
     let m = ddd-most a in
     let n = ddd-most b in
-    let same : pair (dddFigure a) (dddFigure b) m n ≡ g = cc in
+    let same : pair (ddd_figure a) (ddd_figure b) m n ≡ g = cc in
     rw (
       ← same,
-      pair-from (dddFigure a) (dddFigure b) m n,
-      pair-to (dddFigure a) (dddFigure b) m n,
+      pair-from (ddd_figure a) (ddd_figure b) m n,
+      pair-to (ddd_figure a) (ddd_figure b) m n,
       ddd-back a (leb-true a 359 t.0),
       ddd-back b (leb-true b 359 t.1),
       e,
     )
 
-group-again : (x : Extremes) → extremesFit x ≡ true → extremesGroup (classExtremes x) ≡ extremesGroup x
+group-again : (x : Extremes) → extremes_fit x ≡ true → extremes_group (class_extremes x) ≡ extremes_group x
 group-again extremes.Missing h = refl
 group-again (extremes.Between a b) h =
     let t = both (leb a 359) (leb b 359) h in
     rw (ddd-again a (leb-true a 359 t.0), ddd-again b (leb-true b 359 t.1))
 
-fits-classed : (x : Extremes) → extremesFit (classExtremes x) ≡ true
+fits-classed : (x : Extremes) → extremes_fit (class_extremes x) ≡ true
 fits-classed extremes.Missing = refl
-fits-classed (extremes.Between a b) = rw (le-leb (roundedDirection a) 359 (omega (arith, rounded-below a)), le-leb (roundedDirection b) 359 (omega (arith, rounded-below b)))
+fits-classed (extremes.Between a b) = rw (le-leb (rounded_direction a) 359 (omega (arith, rounded-below a)), le-leb (rounded_direction b) 359 (omega (arith, rounded-below b)))
 
-agree-classed : (x : Extremes) → extremesFit x ≡ true → extremesAgree (classExtremes x) ≡ extremesAgree x
+agree-classed : (x : Extremes) → extremes_fit x ≡ true → extremes_agree (class_extremes x) ≡ extremes_agree x
 agree-classed extremes.Missing h = refl
 agree-classed (extremes.Between a b) h =
     let t = both (leb a 359) (leb b 359) h in
     rw (ddd-again a (leb-true a 359 t.0), ddd-again b (leb-true b 359 t.1))
 
-none-shown : (x : Extremes) → extremesGroup x ≡ [] → x ≡ extremes.Missing
+none-shown : (x : Extremes) → extremes_group x ≡ [] → x ≡ extremes.Missing
 none-shown extremes.Missing s = refl
 none-shown (extremes.Between a b) s = impossible (cc)
 
 -- ---- the variation
 
-module _ (v : Variation) (e : judgeVariation v ≡ judged.Fine) where
-  pub judged-fine : (extremesFit v.is ≡ true) × (extremesAgree v.is ≡ true)
-  unfolding judgeVariation
-  judged-fine = fine (extremesFit v.is) (extremesAgree v.is) e
+module _ (v : Variation) (e : judge_variation v ≡ judged.Fine) where
+  pub judged-fine : (extremes_fit v.is ≡ true) × (extremes_agree v.is ≡ true)
+  unfolding judge_variation
+  judged-fine = fine (extremes_fit v.is) (extremes_agree v.is) e
 
-  pub variation-shaped : (g : Group) → showVariation v ≡ g ∷ [] → (hasPattern g variationShape ≡ true) × (hasAny (variationShape ∷ []) g ≡ true)
-  unfolding showVariation
+  pub variation-shaped : (g : Group) → show_variation v ≡ g ∷ [] → (has_pattern g variation_shape ≡ true) × (has_any (variation_shape ∷ []) g ≡ true)
+  unfolding show_variation
   variation-shaped g s = let has = group-shaped v.is judged-fine.0 g s in (has, variation-covered g has)
 
-  pub variation-back : (g : Group) → showVariation v ≡ g ∷ [] → readVariation g ≡ Good (classVariation v)
-  unfolding showVariation
+  pub variation-back : (g : Group) → show_variation v ≡ g ∷ [] → read_variation g ≡ Good (class_variation v)
+  unfolding show_variation
   variation-back g s = group-back v.is judged-fine.0 judged-fine.1 g s
 
-  pub variation-again : showVariation (classVariation v) ≡ showVariation v
-  unfolding showVariation
+  pub variation-again : show_variation (class_variation v) ≡ show_variation v
+  unfolding show_variation
   variation-again = group-again v.is judged-fine.0
 
-  pub variation-classed : judgeVariation (classVariation v) ≡ judged.Fine
-  unfolding judgeVariation
+  pub variation-classed : judge_variation (class_variation v) ≡ judged.Fine
+  unfolding judge_variation
   variation-classed = rw (fits-classed v.is, agree-classed v.is judged-fine.0, judged-fine.1)

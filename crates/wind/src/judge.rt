@@ -1,8 +1,8 @@
 // What the writer judges of a wind, of its variation and of a visibility: first their ranges (refusal 11), then their agreement (refusal 7). In a
 // TAF nothing is missing.
 ghost use Rattle.std.specs.Prelude.{◌≡◌};
-ghost use Rattle.elements.specs.Wind.{mostSpeed, speedFits, gustFits, windFits, judgeWind, extremesFit, extremesAgree, judgeVariation};
-ghost use Rattle.elements.specs.Visibility.{viewFits, judgeVisibility};
+ghost use Rattle.elements.specs.Wind.{most_speed, speed_fits, gust_fits, wind_fits, judge_wind, extremes_fit, extremes_agree, judge_variation};
+ghost use Rattle.elements.specs.Visibility.{view_fits, judge_visibility};
 
 use crate::directions::degrees_text;
 use record::aerodrome::{Extremes, Unit, Variation, View, Visibility, Wind};
@@ -16,7 +16,7 @@ use wind_values::speeds::{class_speed, last_exact};
 
 // The greatest number that a record may hold.
 fn most_speed(unit: Unit) -> u32
-    ensures { result ≡ mostSpeed unit }
+    ensures { result ≡ most_speed unit }
 {
     match unit {
         Unit::Missing => 0,
@@ -27,7 +27,7 @@ fn most_speed(unit: Unit) -> u32
 }
 
 fn speed_fits(unit: Unit, s: Speed) -> bool
-    ensures { result ≡ speedFits unit s }
+    ensures { result ≡ speed_fits unit s }
 {
     match s {
         Speed::Missing => false,
@@ -37,14 +37,14 @@ fn speed_fits(unit: Unit, s: Speed) -> bool
 }
 
 fn gust_fits(unit: Unit, g: Speed) -> bool
-    ensures { result ≡ gustFits unit g }
+    ensures { result ≡ gust_fits unit g }
 {
     g.is_missing() | speed_fits(unit, g)
 }
 
 // A wind is missing as a whole, or its speed is there.
 fn wind_fits(forecast: bool, unit: Unit, d: Direction, s: Speed, g: Speed) -> bool
-    ensures { result ≡ windFits forecast unit d s g }
+    ensures { result ≡ wind_fits forecast unit d s g }
 {
     match d {
         Direction::Missing => !forecast & s.is_missing() & g.is_missing(),
@@ -56,7 +56,7 @@ fn wind_fits(forecast: bool, unit: Unit, d: Direction, s: Speed, g: Speed) -> bo
 
 // The parts agree by the figures that would be written.
 pub fn judge_wind(forecast: bool, w: Wind) -> Judged
-    ensures { result ≡ judgeWind forecast w }
+    ensures { result ≡ judge_wind forecast w }
 {
     let direction = w.direction;
     let speed = w.speed;
@@ -73,7 +73,7 @@ pub fn judge_wind(forecast: bool, w: Wind) -> Judged
 // ---- variation
 
 fn extremes_fit(e: Extremes) -> bool
-    ensures { result ≡ extremesFit e }
+    ensures { result ≡ extremes_fit e }
 {
     match e {
         Extremes::Missing => true,
@@ -83,7 +83,7 @@ fn extremes_fit(e: Extremes) -> bool
 
 // On the figures that would be written.
 fn extremes_agree(e: Extremes) -> bool
-    ensures { result ≡ extremesAgree e }
+    ensures { result ≡ extremes_agree e }
 {
     match e {
         Extremes::Missing => true,
@@ -92,7 +92,7 @@ fn extremes_agree(e: Extremes) -> bool
 }
 
 pub fn judge_variation(v: Variation) -> Judged
-    ensures { result ≡ judgeVariation v }
+    ensures { result ≡ judge_variation v }
 {
     let e = v.is;
     judge(extremes_fit(e), extremes_agree(e))
@@ -101,7 +101,7 @@ pub fn judge_variation(v: Variation) -> Judged
 // ---- visibility
 
 fn view_fits(forecast: bool, v: View) -> bool
-    ensures { result ≡ viewFits forecast v }
+    ensures { result ≡ view_fits forecast v }
 {
     match v {
         View::Missing => !forecast,
@@ -111,7 +111,7 @@ fn view_fits(forecast: bool, v: View) -> bool
 }
 
 pub fn judge_visibility(forecast: bool, v: Visibility) -> Judged
-    ensures { result ≡ judgeVisibility forecast v }
+    ensures { result ≡ judge_visibility forecast v }
 {
     let view = v.is;
     judge(view_fits(forecast, view), true)

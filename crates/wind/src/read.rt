@@ -1,16 +1,16 @@
 // What a group of wind, of variation or of visibility says. A caller holds the group to its shape first; what has another shape is refused as a
 // wrong figure.
 ghost use Rattle.std.specs.Prelude.{◌≡◌};
-ghost use Rattle.shapes.specs.Pattern.{hasPattern, hasAny};
-ghost use Rattle.shapes.specs.Shape.{hasShape, scanOf};
-ghost use Rattle.scales.specs.Metres.{visibility, metresReading};
+ghost use Rattle.shapes.specs.Pattern.{has_pattern, has_any};
+ghost use Rattle.shapes.specs.Shape.{has_shape, scan_of};
+ghost use Rattle.scales.specs.Metres.{visibility, metres_reading};
 ghost use Rattle.places.specs.Engine.{Good};
-ghost use Rattle.elements.specs.Parts.{agreeing, isMissing};
-ghost use Rattle.elements.specs.Wind.{windShape, variationShape, unit_of, speedOf, gustOf, directionOf, windAgrees, windWith, isNoWind, windBy, readWind, readVariation};
-ghost use Rattle.elements.specs.Visibility.{visibilityShapes, readVisibility, isCavok};
-ghost use Rattle.elements.specs.Answers.{asWind, asVariation, asVisibility};
-ghost use Rattle.wind_values.specs.Parts.{asDirection, asSpeed};
-ghost use Rattle.wind.specs.Parts.{windOf, seenBy, unseen};
+ghost use Rattle.elements.specs.Parts.{agreeing, is_missing};
+ghost use Rattle.elements.specs.Wind.{wind_shape, variation_shape, unit_of, speed_of, gust_of, direction_of, wind_agrees, wind_with, is_no_wind, wind_by, read_wind, read_variation};
+ghost use Rattle.elements.specs.Visibility.{visibility_shapes, read_visibility, is_cavok};
+ghost use Rattle.elements.specs.Answers.{as_wind, as_variation, as_visibility};
+ghost use Rattle.wind_values.specs.Parts.{as_direction, as_speed};
+ghost use Rattle.wind.specs.Parts.{wind_of, seen_by, unseen};
 
 use crate::directions::is_tens;
 use elements::kinds::Said;
@@ -31,7 +31,7 @@ use wind_values::speeds::{in_width, speed_by};
 
 // Direction, speed, gust and unit: "###|VRB ###|##|P###|P## G###|G##|GP###|GP##| KT|MPS|KMH" by code made for it.
 fn scan_wind(g: &[u8]) -> Scan
-    ensures { result ≡ scanOf windShape g.now }
+    ensures { result ≡ scan_of wind_shape g.now }
 {
     let none = absent(g);
     let variable = word_or(g, 0, 1, b"VRB", none);
@@ -55,7 +55,7 @@ fn scan_wind(g: &[u8]) -> Scan
 }
 
 pub fn has_wind(g: &[u8]) -> bool
-    ensures { result ≡ hasShape windShape g.now }
+    ensures { result ≡ has_shape wind_shape g.now }
 {
     let s = scan_wind(g);
     s.fits
@@ -74,7 +74,7 @@ fn unit_of(which: usize) -> Unit
 }
 
 fn is_missing(f: Field) -> bool
-    ensures { result ≡ isMissing f }
+    ensures { result ≡ is_missing f }
 {
     match f {
         Field::Number(_) => false,
@@ -85,7 +85,7 @@ fn is_missing(f: Field) -> bool
 }
 
 fn speed_of(unit: Unit, v: Value) -> SpeedRead
-    ensures { result ≡ asSpeed (speedOf unit v) }
+    ensures { result ≡ as_speed (speed_of unit v) }
 {
     let which = v.which;
     let f = v.field;
@@ -101,7 +101,7 @@ fn speed_of(unit: Unit, v: Value) -> SpeedRead
 
 // Alternative number 4 of the gust is nothing.
 fn gust_of(unit: Unit, v: Value) -> SpeedRead
-    ensures { result ≡ asSpeed (gustOf unit v) }
+    ensures { result ≡ as_speed (gust_of unit v) }
 {
     if v.which == 4 {
         SpeedRead::Good(Speed::Missing)
@@ -112,7 +112,7 @@ fn gust_of(unit: Unit, v: Value) -> SpeedRead
 
 // Alternative number 1 of the direction is VRB.
 fn direction_of(v: Value) -> DirectionRead
-    ensures { result ≡ asDirection (directionOf v) }
+    ensures { result ≡ as_direction (direction_of v) }
 {
     if v.which == 1 {
         return DirectionRead::Good(Direction::Variable);
@@ -133,7 +133,7 @@ fn direction_of(v: Value) -> DirectionRead
 
 // ///// and unit
 fn is_no_wind(d: Value, s: Value, g: Value) -> bool
-    ensures { result ≡ isNoWind d s g }
+    ensures { result ≡ is_no_wind d s g }
 {
     let direction = d.field;
     let speed = s.field;
@@ -142,7 +142,7 @@ fn is_no_wind(d: Value, s: Value, g: Value) -> bool
 
 // A wind whose parts agree.
 fn wind_with(unit: Unit, direction: Direction, speed: Speed, gust: Speed) -> Said
-    ensures { result ≡ asWind (agreeing (windAgrees direction speed gust) (Good (windWith unit direction speed gust))) }
+    ensures { result ≡ as_wind (agreeing (wind_agrees direction speed gust) (Good (wind_with unit direction speed gust))) }
 {
     if wind_agrees(direction, speed, gust) {
         Said::Wind(Wind {
@@ -158,7 +158,7 @@ fn wind_with(unit: Unit, direction: Direction, speed: Speed, gust: Speed) -> Sai
 
 // The wind that the parts read make, or the first refusal among them.
 fn wind_of(unit: Unit, d: DirectionRead, s: SpeedRead, g: SpeedRead) -> Said
-    ensures { result ≡ asWind (windOf unit d s g) }
+    ensures { result ≡ as_wind (wind_of unit d s g) }
 {
     match d {
         DirectionRead::Bad(f) => Said::Refused(f),
@@ -174,7 +174,7 @@ fn wind_of(unit: Unit, d: DirectionRead, s: SpeedRead, g: SpeedRead) -> Said
 
 // What the parts of the group say together.
 fn wind_by(forecast: bool, unit: Unit, d: Value, s: Value, g: Value) -> Said
-    ensures { result ≡ asWind (windBy forecast unit d s g) }
+    ensures { result ≡ as_wind (wind_by forecast unit d s g) }
 {
     if is_no_wind(d, s, g) {
         if forecast {
@@ -194,7 +194,7 @@ fn wind_by(forecast: bool, unit: Unit, d: Value, s: Value, g: Value) -> Said
 }
 
 pub fn read_wind(forecast: bool, g: &[u8]) -> Said
-    ensures { result ≡ asWind (readWind forecast g.now) }
+    ensures { result ≡ as_wind (read_wind forecast g.now) }
 {
     let s = scan_wind(g);
     let values = s.values;
@@ -208,14 +208,14 @@ pub fn read_wind(forecast: bool, g: &[u8]) -> Said
 // ---- variation
 
 pub fn has_variation(g: &[u8]) -> bool
-    ensures { result ≡ hasPattern g.now variationShape }
+    ensures { result ≡ has_pattern g.now variation_shape }
 {
     has_pattern(g, b"###V###")
 }
 
 // dddVddd
 pub fn read_variation(g: &[u8]) -> Said
-    ensures { result ≡ asVariation (readVariation g.now) }
+    ensures { result ≡ as_variation (read_variation g.now) }
 {
     let Field::Number(a) = field(g, 0, 3) else {
         return Said::Refused(Refusal::Figure);
@@ -241,13 +241,13 @@ pub fn read_variation(g: &[u8]) -> Said
 // ---- visibility
 
 pub fn has_visibility(g: &[u8]) -> bool
-    ensures { result ≡ hasAny visibilityShapes g.now }
+    ensures { result ≡ has_any visibility_shapes g.now }
 {
     has_pattern(g, b"####") | has_pattern(g, b"CAVOK")
 }
 
 pub fn is_cavok(v: Visibility) -> bool
-    ensures { result ≡ isCavok v }
+    ensures { result ≡ is_cavok v }
 {
     let view = v.is;
     match view {
@@ -259,7 +259,7 @@ pub fn is_cavok(v: Visibility) -> bool
 
 // VVVV, by its scale.
 fn seen_at(figure: u32) -> Said
-    ensures { result ≡ asVisibility (seenBy (metresReading visibility figure)) }
+    ensures { result ≡ as_visibility (seen_by (metres_reading visibility figure)) }
 {
     let r = scales::metres::visibility_reading(figure);
     match r {
@@ -272,7 +272,7 @@ fn seen_at(figure: u32) -> Said
 
 // //// is not written in a TAF.
 fn unseen(forecast: bool) -> Said
-    ensures { result ≡ asVisibility (unseen forecast) }
+    ensures { result ≡ as_visibility (unseen forecast) }
 {
     if forecast {
         Said::Refused(Refusal::Figure)
@@ -282,7 +282,7 @@ fn unseen(forecast: bool) -> Said
 }
 
 pub fn read_visibility(forecast: bool, g: &[u8]) -> Said
-    ensures { result ≡ asVisibility (readVisibility forecast g.now) }
+    ensures { result ≡ as_visibility (read_visibility forecast g.now) }
 {
     if has_pattern(g, b"CAVOK") {
         return Said::Visibility(Visibility { is: View::Cavok });

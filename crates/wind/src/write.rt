@@ -6,11 +6,11 @@ ghost use Rattle.figures.specs.Figures.{figures};
 ghost use Rattle.figures.specs.Put.{Put};
 ghost use Rattle.figures.specs.Quote.{bytes};
 ghost use Rattle.text.specs.Groups.{written};
-ghost use Rattle.scales.specs.Scale.{figureOf};
+ghost use Rattle.scales.specs.Scale.{figure_of};
 ghost use Rattle.scales.specs.Metres.{visibility};
-ghost use Rattle.scales.specs.Rounded.{dddFigure};
-ghost use Rattle.elements.specs.Wind.{numbered, directionValue, speedValue, gustValue, unitValue, showWind, showVariation};
-ghost use Rattle.elements.specs.Visibility.{showVisibility};
+ghost use Rattle.scales.specs.Rounded.{ddd_figure};
+ghost use Rattle.elements.specs.Wind.{numbered, direction_value, speed_value, gust_value, unit_value, show_wind, show_variation};
+ghost use Rattle.elements.specs.Visibility.{show_visibility};
 
 use crate::directions::degrees_text;
 use figures::kinds::Field;
@@ -27,7 +27,7 @@ use wind_values::speeds::class_speed;
 // ---- wind: at each part of its shape the number of the alternative, and its number field
 
 fn direction_value(d: Direction) -> Value
-    ensures { result ≡ directionValue d }
+    ensures { result ≡ direction_value d }
 {
     match d {
         Direction::Missing => Value {
@@ -67,7 +67,7 @@ fn number_value(three: usize, two: usize, n: u32) -> Value
 }
 
 fn speed_value(s: Speed) -> Value
-    ensures { result ≡ speedValue s }
+    ensures { result ≡ speed_value s }
 {
     match s {
         Speed::Missing => Value {
@@ -81,7 +81,7 @@ fn speed_value(s: Speed) -> Value
 
 // Alternative number 4 is nothing.
 fn gust_value(s: Speed) -> Value
-    ensures { result ≡ gustValue s }
+    ensures { result ≡ gust_value s }
 {
     match s {
         Speed::Missing => Value {
@@ -94,7 +94,7 @@ fn gust_value(s: Speed) -> Value
 }
 
 fn unit_value(u: Unit) -> Value
-    ensures { result ≡ unitValue u }
+    ensures { result ≡ unit_value u }
 {
     let none = Field::Other;
     match u {
@@ -121,7 +121,7 @@ const WIND_SHAPE: [u8; 55] = *b"###|VRB ###|##|P###|P## G###|G##|GP###|GP##| KT|
 
 // dddffGff and unit
 pub fn put_wind(out: &mut [u8], at: usize, w: Wind) -> usize
-    ensures { Put out.old at (written at (showWind w ∷ [])) result out.new }
+    ensures { Put out.old at (written at (show_wind w ∷ [])) result out.new }
 {
     let direction = w.direction;
     let speed = w.speed;
@@ -140,7 +140,7 @@ pub fn put_wind(out: &mut [u8], at: usize, w: Wind) -> usize
 
 // dddVddd
 fn put_extremes(out: &mut [u8], at: usize, from: u32, to: u32) -> usize
-    ensures { Put out.old at (written at ((figures 3 (dddFigure from) ++ bytes "V" ++ figures 3 (dddFigure to)) ∷ [])) result out.new }
+    ensures { Put out.old at (written at ((figures 3 (ddd_figure from) ++ bytes "V" ++ figures 3 (ddd_figure to)) ∷ [])) result out.new }
 {
     let opened = open_group(out, at);
     let first = put_number(out, opened, 3, degrees_text(from));
@@ -150,7 +150,7 @@ fn put_extremes(out: &mut [u8], at: usize, from: u32, to: u32) -> usize
 
 // Nothing where there is none.
 pub fn put_variation(out: &mut [u8], at: usize, v: Variation) -> usize
-    ensures { Put out.old at (written at (showVariation v)) result out.new }
+    ensures { Put out.old at (written at (show_variation v)) result out.new }
 {
     let extremes = v.is;
     match extremes {
@@ -163,7 +163,7 @@ pub fn put_variation(out: &mut [u8], at: usize, v: Variation) -> usize
 
 // VVVV: every visibility from 10,000 m on is 9999.
 fn view_figure(metres: u32) -> u32
-    ensures { result ≡ figureOf visibility metres }
+    ensures { result ≡ figure_of visibility metres }
 {
     let f = visibility_figure(metres);
     match f {
@@ -173,7 +173,7 @@ fn view_figure(metres: u32) -> u32
 }
 
 pub fn put_visibility(out: &mut [u8], at: usize, v: Visibility) -> usize
-    ensures { Put out.old at (written at (showVisibility v ∷ [])) result out.new }
+    ensures { Put out.old at (written at (show_visibility v ∷ [])) result out.new }
 {
     let view = v.is;
     let opened = open_group(out, at);

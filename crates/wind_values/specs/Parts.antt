@@ -8,10 +8,10 @@ use Rattle.wind_values.specs.declared.kinds.DirectionRead.TheVariants as directi
 use Rattle.wind_values.specs.declared.kinds.SpeedRead.{SpeedRead}
 use Rattle.wind_values.specs.declared.kinds.SpeedRead.TheVariants as speed
 
-abbrev pub asDirection : Read Direction → DirectionRead
-asDirection (Good x) = direction.Good x
-asDirection (Bad f) = direction.Bad f
+abbrev pub as_direction : Read Direction → DirectionRead
+as_direction (Good x) = direction.Good x
+as_direction (Bad f) = direction.Bad f
 
-abbrev pub asSpeed : Read Speed → SpeedRead
-asSpeed (Good x) = speed.Good x
-asSpeed (Bad f) = speed.Bad f
+abbrev pub as_speed : Read Speed → SpeedRead
+as_speed (Good x) = speed.Good x
+as_speed (Bad f) = speed.Bad f

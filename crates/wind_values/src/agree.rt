@@ -1,11 +1,11 @@
 // What ties the parts of a wind to each other, in a text and in a record: calm and a zero speed go together, and a gust is above the mean.
 ghost use Rattle.std.specs.Prelude.{◌≡◌};
-ghost use Rattle.elements.specs.Wind.{isCalm, isBelow, gustAgrees, windAgrees};
+ghost use Rattle.elements.specs.Wind.{is_calm, is_below, gust_agrees, wind_agrees};
 
 use record::values::{Direction, Speed};
 
 fn is_calm(d: Direction) -> bool
-    ensures { result ≡ isCalm d }
+    ensures { result ≡ is_calm d }
 {
     match d {
         Direction::Missing => false,
@@ -17,7 +17,7 @@ fn is_calm(d: Direction) -> bool
 
 // No gust that is a number is known to be over a mean that is "above" a number.
 fn is_below(mean: Speed, gust: u32) -> bool
-    ensures { result ≡ isBelow mean gust }
+    ensures { result ≡ is_below mean gust }
 {
     match mean {
         Speed::Missing => false,
@@ -27,7 +27,7 @@ fn is_below(mean: Speed, gust: u32) -> bool
 }
 
 fn gust_agrees(d: Direction, mean: Speed, gust: Speed) -> bool
-    ensures { result ≡ gustAgrees d mean gust }
+    ensures { result ≡ gust_agrees d mean gust }
 {
     match gust {
         Speed::Missing => true,
@@ -37,7 +37,7 @@ fn gust_agrees(d: Direction, mean: Speed, gust: Speed) -> bool
 }
 
 pub fn wind_agrees(d: Direction, mean: Speed, gust: Speed) -> bool
-    ensures { result ≡ windAgrees d mean gust }
+    ensures { result ≡ wind_agrees d mean gust }
 {
     let still = mean.is_still();
     if is_calm(d) {

@@ -1,7 +1,7 @@
 // What the figures of a speed say; and the speeds over the last one that a unit writes as a number: an open class, which is written with P.
 ghost use Rattle.std.specs.Prelude.{◌≡◌};
-ghost use Rattle.elements.specs.Wind.{inWidth, speedBy, lastExact, is_over, classSpeed};
-ghost use Rattle.wind_values.specs.Parts.{asSpeed};
+ghost use Rattle.elements.specs.Wind.{in_width, speed_by, last_exact, is_over, class_speed};
+ghost use Rattle.wind_values.specs.Parts.{as_speed};
 
 use crate::kinds::SpeedRead;
 use record::aerodrome::Unit;
@@ -10,7 +10,7 @@ use text::kinds::Refusal;
 
 // The figure after P: P99KT, P49MPS, P199KMH.
 pub fn last_exact(unit: Unit) -> u32
-    ensures { result ≡ lastExact unit }
+    ensures { result ≡ last_exact unit }
 {
     match unit {
         Unit::Missing => 0,
@@ -22,7 +22,7 @@ pub fn last_exact(unit: Unit) -> u32
 
 // Two figures below 100, three for 100 to 199: the alternatives of three figures are number 0 and, after P, number 2.
 pub fn in_width(which: usize, n: u32) -> bool
-    ensures { result ≡ inWidth which n }
+    ensures { result ≡ in_width which n }
 {
     if (which == 0) | (which == 2) {
         (100 <= n) & (n <= 199)
@@ -33,7 +33,7 @@ pub fn in_width(which: usize, n: u32) -> bool
 
 // After P stands the greatest speed that is written as a number in this unit, and no other.
 pub fn speed_by(unit: Unit, which: usize, n: u32) -> SpeedRead
-    ensures { result ≡ asSpeed (speedBy unit which n) }
+    ensures { result ≡ as_speed (speed_by unit which n) }
 {
     if which <= 1 {
         SpeedRead::Good(Speed::Is(n))
@@ -57,7 +57,7 @@ fn is_over(unit: Unit, s: Speed) -> bool
 
 // What a speed is written as, and so read back as.
 pub fn class_speed(unit: Unit, s: Speed) -> Speed
-    ensures { result ≡ classSpeed unit s }
+    ensures { result ≡ class_speed unit s }
 {
     if is_over(unit, s) {
         Speed::Above(last_exact(unit))

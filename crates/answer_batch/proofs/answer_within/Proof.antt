@@ -6,8 +6,8 @@ use borrow.Author.Rules.{rules}
 use Rattle.answer_batch.proofs.answer_within.Statement.{statement}
 use Rattle.answer_batch.proofs.answer_within.Tie as tie
 
-pub answer-within-spec : {M : Type 1} → statement M
-answer-within-spec =
+pub answer_within_spec : {M : Type 1} → statement M
+answer_within_spec =
     tie.close
     (tie.spec
     (λ c. search rules)

@@ -6,8 +6,8 @@ use borrow.Author.Rules.{rules}
 use Rattle.answers.proofs.say_written.Statement.{statement}
 use Rattle.answers.proofs.say_written.Tie as tie
 
-pub say-written-spec : {M : Type 1} → statement M
-say-written-spec =
+pub say_written_spec : {M : Type 1} → statement M
+say_written_spec =
     tie.close
     (tie.spec
     (λ c. search rules)

@@ -12,5 +12,5 @@ returns c = is-unused _ (sym c.before.height-or-mark.ensures ∙ c.if1.true)
 returns-2 : tie.Need-returns-2
 returns-2 c = rw c.before.height-or-mark.ensures (is-height _ (λ e. c.if1.false (c.before.height-or-mark.ensures ∙ e)))
 
-pub cloud-height-spec : {M : Type 1} → statement M
-cloud-height-spec = tie.close (tie.spec (λ c κs. search rules) returns returns-2)
+pub cloud_height_spec : {M : Type 1} → statement M
+cloud_height_spec = tie.close (tie.spec (λ c κs. search rules) returns returns-2)

@@ -8,7 +8,7 @@ use native.Mathlib.Numerals.{add-one}
 use lib.ListN.{length, length-set}
 use borrow.Author.Rules.{rules}
 use borrow.Author.Tests.{ltb-true}
-use Rattle.cloud_table.specs.Heights.{heightsOver}
+use Rattle.cloud_table.specs.Heights.{heights_over}
 use Rattle.cloud_table.proofs.Filled.{stored, stored_on, room-reached}
 use Rattle.cloud_table.proofs.fill.Statement.{statement}
 use Rattle.cloud_table.proofs.fill.Tie as tie
@@ -39,7 +39,7 @@ again c =
     )
 
 returns : tie.Need-returns Inv μ
-unfolding heightsOver
+unfolding heights_over
 returns c =
     let l = c.before.loop in
     let args = c.before.before.before.before.args in

@@ -13,5 +13,5 @@ returns c = rw c.before.before.requires (entry _ (omega arith))
 returns-2 : tie.Need-returns-2
 returns-2 c = sym (over _ (omega arith))
 
-pub look-up-spec : {M : Type 1} → statement M
-look-up-spec = tie.close (tie.spec (λ c. search rules) (λ c. search rules) returns returns-2)
+pub look_up_spec : {M : Type 1} → statement M
+look_up_spec = tie.close (tie.spec (λ c. search rules) (λ c. search rules) returns returns-2)

@@ -14,8 +14,8 @@ last c =
     rw (add-sub_cancel_left a.at a.width) at c.field_of.ensures
     ∙ field_in a.g.now a.at a.width (omega arith) (omega arith) (omega arith)
 
-pub field-spec : {M : Type 1} → statement M
-field-spec =
+pub field_spec : {M : Type 1} → statement M
+field_spec =
     tie.close
     (tie.spec
     (λ c. field_out _ _ _ (omega arith))

@@ -40,8 +40,8 @@ again c =
       | inr w ↦ (omega arith, rw add-one (omega arith), rw (w.1, w.2, w.3) (on-figure _ _ _ _ _ on (omega arith) (omega arith)))
     ]
 
-pub field-of-spec : {M : Type 1} → statement M
-field-of-spec =
+pub field_of_spec : {M : Type 1} → statement M
+field_of_spec =
     tie.close
     (tie.spec Inv μ
     (λ c. search rules) (λ c. search rules)

@@ -12,8 +12,8 @@ returns c = past-nil _ true (eq-eqb _ _ c.if1.true)
 returns-2 : tie.Need-returns-2
 returns-2 c = past-nil _ false (ne_eqb _ _ c.if1.false)
 
-pub go-past-spec : {M : Type 1} → statement M
-go-past-spec =
+pub go_past_spec : {M : Type 1} → statement M
+go_past_spec =
     tie.close
     (tie.spec
     returns returns-2)

@@ -7,8 +7,8 @@ use Rattle.metar_row.specs.Row.{row}
 use Rattle.metar_row.proofs.has_at.Statement.{statement}
 use Rattle.metar_row.proofs.has_at.Tie as tie
 
-pub has-at-spec : {M : Type 1} → statement M
-has-at-spec =
+pub has_at_spec : {M : Type 1} → statement M
+has_at_spec =
     tie.close
     (tie.spec
     (λ c κs. search rules) (λ c. search rules) (λ c κs. search rules) (λ c. search rules) (λ c κs. search rules) (λ c. search rules) (λ c κs. search rules) (λ c. search rules) (λ c κs. search rules) (λ c. search rules) (λ c κs. search rules) (λ c κs. search rules) (λ c κs. search rules) (λ c κs. search rules) (λ c κs. search rules) (λ c κs. search rules) (λ c κs. search rules) (λ c κs. search rules) (λ c. search rules) (λ c κs. search rules) (λ c κs. search rules) (λ c κs. search rules) (λ c. search rules) (λ c κs. search rules) (λ c κs. search rules) (λ c κs. search rules)

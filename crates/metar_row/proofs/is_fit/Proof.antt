@@ -7,8 +7,8 @@ use Rattle.metar_row.specs.Row.{row}
 use Rattle.metar_row.proofs.is_fit.Statement.{statement}
 use Rattle.metar_row.proofs.is_fit.Tie as tie
 
-pub is-fit-spec : {M : Type 1} → statement M
-is-fit-spec =
+pub is_fit_spec : {M : Type 1} → statement M
+is_fit_spec =
     tie.close
     (tie.spec
     (λ c κs. search rules) (λ c. search rules) (λ c κs. search rules) (λ c κs. search rules) (λ c κs. search rules)

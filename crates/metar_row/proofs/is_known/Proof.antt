@@ -8,5 +8,5 @@ use Rattle.metar_row.proofs.is_known.Tie as tie
 returns : tie.Need-returns
 returns c = known_is c.before.before.args.g.now c.fit-from.ensures
 
-pub is-known-spec : {M : Type 1} → statement M
-is-known-spec = tie.close (tie.spec (λ c κs. search rules) returns)
+pub is_known_spec : {M : Type 1} → statement M
+is_known_spec = tie.close (tie.spec (λ c κs. search rules) returns)

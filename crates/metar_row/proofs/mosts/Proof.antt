@@ -8,8 +8,8 @@ use Rattle.metar_row.proofs.mosts.Tie as tie
 returns : tie.Need-returns
 returns c = unfold row in refl
 
-pub mosts-spec : {M : Type 1} → statement M
-mosts-spec =
+pub mosts_spec : {M : Type 1} → statement M
+mosts_spec =
     tie.close
     (tie.spec
     returns)

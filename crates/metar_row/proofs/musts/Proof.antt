@@ -8,8 +8,8 @@ use Rattle.metar_row.proofs.musts.Tie as tie
 returns : tie.Need-returns
 returns c = unfold row in refl
 
-pub musts-spec : {M : Type 1} → statement M
-musts-spec =
+pub musts_spec : {M : Type 1} → statement M
+musts_spec =
     tie.close
     (tie.spec
     returns)

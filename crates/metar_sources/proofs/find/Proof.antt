@@ -10,14 +10,14 @@ use Rattle.sources.specs.Trail.{front}
 use Rattle.sources.specs.Route.{move_on}
 use Rattle.sources.proofs.Walks.{looked, takes-found, takes-on, opens-found, opens-on}
 use Rattle.trend_row.specs.declared.kinds.Word.TheVariants as word
-use Rattle.metar_sources.specs.Trail.{route, trailOf, markAt}
+use Rattle.metar_sources.specs.Trail.{route, trail_of, mark_at}
 use Rattle.metar_sources.proofs.Steps.{was-over, was-taken, was-opened}
 use Rattle.metar_sources.proofs.find.Statement.{statement}
 use Rattle.metar_sources.proofs.find.Tie as tie
 
 abbrev Inv : tie.invariant-loop
 Inv text part spot here₀ word₀ place₀ count₀ from₀ here w place count from =
-    (looked (move_on route) part spot text (markAt here w place count) from ≡ looked (move_on route) part spot text (front 0 word.Nosig) 0) × (here ≤ from)
+    (looked (move_on route) part spot text (mark_at here w place count) from ≡ looked (move_on route) part spot text (front 0 word.Nosig) 0) × (here ≤ from)
 
 abbrev μ : tie.decreases-loop
 μ text part spot here₀ word₀ place₀ count₀ from₀ here w place count from = length text - from
@@ -30,13 +30,13 @@ find_spec =
     (λ c κs. search rules) (λ c. search rules)
     (λ c.
     let l = c.before.before.before.loop in
-    unfold trailOf looked in
+    unfold trail_of looked in
     was-over _ _ _ _ _ _ c.before.before.meet.ensures c.enum_told.given.1 _ _ ∙ l.invariant.0)
     (λ c. search rules) (λ c κs. search rules)
     (λ c.
     let l = c.before.before.before.before.before.before.loop in
     let took = was-taken _ _ _ _ _ _ c.before.before.before.before.before.meet.ensures c.before.before.before.met.given.1 in
-    unfold trailOf looked in
+    unfold trail_of looked in
     takes-found (move_on route) _ _ _ _ _ took.follows took.moves (rw (← c.before.is_same.ensures) c.if1.true) ∙ l.invariant.0)
     (λ c.
     let took = was-taken _ _ _ _ _ _ c.before.before.before.before.before.meet.ensures c.before.before.before.met.given.1 in
@@ -57,7 +57,7 @@ find_spec =
     (λ c.
     let l = c.before.before.before.before.before.before.loop in
     let began = was-opened _ _ _ _ _ _ c.before.before.before.before.before.meet.ensures c.before.before.before.met2.given.1 in
-    unfold trailOf looked in
+    unfold trail_of looked in
     opens-found (move_on route) _ _ _ _ _ began.follows began.moves (rw (← c.before.is-same2.ensures) c.if2.true) ∙ l.invariant.0)
     (λ c.
     let began = was-opened _ _ _ _ _ _ c.before.before.before.before.before.meet.ensures c.before.before.before.met2.given.1 in

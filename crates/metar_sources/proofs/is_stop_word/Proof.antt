@@ -5,8 +5,8 @@ use Rattle.trend.proofs.Turns.{stop_is}
 use Rattle.metar_sources.proofs.is_stop_word.Statement.{statement}
 use Rattle.metar_sources.proofs.is_stop_word.Tie as tie
 
-pub is-stop-word-spec : {M : Type 1} → statement M
-is-stop-word-spec =
+pub is_stop_word_spec : {M : Type 1} → statement M
+is_stop_word_spec =
     tie.close
     (tie.spec
     (λ c. search rules) (λ c κs. search rules) (λ c. search rules) (λ c κs. search rules)

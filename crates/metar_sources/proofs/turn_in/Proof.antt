@@ -5,8 +5,8 @@ use borrow.Author.Tests.{eq-eqb, ne_eqb}
 use Rattle.metar_sources.proofs.turn_in.Statement.{statement}
 use Rattle.metar_sources.proofs.turn_in.Tie as tie
 
-pub turn-in-spec : {M : Type 1} → statement M
-turn-in-spec =
+pub turn_in_spec : {M : Type 1} → statement M
+turn_in_spec =
     tie.close
     (tie.spec
     (λ c κs. search rules) (λ c κs. search rules) (λ c κs. search rules)

@@ -4,8 +4,8 @@ use borrow.Author.Rules.{rules}
 use Rattle.places.proofs.end_verdict.Statement.{statement}
 use Rattle.places.proofs.end_verdict.Tie as tie
 
-pub end-verdict-spec : {M : Type 1} → statement M
-end-verdict-spec =
+pub end_verdict_spec : {M : Type 1} → statement M
+end_verdict_spec =
     tie.close
     (tie.spec
     (λ c κs. search rules) (λ c. search rules) (λ c. search rules)

@@ -8,8 +8,8 @@ use Rattle.places.proofs.Fits.{found-room, found-full}
 use Rattle.places.proofs.found_at.Statement.{statement}
 use Rattle.places.proofs.found_at.Tie as tie
 
-pub found-at-spec : {M : Type 1} → statement M
-found-at-spec =
+pub found_at_spec : {M : Type 1} → statement M
+found_at_spec =
     tie.close
     (tie.spec
     (λ c κs. search rules) (λ c κs. search rules) (λ c κs. search rules)

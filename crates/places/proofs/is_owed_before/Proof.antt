@@ -23,8 +23,8 @@ inside c =
     let both = (and-eq-true_iff _ _).0 c.loop-test.true in
     (ltb-true _ _ both.0, ltb-true _ _ both.1)
 
-pub is-owed-before-spec : {M : Type 1} → statement M
-is-owed-before-spec =
+pub is_owed_before_spec : {M : Type 1} → statement M
+is_owed_before_spec =
     tie.close
     (tie.spec Inv μ
     (λ c. refl)

@@ -7,8 +7,8 @@ use lib.ListN.{get_or-eq_default}
 use Rattle.places.proofs.most_at.Statement.{statement}
 use Rattle.places.proofs.most_at.Tie as tie
 
-pub most-at-spec : {M : Type 1} → statement M
-most-at-spec =
+pub most_at_spec : {M : Type 1} → statement M
+most_at_spec =
     tie.close
     (tie.spec
     (λ c. search rules)

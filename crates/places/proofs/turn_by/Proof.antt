@@ -4,8 +4,8 @@ use borrow.Author.Rules.{rules}
 use Rattle.places.proofs.turn_by.Statement.{statement}
 use Rattle.places.proofs.turn_by.Tie as tie
 
-pub turn-by-spec : {M : Type 1} → statement M
-turn-by-spec =
+pub turn_by_spec : {M : Type 1} → statement M
+turn_by_spec =
     tie.close
     (tie.spec
     (λ c. search rules) (λ c. search rules) (λ c. search rules) (λ c. search rules) (λ c. search rules)

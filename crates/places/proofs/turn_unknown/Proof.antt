@@ -3,5 +3,5 @@
 use Rattle.places.proofs.turn_unknown.Statement.{statement}
 use Rattle.places.proofs.turn_unknown.Tie as tie
 
-pub turn-unknown-spec : {M : Type 1} → statement M
-turn-unknown-spec = tie.close (tie.spec (λ c. rw c.if1.true) (λ c. rw c.if1.false))
+pub turn_unknown_spec : {M : Type 1} → statement M
+turn_unknown_spec = tie.close (tie.spec (λ c. rw c.if1.true) (λ c. rw c.if1.false))

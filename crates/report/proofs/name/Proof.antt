@@ -14,8 +14,8 @@ returns-2 c = unfold name_of in rw (← c.before.before.before.judge-bytes.ensur
 returns-3 : tie.Need-returns-3
 returns-3 c = unfold name_of in rw (← c.before.before.before.judge-bytes.ensures, c.before.enum-told2.given.1) c.name-first.ensures
 
-pub name-spec : {M : Type 1} → statement M
-name-spec =
+pub name_spec : {M : Type 1} → statement M
+name_spec =
     tie.close
     (tie.spec
     (λ c κs. search rules) (λ c. search rules) (λ c. search rules) (λ c. search rules) (λ c κs. search rules) returns returns-2 returns-3)

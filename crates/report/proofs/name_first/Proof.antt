@@ -16,8 +16,8 @@ returns-2 c =
     let f = when-group t 0 _ _ (sym c.before.before.before.first.given.1 ∙ c.before.before.before.before.before.next-group.ensures) in
     rw (f.groups, end_is t _ _ f, ← c.before.part.ensures) c.name-group.ensures
 
-pub name-first-spec : {M : Type 1} → statement M
-name-first-spec =
+pub name_first_spec : {M : Type 1} → statement M
+name_first_spec =
     tie.close
     (tie.spec
     (λ c κs. search rules) (λ c. search rules) (λ c. search rules) (λ c κs. search rules) (λ c κs. search rules) returns returns-2)

@@ -22,8 +22,8 @@ returns-5 c = rw (← c.before.before.before.before.before.before.before.before.
 returns-6 : tie.Need-returns-6
 returns-6 c = rw (← c.before.before.before.before.before.before.before.before.before.before.before.before.before.has-pattern.ensures, c.before.before.before.before.before.before.before.before.before.before.before.before.if1.false, ← c.before.before.before.before.before.before.before.before.before.before.has-pattern2.ensures, c.before.before.before.before.before.before.before.before.before.if2.false, ← c.before.before.before.before.before.before.before.has-pattern3.ensures, c.before.before.before.before.before.before.if3.false, ← c.before.before.before.before.has-pattern4.ensures, c.before.before.before.if4.false, ← c.before.has-pattern5.ensures, c.if5.false)
 
-pub name-group-spec : {M : Type 1} → statement M
-name-group-spec =
+pub name_group_spec : {M : Type 1} → statement M
+name_group_spec =
     tie.close
     (tie.spec
     (λ c. search rules) (λ c κs. search rules) returns (λ c. search rules) (λ c κs. search rules) returns-2 (λ c. search rules) (λ c κs. search rules) returns-3

@@ -26,8 +26,8 @@ returns-4 c =
     let a = c.before.before.before.before.before.before.args in
     c.refuse.ensures ∙ as-refused a.edition a.text.now _ _ (sym c.before.before.before.before.name.ensures ∙ c.before.before.named4.given.1)
 
-pub read-in-spec : {M : Type 1} → statement M
-read-in-spec =
+pub read_in_spec : {M : Type 1} → statement M
+read_in_spec =
     tie.close
     (tie.spec
     (λ c κs. search rules) (λ c. search rules) (λ c κs. search rules) (λ c κs. search rules) (λ c. search rules) (λ c κs. search rules) (λ c κs. search rules)

@@ -7,8 +7,8 @@ use Rattle.report.proofs.rest_in.Tie as tie
 returns : tie.Need-returns
 returns c = rw (← c.before.rest-place-in.ensures) c.part_at.ensures
 
-pub rest-in-spec : {M : Type 1} → statement M
-rest-in-spec =
+pub rest_in_spec : {M : Type 1} → statement M
+rest_in_spec =
     tie.close
     (tie.spec
     (λ c κs. search rules) (λ c κs. search rules) returns)

@@ -4,8 +4,8 @@ use borrow.Author.Rules.{rules}
 use Rattle.report.proofs.rest_place.Statement.{statement}
 use Rattle.report.proofs.rest_place.Tie as tie
 
-pub rest-place-spec : {M : Type 1} → statement M
-rest-place-spec =
+pub rest_place_spec : {M : Type 1} → statement M
+rest_place_spec =
     tie.close
     (tie.spec
     (λ c κs. search rules) (λ c. c.rest-place-in.ensures))

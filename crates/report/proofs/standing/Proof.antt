@@ -13,8 +13,8 @@ returns-2 c = rw (← c.before.before.before.which-stands.ensures, c.before.enum
 returns-3 : tie.Need-returns-3
 returns-3 c = rw (← c.before.before.before.which-stands.ensures, c.before.enum-told3.given.1) c.part_at.ensures
 
-pub standing-spec : {M : Type 1} → statement M
-standing-spec =
+pub standing_spec : {M : Type 1} → statement M
+standing_spec =
     tie.close
     (tie.spec
     (λ c κs. search rules) (λ c. search rules) (λ c κs. search rules) (λ c. search rules) (λ c κs. search rules) (λ c. search rules) (λ c κs. search rules) returns returns-2 returns-3)

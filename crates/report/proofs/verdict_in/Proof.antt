@@ -27,8 +27,8 @@ returns-4 c =
     let a = c.before.before.before.before.before.args in
     ap (λ (x : Reading). x.verdict) (as-refused a.edition a.text.now _ _ (sym c.before.before.before.name.ensures ∙ c.before.named4.given.1))
 
-pub verdict-in-spec : {M : Type 1} → statement M
-verdict-in-spec =
+pub verdict_in_spec : {M : Type 1} → statement M
+verdict_in_spec =
     tie.close
     (tie.spec
     (λ c κs. search rules) (λ c. search rules) (λ c κs. search rules) (λ c. search rules) (λ c κs. search rules) (λ c. search rules) (λ c κs. search rules)

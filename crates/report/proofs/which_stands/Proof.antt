@@ -1,15 +1,15 @@
 -- `report::which_stands` meets its contract, by the two records.
 -- Assumes nothing.
 use borrow.Author.Rules.{rules}
-use Rattle.report.specs.Standing.{standsOf}
+use Rattle.report.specs.Standing.{stands_of}
 use Rattle.report.proofs.which_stands.Statement.{statement}
 use Rattle.report.proofs.which_stands.Tie as tie
 
 returns : tie.Need-returns
-returns c = unfold standsOf in rw (← c.before.before.read.ensures, ← c.before.read2.ensures) c.judge-standing.ensures
+returns c = unfold stands_of in rw (← c.before.before.read.ensures, ← c.before.read2.ensures) c.judge-standing.ensures
 
-pub which-stands-spec : {M : Type 1} → statement M
-which-stands-spec =
+pub which_stands_spec : {M : Type 1} → statement M
+which_stands_spec =
     tie.close
     (tie.spec
     (λ c κs. search rules) (λ c κs. search rules) (λ c κs. search rules) returns)

@@ -1,7 +1,7 @@
 -- `report::write_forecast` meets its contract: its own part, where the others are blank.
 -- Assumes nothing.
 use borrow.Author.Rules.{rules}
-use Rattle.taf.specs.Write.{judgeIn, canonicalOf, writtenIn, bufferIn}
+use Rattle.taf.specs.Write.{judge_in, canonical_of, written_in, buffer_in}
 use Rattle.report.proofs.Writes.{own-written, foreign-refused}
 use Rattle.report.proofs.write_forecast.Statement.{statement}
 use Rattle.report.proofs.write_forecast.Tie as tie
@@ -10,17 +10,17 @@ returns : tie.Need-returns
 returns c =
     let d = c.before.before.before.before.before in
     let a = d.before.before.before.args in
-    unfold writtenIn bufferIn in
-    own-written (judgeIn a.edition a.report.forecast) (canonicalOf a.report.forecast) a.out.now _ _ d.before.is-blank.ensures d.is-blank2.ensures c.before.before.before.before.if1.true c.before.before.write-in.ensures
+    unfold written_in buffer_in in
+    own-written (judge_in a.edition a.report.forecast) (canonical_of a.report.forecast) a.out.now _ _ d.before.is-blank.ensures d.is-blank2.ensures c.before.before.before.before.if1.true c.before.before.write-in.ensures
 
 returns-2 : tie.Need-returns-2
 returns-2 c =
     let d = c.before in
     let a = d.before.before.before.args in
-    foreign-refused (judgeIn a.edition a.report.forecast) (canonicalOf a.report.forecast) a.out.now _ _ d.before.is-blank.ensures d.is-blank2.ensures c.if1.false
+    foreign-refused (judge_in a.edition a.report.forecast) (canonical_of a.report.forecast) a.out.now _ _ d.before.is-blank.ensures d.is-blank2.ensures c.if1.false
 
-pub write-forecast-spec : {M : Type 1} → statement M
-write-forecast-spec =
+pub write_forecast_spec : {M : Type 1} → statement M
+write_forecast_spec =
     tie.close
     (tie.spec
     (λ c κs. search rules) (λ c κs. search rules) (λ c κs. search rules) (λ c. search rules) returns returns-2)

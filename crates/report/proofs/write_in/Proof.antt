@@ -18,8 +18,8 @@ returns-3 c = let a = c.before.before.before.before.before.before.before.args in
 returns-4 : tie.Need-returns-4
 returns-4 c = let a = c.before.before.before.before.before.before.before.args in by_kind a.edition a.report a.out.now kind.Forecast c.before.before.before.before.enum-told4.given.1 c.before.before.write-forecast.ensures
 
-pub write-in-spec : {M : Type 1} → statement M
-write-in-spec =
+pub write_in_spec : {M : Type 1} → statement M
+write_in_spec =
     tie.close
     (tie.spec
     (λ c. search rules) (λ c. search rules) (λ c κs. search rules) (λ c. search rules) (λ c κs. search rules) (λ c. search rules) (λ c κs. search rules) returns (λ c. search rules) returns-2 (λ c. search rules) returns-3 (λ c. search rules) returns-4)

@@ -5,8 +5,8 @@ use Rattle.report_move.proofs.Moving.{none-moved, refused-moved, fine_moved}
 use Rattle.report_move.proofs.move_report.Statement.{statement}
 use Rattle.report_move.proofs.move_report.Tie as tie
 
-pub move-report-spec : {M : Type 1} → statement M
-move-report-spec =
+pub move_report_spec : {M : Type 1} → statement M
+move_report_spec =
     tie.close
     (tie.spec
     (λ c κs. search rules)

@@ -1,7 +1,7 @@
 -- `report_sources::find` meets its contract, by the kind.
 -- Assumes nothing.
 use borrow.Author.Rules.{rules}
-use Rattle.report_sources.specs.Source.{observedAt}
+use Rattle.report_sources.specs.Source.{observed_at}
 use Rattle.report_sources.proofs.find.Statement.{statement}
 use Rattle.report_sources.proofs.find.Tie as tie
 
@@ -10,7 +10,7 @@ find_spec =
     tie.close
     (tie.spec
     (λ c κs. search rules) (λ c. search rules) (λ c. search rules) (λ c. search rules) (λ c κs. search rules) (λ c. search rules)
-    (λ c. unfold observedAt in rw (← c.before.before.before.read.ensures, c.enum_told.given.1))
-    (λ c. unfold observedAt in rw (← c.before.before.before.read.ensures, c.enum-told2.given.1))
-    (λ c. unfold observedAt in rw (← c.before.before.before.before.read.ensures, c.before.enum-told3.given.1) c.find.ensures)
-    (λ c. unfold observedAt in rw (← c.before.before.before.read.ensures, c.enum-told4.given.1)))
+    (λ c. unfold observed_at in rw (← c.before.before.before.read.ensures, c.enum_told.given.1))
+    (λ c. unfold observed_at in rw (← c.before.before.before.read.ensures, c.enum-told2.given.1))
+    (λ c. unfold observed_at in rw (← c.before.before.before.before.read.ensures, c.before.enum-told3.given.1) c.find.ensures)
+    (λ c. unfold observed_at in rw (← c.before.before.before.read.ensures, c.enum-told4.given.1)))

@@ -4,8 +4,8 @@ use borrow.Author.Rules.{rules}
 use Rattle.report_sources.proofs.observed.Statement.{statement}
 use Rattle.report_sources.proofs.observed.Tie as tie
 
-pub observed-spec : {M : Type 1} → statement M
-observed-spec =
+pub observed_spec : {M : Type 1} → statement M
+observed_spec =
     tie.close
     (tie.spec
     (λ c κs. search rules) (λ c κs. search rules) (λ c κs. search rules)

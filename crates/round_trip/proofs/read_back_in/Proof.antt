@@ -53,8 +53,8 @@ arrays c =
           };
     }
 
-pub read-back-in-spec : {M : Type 1} → statement M
-read-back-in-spec =
+pub read_back_in_spec : {M : Type 1} → statement M
+read_back_in_spec =
     tie.close
     (tie.spec
     (λ c κs. tt) (λ c. search rules)

@@ -5,8 +5,8 @@ use Rattle.shapes.specs.Pattern.{fits}
 use Rattle.shapes.proofs.fits_at.Statement.{statement}
 use Rattle.shapes.proofs.fits_at.Tie as tie
 
-pub fits-at-spec : {M : Type 1} → statement M
-fits-at-spec =
+pub fits_at_spec : {M : Type 1} → statement M
+fits_at_spec =
     tie.close
     (tie.spec
     (λ c κs. search rules) (λ c κs. search rules)

@@ -7,13 +7,13 @@ use Prim.Native.Nat.{◌≤◌, ◌+◌, ◌-◌}
 use native.Mathlib.Omega.{arith}
 use lib.ListN.{length, drop, get_or}
 use borrow.Author.Rules.{rules}
-use Rattle.shapes.specs.Pattern.{fits, hasPattern}
+use Rattle.shapes.specs.Pattern.{fits, has_pattern}
 use Rattle.shapes.proofs.Patterns.{on-star, on-spent, on-byte, on-end}
 use Rattle.shapes.proofs.has_pattern.Statement.{statement}
 use Rattle.shapes.proofs.has_pattern.Tie as tie
 
 abbrev Inv : tie.invariant-loop
-Inv g p i₀ i = (i ≤ length p) × (i ≤ length g) × (hasPattern (drop i g) (drop i p) ≡ hasPattern g p)
+Inv g p i₀ i = (i ≤ length p) × (i ≤ length g) × (has_pattern (drop i g) (drop i p) ≡ has_pattern g p)
 
 abbrev μ : tie.decreases-loop
 μ g p i₀ i = length p - i
@@ -23,11 +23,11 @@ turn : (c : tie.Else2 Inv μ)
     → let i = c.before.before.before.before.loop.i in
     let g = c.before.before.before.before.before.before.before.args.g.now in
     let p = c.before.before.before.before.before.before.before.args.pattern.now in
-    (fits (get_or p i 0) (get_or g i 0) && hasPattern (drop (i + 1) g) (drop (i + 1) p)) ≡ hasPattern g p
+    (fits (get_or p i 0) (get_or g i 0) && has_pattern (drop (i + 1) g) (drop (i + 1) p)) ≡ has_pattern g p
 turn c = on-byte _ _ _ c.before.before.before.before.loop.invariant.2 (omega arith) c.before.if1.false (omega arith)
 
-pub has-pattern-spec : {M : Type 1} → statement M
-has-pattern-spec =
+pub has_pattern_spec : {M : Type 1} → statement M
+has_pattern_spec =
     tie.close
     (tie.spec Inv μ
     (λ c. search rules) (λ c. search rules)

@@ -5,8 +5,8 @@ use Rattle.shapes.specs.Pattern.{high}
 use Rattle.shapes.proofs.highest.Statement.{statement}
 use Rattle.shapes.proofs.highest.Tie as tie
 
-pub highest-spec : {M : Type 1} → statement M
-highest-spec =
+pub highest_spec : {M : Type 1} → statement M
+highest_spec =
     tie.close
     (tie.spec
     (λ c. unfold high in rw c.match.keys1)

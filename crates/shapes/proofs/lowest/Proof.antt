@@ -5,8 +5,8 @@ use Rattle.shapes.specs.Pattern.{low}
 use Rattle.shapes.proofs.lowest.Statement.{statement}
 use Rattle.shapes.proofs.lowest.Tie as tie
 
-pub lowest-spec : {M : Type 1} → statement M
-lowest-spec =
+pub lowest_spec : {M : Type 1} → statement M
+lowest_spec =
     tie.close
     (tie.spec
     (λ c. unfold low in rw c.match.keys1)

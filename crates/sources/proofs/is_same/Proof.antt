@@ -5,8 +5,8 @@ use mathlib.Core.Path.{refl}
 use Rattle.sources.proofs.is_same.Statement.{statement}
 use Rattle.sources.proofs.is_same.Tie as tie
 
-pub is-same-spec : {M : Type 1} → statement M
-is-same-spec =
+pub is_same_spec : {M : Type 1} → statement M
+is_same_spec =
     tie.close
     (tie.spec
     (λ c. search rules) (λ c. search rules) (λ c. search rules) (λ c. search rules) (λ c. search rules) (λ c. search rules) (λ c. search rules) (λ c. search rules)

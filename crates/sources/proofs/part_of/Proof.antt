@@ -4,8 +4,8 @@ use borrow.Author.Rules.{rules}
 use Rattle.sources.proofs.part_of.Statement.{statement}
 use Rattle.sources.proofs.part_of.Tie as tie
 
-pub part-of-spec : {M : Type 1} → statement M
-part-of-spec =
+pub part_of_spec : {M : Type 1} → statement M
+part_of_spec =
     tie.close
     (tie.spec
     (λ c. search rules) (λ c κs. search rules) (λ c. search rules) (λ c κs. search rules)

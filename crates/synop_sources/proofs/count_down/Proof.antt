@@ -4,8 +4,8 @@ use native.Mathlib.Omega.{arith}
 use Rattle.synop_sources.proofs.count_down.Statement.{statement}
 use Rattle.synop_sources.proofs.count_down.Tie as tie
 
-pub count-down-spec : {M : Type 1} → statement M
-count-down-spec =
+pub count_down_spec : {M : Type 1} → statement M
+count_down_spec =
     tie.close
     (tie.spec
     (λ c. omega (arith, c.if2.true))

@@ -9,24 +9,24 @@ use mathlib.Core.List.{List}
 use lib.ListN.{length}
 use Rattle.sources.specs.declared.kinds.Spot.{Spot}
 use Rattle.sources.specs.declared.kinds.Source.{Source}
-use Rattle.sources.specs.Trail.{originIn, source_of}
+use Rattle.sources.specs.Trail.{origin_in, source_of}
 use Rattle.sources.proofs.Walks.{looked, takes-found, takes-on, opens-found, opens-on}
-use Rattle.synop_sources.specs.Trail.{markAt, start, move, shipIn, trailOf}
+use Rattle.synop_sources.specs.Trail.{mark_at, start, move, ship_in, trail_of}
 use Rattle.synop_sources.proofs.Steps.{over_none, was-taken, was-opened}
 use Rattle.synop_sources.proofs.find.Statement.{statement}
 use Rattle.synop_sources.proofs.find.Tie as tie
 
 abbrev Inv : tie.invariant-loop
 Inv text part spot ship here₀ stand₀ stood₀ from₀ here stand stood from =
-    (looked (move ship) part spot text (markAt here stand stood) from ≡ looked (move ship) part spot text start 0) × (ship ≡ shipIn text) × (here ≤ from)
+    (looked (move ship) part spot text (mark_at here stand stood) from ≡ looked (move ship) part spot text start 0) × (ship ≡ ship_in text) × (here ≤ from)
 
 abbrev μ : tie.decreases-loop
 μ text part spot ship here₀ stand₀ stood₀ from₀ here stand stood from = length text - from
 
 -- what the walk of that kind finds is what the text's trail has
-whole_of : (text : List ℕ) (part : ℕ) (spot : Spot) {ship : Bool} {x : Source} → ship ≡ shipIn text → x ≡ looked (move ship) part spot text start 0
-    → x ≡ source_of (originIn part spot (trailOf text))
-unfolding looked trailOf
+whole_of : (text : List ℕ) (part : ℕ) (spot : Spot) {ship : Bool} {x : Source} → ship ≡ ship_in text → x ≡ looked (move ship) part spot text start 0
+    → x ≡ source_of (origin_in part spot (trail_of text))
+unfolding looked trail_of
 whole_of text part spot is e = rw is at e
 
 pub find_spec : {M : Type 1} → statement M

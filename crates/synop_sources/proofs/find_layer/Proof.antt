@@ -9,8 +9,8 @@ use mathlib.Core.List.{List}
 use lib.ListN.{length}
 use Rattle.sources.specs.declared.kinds.Source.{Source}
 use Rattle.sources.specs.Trail.{source_of}
-use Rattle.synop_sources.specs.Trail.{namePlace, shipIn, trailOf}
-use Rattle.synop_sources.specs.Items.{layerIn}
+use Rattle.synop_sources.specs.Trail.{name_place, ship_in, trail_of}
+use Rattle.synop_sources.specs.Items.{layer_in}
 use Rattle.synop_sources.proofs.Steps.{was-over, was-taken, was-opened}
 use Rattle.synop_sources.proofs.LayerWalks.{layered, layered-over, layered-here, layered-next, layered-opens}
 use Rattle.synop_sources.proofs.find_layer.Statement.{statement}
@@ -18,18 +18,18 @@ use Rattle.synop_sources.proofs.find_layer.Tie as tie
 
 abbrev Inv : tie.invariant-loop
 Inv text number ship more₀ here₀ stand₀ stood₀ from₀ more here stand stood from =
-    (layered ship text more here stand stood from ≡ layered ship text number 0 namePlace 0 0) × (ship ≡ shipIn text) × (here ≤ from)
+    (layered ship text more here stand stood from ≡ layered ship text number 0 name_place 0 0) × (ship ≡ ship_in text) × (here ≤ from)
 
 abbrev μ : tie.decreases-loop
 μ text number ship more₀ here₀ stand₀ stood₀ from₀ more here stand stood from = length text - from
 
 -- what the walk of that kind finds is what the text's trail has
-whole_of : (text : List ℕ) (number : ℕ) {ship : Bool} {x : Source} → ship ≡ shipIn text → x ≡ layered ship text number 0 namePlace 0 0 → x ≡ source_of (layerIn number (trailOf text))
-unfolding layered trailOf
+whole_of : (text : List ℕ) (number : ℕ) {ship : Bool} {x : Source} → ship ≡ ship_in text → x ≡ layered ship text number 0 name_place 0 0 → x ≡ source_of (layer_in number (trail_of text))
+unfolding layered trail_of
 whole_of text number is e = rw is at e
 
-pub find-layer-spec : {M : Type 1} → statement M
-find-layer-spec =
+pub find_layer_spec : {M : Type 1} → statement M
+find_layer_spec =
     tie.close
     (tie.spec
     Inv μ

@@ -5,8 +5,8 @@ use borrow.Author.Tests.{eq-eqb, ne_eqb}
 use Rattle.synop_sources.proofs.head_turn.Statement.{statement}
 use Rattle.synop_sources.proofs.head_turn.Tie as tie
 
-pub head-turn-spec : {M : Type 1} → statement M
-head-turn-spec =
+pub head_turn_spec : {M : Type 1} → statement M
+head_turn_spec =
     tie.close
     (tie.spec
     (λ c κs. search rules)

@@ -3,19 +3,19 @@
 use borrow.Author.Rules.{rules}
 use mathlib.Core.Path.{sym, ◌∙◌}
 use Rattle.text.proofs.Groups.{when-group, when-end}
-use Rattle.synop_sources.specs.Trail.{shipIn}
+use Rattle.synop_sources.specs.Trail.{ship_in}
 use Rattle.synop_sources.proofs.is_ship.Statement.{statement}
 use Rattle.synop_sources.proofs.is_ship.Tie as tie
 
-pub is-ship-spec : {M : Type 1} → statement M
-is-ship-spec =
+pub is_ship_spec : {M : Type 1} → statement M
+is_ship_spec =
     tie.close
     (tie.spec
     (λ c κs. search rules)
     (λ c. search rules)
     (λ c. search rules)
-    (λ c. unfold shipIn in rw (when-end _ _ _ (sym c.enum_told.given.1 ∙ c.before.before.next-group.ensures)))
+    (λ c. unfold ship_in in rw (when-end _ _ _ (sym c.enum_told.given.1 ∙ c.before.before.next-group.ensures)))
     (λ c κs. search rules)
     (λ c. search rules)
     (λ c κs. search rules)
-    (λ c. unfold shipIn in rw ((when-group _ _ _ _ (sym c.before.before.before.before.start.given.1 ∙ c.before.before.before.before.before.before.next-group.ensures)).groups, ← c.before.before.part.ensures) c.has-pattern.ensures))
+    (λ c. unfold ship_in in rw ((when-group _ _ _ _ (sym c.before.before.before.before.start.given.1 ∙ c.before.before.before.before.before.before.next-group.ensures)).groups, ← c.before.before.part.ensures) c.has-pattern.ensures))

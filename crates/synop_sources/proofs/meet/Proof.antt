@@ -6,8 +6,8 @@ use Rattle.synop_sources.proofs.Steps.{met-end, met-turn}
 use Rattle.synop_sources.proofs.meet.Statement.{statement}
 use Rattle.synop_sources.proofs.meet.Tie as tie
 
-pub meet-spec : {M : Type 1} → statement M
-meet-spec =
+pub meet_spec : {M : Type 1} → statement M
+meet_spec =
     tie.close
     (tie.spec
     (λ c κs. search rules)

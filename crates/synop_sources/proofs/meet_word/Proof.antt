@@ -4,8 +4,8 @@ use borrow.Author.Rules.{rules}
 use Rattle.synop_sources.proofs.meet_word.Statement.{statement}
 use Rattle.synop_sources.proofs.meet_word.Tie as tie
 
-pub meet-word-spec : {M : Type 1} → statement M
-meet-word-spec =
+pub meet_word_spec : {M : Type 1} → statement M
+meet_word_spec =
     tie.close
     (tie.spec
     (λ c κs. search rules)

@@ -3,21 +3,21 @@
 use borrow.Author.Rules.{rules}
 use mathlib.Core.Path.{sym, ◌∙◌}
 use native.Mathlib.Omega.{arith}
-use Rattle.shapes.specs.Pattern.{hasAny}
+use Rattle.shapes.specs.Pattern.{has_any}
 use Rattle.places.proofs.Loop.{turn-past, turn-halts, turn-found}
-use Rattle.synop_row.specs.Row.{row, stopWords}
+use Rattle.synop_row.specs.Row.{row, stop_words}
 use Rattle.synop_row.proofs.Tests.{row-length}
 use Rattle.synop_sources.specs.Trail.{free}
 use Rattle.synop_sources.proofs.row_turn.Statement.{statement}
 use Rattle.synop_sources.proofs.row_turn.Tie as tie
 
-pub row-turn-spec : {M : Type 1} → statement M
-row-turn-spec =
+pub row_turn_spec : {M : Type 1} → statement M
+row_turn_spec =
     tie.close
     (tie.spec
-    (λ c. turn-past (row free) (hasAny stopWords) _ _ _ (rw (row-length free) c.if1.true))
+    (λ c. turn-past (row free) (has_any stop_words) _ _ _ (rw (row-length free) c.if1.true))
     (λ c κs. search rules)
-    (λ c. turn-halts (row free) (hasAny stopWords) _ _ _ (rw (row-length free) (omega (arith, c.before.before.if1.false))) (sym c.before.is-stop-word.ensures ∙ c.if2.true))
+    (λ c. turn-halts (row free) (has_any stop_words) _ _ _ (rw (row-length free) (omega (arith, c.before.before.if1.false))) (sym c.before.is-stop-word.ensures ∙ c.if2.true))
     (λ c κs. search rules)
     (λ c κs. search rules)
-    (λ c. turn-found (row free) (hasAny stopWords) _ _ _ (rw (row-length free) (omega (arith, c.before.before.before.before.if1.false))) (sym c.before.before.before.is-stop-word.ensures ∙ c.before.before.if2.false) c.before.find.ensures c.turn_by.ensures))
+    (λ c. turn-found (row free) (has_any stop_words) _ _ _ (rw (row-length free) (omega (arith, c.before.before.before.before.if1.false))) (sym c.before.before.before.is-stop-word.ensures ∙ c.before.before.if2.false) c.before.find.ensures c.turn_by.ensures))

@@ -4,8 +4,8 @@ use borrow.Author.Rules.{rules}
 use Rattle.synop_sources.proofs.says_layer.Statement.{statement}
 use Rattle.synop_sources.proofs.says_layer.Tie as tie
 
-pub says-layer-spec : {M : Type 1} → statement M
-says-layer-spec =
+pub says_layer_spec : {M : Type 1} → statement M
+says_layer_spec =
     tie.close
     (tie.spec
     (λ c. search rules)

@@ -5,8 +5,8 @@ use borrow.Author.Tests.{eq-eqb, ne_eqb}
 use Rattle.synop_sources.proofs.section_turn.Statement.{statement}
 use Rattle.synop_sources.proofs.section_turn.Tie as tie
 
-pub section-turn-spec : {M : Type 1} → statement M
-section-turn-spec =
+pub section_turn_spec : {M : Type 1} → statement M
+section_turn_spec =
     tie.close
     (tie.spec
     (λ c κs. search rules)

@@ -6,8 +6,8 @@ use Rattle.taf_move.proofs.Moving.{times-decide, writer-decides}
 use Rattle.taf_move.proofs.move_taf.Statement.{statement}
 use Rattle.taf_move.proofs.move_taf.Tie as tie
 
-pub move-taf-spec : {M : Type 1} → statement M
-move-taf-spec =
+pub move_taf_spec : {M : Type 1} → statement M
+move_taf_spec =
     tie.close
     (tie.spec
     (λ c κs. search rules)

@@ -4,8 +4,8 @@ use borrow.Author.Rules.{rules}
 use Rattle.taf_sources.proofs.does_belong.Statement.{statement}
 use Rattle.taf_sources.proofs.does_belong.Tie as tie
 
-pub does-belong-spec : {M : Type 1} → statement M
-does-belong-spec =
+pub does_belong_spec : {M : Type 1} → statement M
+does_belong_spec =
     tie.close
     (tie.spec
     (λ c κs. search rules)

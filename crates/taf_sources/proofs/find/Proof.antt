@@ -9,14 +9,14 @@ use Rattle.record.specs.declared.aerodrome.Opening.TheVariants as opening
 use Rattle.sources.specs.Trail.{front}
 use Rattle.sources.specs.Route.{move_on}
 use Rattle.sources.proofs.Walks.{looked}
-use Rattle.taf_sources.specs.Trail.{route, trailOf, markAt}
+use Rattle.taf_sources.specs.Trail.{route, trail_of, mark_at}
 use Rattle.taf_sources.proofs.Steps.{was-over, was-step}
 use Rattle.taf_sources.proofs.find.Statement.{statement}
 use Rattle.taf_sources.proofs.find.Tie as tie
 
 abbrev Inv : tie.invariant-loop
 Inv edition text part spot here₀ opener₀ place₀ count₀ from₀ here opener place count from =
-    (looked (move_on (route edition)) part spot text (markAt here opener place count) from ≡ looked (move_on (route edition)) part spot text (front 0 opening.None) 0) × (here ≤ from)
+    (looked (move_on (route edition)) part spot text (mark_at here opener place count) from ≡ looked (move_on (route edition)) part spot text (front 0 opening.None) 0) × (here ≤ from)
 
 abbrev μ : tie.decreases-loop
 μ edition text part spot here₀ opener₀ place₀ count₀ from₀ here opener place count from = length text - from
@@ -27,7 +27,7 @@ find_spec =
     (tie.spec Inv μ
     (λ c. (refl, omega arith))
     (λ c κs. search rules) (λ c. search rules)
-    (λ c. unfold trailOf looked in was-over _ _ _ _ _ _ _ c.before.before.meet.ensures c.enum_told.given.1 _ _ ∙ c.before.before.before.loop.invariant.0)
+    (λ c. unfold trail_of looked in was-over _ _ _ _ _ _ _ c.before.before.meet.ensures c.enum_told.given.1 _ _ ∙ c.before.before.before.loop.invariant.0)
     (λ c. search rules)
     (λ c.
     let stepped = was-step _ _ _ _ _ _ _ c.before.before.before.before.meet.ensures c.before.before.met.given.1 in
@@ -35,7 +35,7 @@ find_spec =
     (λ c κs. search rules)
     (λ c.
     let stepped = was-step _ _ _ _ _ _ _ c.before.before.before.before.before.before.meet.ensures c.before.before.before.before.met.given.1 in
-    unfold trailOf looked in stepped.found _ _ (rw (← c.before.is_same.ensures) c.if1.true) ∙ c.before.before.before.before.before.before.before.loop.invariant.0)
+    unfold trail_of looked in stepped.found _ _ (rw (← c.before.is_same.ensures) c.if1.true) ∙ c.before.before.before.before.before.before.before.loop.invariant.0)
     (λ c.
     let stepped = was-step _ _ _ _ _ _ _ c.before.before.before.before.before.before.meet.ensures c.before.before.before.before.met.given.1 in
     omega (arith, stepped.few, stepped.follows.after, stepped.follows.some, stepped.follows.within))

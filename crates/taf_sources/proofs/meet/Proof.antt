@@ -3,13 +3,13 @@
 use borrow.Author.Rules.{rules}
 use native.Mathlib.Omega.{arith}
 use mathlib.Core.Path.{refl}
-use Rattle.taf_sources.specs.Trail.{rowOf}
+use Rattle.taf_sources.specs.Trail.{row_of}
 use Rattle.taf_sources.proofs.Steps.{turn-few, met-end, met-joined, met-turn}
 use Rattle.taf_sources.proofs.meet.Statement.{statement}
 use Rattle.taf_sources.proofs.meet.Tie as tie
 
-pub meet-spec : {M : Type 1} → statement M
-meet-spec =
+pub meet_spec : {M : Type 1} → statement M
+meet_spec =
     tie.close
     (tie.spec
     (λ c κs. search rules) (λ c. search rules) (λ c. search rules)
@@ -22,4 +22,4 @@ meet-spec =
     (λ c. met-turn _ _ _ _ _ _ _ c.before.before.before.before.before.before.before.before.before.before.next-group.ensures c.before.before.before.before.before.before.before.before.start.given.1 c.before.before.before.before.before.before.part.ensures c.before.before.before.before.before.does-belong.ensures c.before.before.before.before.if1.false c.before.before.before.row_of.ensures c.before.before.decide.ensures c.enum-told3.given.1 refl)
     (λ c.
     let a = c.before.before.before.before.before.before.before.before.before.before.before.before.before.before.args in
-    met-turn _ _ _ _ _ _ _ c.before.before.before.before.before.before.before.before.before.before.before.before.next-group.ensures c.before.before.before.before.before.before.before.before.before.before.start.given.1 c.before.before.before.before.before.before.before.before.part.ensures c.before.before.before.before.before.before.before.does-belong.ensures c.before.before.before.before.before.before.if1.false c.before.before.before.before.before.row_of.ensures c.before.before.before.before.decide.ensures c.before.before.turn.given.1 (rw (c.go-past.ensures a.edition (rowOf a.part a.opener)))))
+    met-turn _ _ _ _ _ _ _ c.before.before.before.before.before.before.before.before.before.before.before.before.next-group.ensures c.before.before.before.before.before.before.before.before.before.before.start.given.1 c.before.before.before.before.before.before.before.before.part.ensures c.before.before.before.before.before.before.before.does-belong.ensures c.before.before.before.before.before.before.if1.false c.before.before.before.before.before.row_of.ensures c.before.before.before.before.decide.ensures c.before.before.turn.given.1 (rw (c.go-past.ensures a.edition (row_of a.part a.opener)))))

@@ -4,8 +4,8 @@ use borrow.Author.Rules.{rules}
 use Rattle.taf_sources.proofs.with_tempo.Statement.{statement}
 use Rattle.taf_sources.proofs.with_tempo.Tie as tie
 
-pub with-tempo-spec : {M : Type 1} → statement M
-with-tempo-spec =
+pub with_tempo_spec : {M : Type 1} → statement M
+with_tempo_spec =
     tie.close
     (tie.spec
     (λ c. search rules) (λ c. search rules) (λ c. search rules) (λ c. search rules) (λ c. search rules) (λ c. search rules) (λ c. search rules) (λ c. search rules) (λ c. search rules)

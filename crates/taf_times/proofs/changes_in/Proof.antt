@@ -8,13 +8,13 @@ use mathlib.Core.List.{◌++◌, map}
 use lib.ListN.{length, take, drop}
 use Rattle.figures.specs.Figures.{every}
 use Rattle.record.specs.declared.aerodrome.Change.{Change}
-use Rattle.taf_times.specs.Move.{daysIn}
+use Rattle.taf_times.specs.Move.{days_in}
 use Rattle.taf_times.proofs.Loops.{test-next, test-stop, test-end}
 use Rattle.taf_times.proofs.changes_in.Statement.{statement}
 use Rattle.taf_times.proofs.changes_in.Tie as tie
 
 abbrev Inv : tie.invariant-loop
-Inv days count items i₀ i = every (λ (x : Change). daysIn days x.period) (take count items) ≡ every (λ (x : Change). daysIn days x.period) (drop i (take count items))
+Inv days count items i₀ i = every (λ (x : Change). days_in days x.period) (take count items) ≡ every (λ (x : Change). days_in days x.period) (drop i (take count items))
 
 abbrev μ : tie.decreases-loop
 μ days count items i₀ i = 16 - i
@@ -23,17 +23,17 @@ abbrev μ : tie.decreases-loop
 slots : (c : tie.Start Inv μ) → length c.args.t2 ≡ 16
 slots c = search rules
 
-pub changes-in-spec : {M : Type 1} → statement M
-changes-in-spec =
+pub changes_in_spec : {M : Type 1} → statement M
+changes_in_spec =
     tie.close
     (tie.spec Inv μ
     (λ c. refl)
-    (λ c. let d = c.before.before in let a = d.before.args in test-end (λ (x : Change). daysIn a.days x.period) a.t2 a.count d.loop.i d.loop.invariant (omega (arith, c.if1.true)))
+    (λ c. let d = c.before.before in let a = d.before.args in test-end (λ (x : Change). days_in a.days x.period) a.t2 a.count d.loop.i d.loop.invariant (omega (arith, c.if1.true)))
     (λ c. search rules)
     (λ c. search rules)
     (λ c κs. search rules)
     (λ c. search rules)
     (λ c. search rules)
-    (λ c. let d = c.before.before.before.before.before in let a = d.before.args in test-next (λ (x : Change). daysIn a.days x.period) a.t2 a.count d.loop.i d.loop.invariant _ (omega (arith, slots d.before)) (omega (arith, c.before.before.before.if1.false)) (sym c.before.days-in.ensures ∙ c.if2.true))
-    (λ c. let d = c.before.before.before.before.before in let a = d.before.args in test-stop (λ (x : Change). daysIn a.days x.period) a.t2 a.count d.loop.i d.loop.invariant _ (omega (arith, slots d.before)) (omega (arith, c.before.before.before.if1.false)) (sym c.before.days-in.ensures ∙ c.if2.false))
-    (λ c. let d = c.before in let a = d.before.args in test-end (λ (x : Change). daysIn a.days x.period) a.t2 a.count d.loop.i d.loop.invariant (omega (arith, slots d.before))))
+    (λ c. let d = c.before.before.before.before.before in let a = d.before.args in test-next (λ (x : Change). days_in a.days x.period) a.t2 a.count d.loop.i d.loop.invariant _ (omega (arith, slots d.before)) (omega (arith, c.before.before.before.if1.false)) (sym c.before.days-in.ensures ∙ c.if2.true))
+    (λ c. let d = c.before.before.before.before.before in let a = d.before.args in test-stop (λ (x : Change). days_in a.days x.period) a.t2 a.count d.loop.i d.loop.invariant _ (omega (arith, slots d.before)) (omega (arith, c.before.before.before.if1.false)) (sym c.before.days-in.ensures ∙ c.if2.false))
+    (λ c. let d = c.before in let a = d.before.args in test-end (λ (x : Change). days_in a.days x.period) a.t2 a.count d.loop.i d.loop.invariant (omega (arith, slots d.before))))

@@ -4,8 +4,8 @@ use borrow.Author.Rules.{rules}
 use Rattle.taf_times.proofs.days_in.Statement.{statement}
 use Rattle.taf_times.proofs.days_in.Tie as tie
 
-pub days-in-spec : {M : Type 1} → statement M
-days-in-spec =
+pub days_in_spec : {M : Type 1} → statement M
+days_in_spec =
     tie.close
     (tie.spec
     (λ c κs. search rules)

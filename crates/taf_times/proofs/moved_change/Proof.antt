@@ -4,8 +4,8 @@ use borrow.Author.Rules.{rules}
 use Rattle.taf_times.proofs.moved_change.Statement.{statement}
 use Rattle.taf_times.proofs.moved_change.Tie as tie
 
-pub moved-change-spec : {M : Type 1} → statement M
-moved-change-spec =
+pub moved_change_spec : {M : Type 1} → statement M
+moved_change_spec =
     tie.close
     (tie.spec
     (λ c κs. search rules)

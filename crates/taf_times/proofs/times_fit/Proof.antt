@@ -1,15 +1,15 @@
 -- `taf_times::times_fit` meets its contract: part by part.
 -- Assumes nothing.
 use borrow.Author.Rules.{rules}
-use Rattle.taf_times.specs.Move.{timesFit}
+use Rattle.taf_times.specs.Move.{times_fit}
 use Rattle.taf_times.proofs.times_fit.Statement.{statement}
 use Rattle.taf_times.proofs.times_fit.Tie as tie
 
-pub times-fit-spec : {M : Type 1} → statement M
-times-fit-spec =
+pub times_fit_spec : {M : Type 1} → statement M
+times_fit_spec =
     tie.close
     (tie.spec
     (λ c κs. search rules)
     (λ c κs. search rules)
     (λ c κs. search rules)
-    (λ c. unfold timesFit in rw (c.before.whole-fits.ensures, c.before.before.changes-fit.ensures, c.before.before.before.period-span.ensures.0)))
+    (λ c. unfold times_fit in rw (c.before.whole-fits.ensures, c.before.before.changes-fit.ensures, c.before.before.before.period-span.ensures.0)))

@@ -18,8 +18,8 @@ Inv text run fine₀ i₀ fine i = every (passes run) text ≡ (fine && every (p
 abbrev μ : tie.decreases-loop
 μ text run fine₀ i₀ fine i = length text - i
 
-pub are-all-spec : {M : Type 1} → statement M
-are-all-spec =
+pub are_all_spec : {M : Type 1} → statement M
+are_all_spec =
     tie.close
     (tie.spec Inv μ
     (λ c. refl)

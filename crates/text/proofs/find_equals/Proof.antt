@@ -9,14 +9,14 @@ use borrow.Author.Rules.{rules}
 use borrow.Author.Tests.{eq-eqb}
 use lib.Seq.{length-take-le}
 use Rattle.text.specs.Bytes.{other}
-use Rattle.text.specs.Text.{equalsAt}
+use Rattle.text.specs.Text.{equals_at}
 use Rattle.text.proofs.Leads.{lead-before, last-le}
 use Rattle.text.proofs.find_equals.Statement.{statement}
 use Rattle.text.proofs.find_equals.Tie as tie
 
-pub find-equals-spec : {M : Type 1} → statement M
-unfolding equalsAt
-find-equals-spec =
+pub find_equals_spec : {M : Type 1} → statement M
+unfolding equals_at
+find_equals_spec =
     tie.close
     (tie.spec
     (λ c κs. search rules) (λ c. search rules)

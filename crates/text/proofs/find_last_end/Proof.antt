@@ -15,8 +15,8 @@ invariant-loop text end₀ end = (end ≤ length text) × (last_end (take end te
 abbrev decreases-loop : tie.decreases-loop
 decreases-loop text end₀ end = end
 
-pub find-last-end-spec : {M : Type 1} → statement M
-find-last-end-spec =
+pub find_last_end_spec : {M : Type 1} → statement M
+find_last_end_spec =
     tie.close
     (tie.spec
     invariant-loop

@@ -10,8 +10,8 @@ use Rattle.text.proofs.Texts.{bytes-none, bytes-long, bytes-bad, bytes-sound}
 use Rattle.text.proofs.judge_bytes.Statement.{statement}
 use Rattle.text.proofs.judge_bytes.Tie as tie
 
-pub judge-bytes-spec : {M : Type 1} → statement M
-judge-bytes-spec =
+pub judge_bytes_spec : {M : Type 1} → statement M
+judge_bytes_spec =
     tie.close
     (tie.spec
     (λ c. sym (bytes-none c.before.before.args.text.now c.if1.true))

@@ -7,8 +7,8 @@ use Rattle.text.proofs.Groups.{next_past, next-end, next-stop, next-group}
 use Rattle.text.proofs.next_group.Statement.{statement}
 use Rattle.text.proofs.next_group.Tie as tie
 
-pub next-group-spec : {M : Type 1} → statement M
-next-group-spec =
+pub next_group_spec : {M : Type 1} → statement M
+next_group_spec =
     tie.close
     (tie.spec
     (λ c. sym (next_past c.before.before.args.text.now _ c.if1.true))

@@ -7,8 +7,8 @@ use Rattle.text.proofs.Parts.{cut_at}
 use Rattle.text.proofs.no_part.Statement.{statement}
 use Rattle.text.proofs.no_part.Tie as tie
 
-pub no-part-spec : {M : Type 1} → statement M
-no-part-spec =
+pub no_part_spec : {M : Type 1} → statement M
+no_part_spec =
     tie.close
     (tie.spec
     (λ c. search rules) (λ c. search rules) (λ c. search rules)

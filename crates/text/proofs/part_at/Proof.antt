@@ -8,8 +8,8 @@ use Rattle.text.proofs.Parts.{ends-early, ends-late, cut_at, no-part-at}
 use Rattle.text.proofs.part_at.Statement.{statement}
 use Rattle.text.proofs.part_at.Tie as tie
 
-pub part-at-spec : {M : Type 1} → statement M
-part-at-spec =
+pub part_at_spec : {M : Type 1} → statement M
+part_at_spec =
     tie.close
     (tie.spec
     (λ c. search rules) (λ c. search rules)

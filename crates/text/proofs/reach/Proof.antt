@@ -16,8 +16,8 @@ invariant-loop text at run i₀ i = at + lead (passes run) (drop at text) ≡ i 
 abbrev decreases-loop : tie.decreases-loop
 decreases-loop text at run i₀ i = length text - i
 
-pub reach-spec : {M : Type 1} → statement M
-reach-spec =
+pub reach_spec : {M : Type 1} → statement M
+reach_spec =
     tie.close
     (tie.spec
     invariant-loop

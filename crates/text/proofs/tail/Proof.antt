@@ -1,4 +1,4 @@
--- `text::tail` meets its contract: each return is one of the cases of `tailOf`.
+-- `text::tail` meets its contract: each return is one of the cases of `tail_of`.
 -- Assumes nothing.
 use mathlib.Core.Path.{sym}
 use borrow.Author.Rules.{rules}
@@ -6,8 +6,8 @@ use Rattle.text.proofs.Texts.{tail_none, tail-junk, tail-clear}
 use Rattle.text.proofs.tail.Statement.{statement}
 use Rattle.text.proofs.tail.Tie as tie
 
-pub tail-spec : {M : Type 1} → statement M
-tail-spec =
+pub tail_spec : {M : Type 1} → statement M
+tail_spec =
     tie.close
     (tie.spec
     (λ c κs. search rules)

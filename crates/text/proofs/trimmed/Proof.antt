@@ -1,4 +1,4 @@
--- `text::trimmed` meets its contract: each return is the part from `trimmedStart` up to `trimmedEnd`, by its cases.
+-- `text::trimmed` meets its contract: each return is the part from `trimmed_start` up to `trimmed_end`, by its cases.
 -- Assumes nothing.
 use mathlib.Core.Path.{◌∙◌}
 use native.Mathlib.Nat.{zero-add}
@@ -7,8 +7,8 @@ use Rattle.text.proofs.Texts.{trimmed-none, trimmed-start, trimmed-equals, trimm
 use Rattle.text.proofs.trimmed.Statement.{statement}
 use Rattle.text.proofs.trimmed.Tie as tie
 
-pub trimmed-spec : {M : Type 1} → statement M
-trimmed-spec =
+pub trimmed_spec : {M : Type 1} → statement M
+trimmed_spec =
     tie.close
     (tie.spec
     (λ c κs. search rules) (λ c κs. search rules) (λ c κs. search rules)

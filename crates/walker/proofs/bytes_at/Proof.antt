@@ -4,8 +4,8 @@ use borrow.Author.Rules.{rules}
 use Rattle.walker.proofs.bytes_at.Statement.{statement}
 use Rattle.walker.proofs.bytes_at.Tie as tie
 
-pub bytes-at-spec : {M : Type 1} → statement M
-bytes-at-spec =
+pub bytes_at_spec : {M : Type 1} → statement M
+bytes_at_spec =
     tie.close
     (tie.spec
     (λ c. search rules) (λ c κs. search rules) (λ c. search rules) (λ c κs. search rules)

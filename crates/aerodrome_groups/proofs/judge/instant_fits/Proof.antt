@@ -3,8 +3,8 @@
 use Rattle.aerodrome_groups.proofs.judge.instant_fits.Statement.{statement}
 use Rattle.aerodrome_groups.proofs.judge.instant_fits.Tie as tie
 
-pub instant-fits-spec : {M : Type 1} → statement M
-instant-fits-spec =
+pub instant_fits_spec : {M : Type 1} → statement M
+instant_fits_spec =
     tie.close
     (tie.spec
     (λ c κs. tt) (λ c κs. tt) (λ c κs. tt)

@@ -1,18 +1,18 @@
 -- `judge::judge_station` meets its contract: the four bytes are letters.
 -- Assumes nothing.
 use borrow.Author.Rules.{rules}
-use Rattle.aerodrome_groups.specs.Head.{judgeStation}
+use Rattle.aerodrome_groups.specs.Head.{judge_station}
 use Rattle.aerodrome_groups.proofs.Judgings.{four-letters}
 use Rattle.aerodrome_groups.proofs.judge.judge_station.Statement.{statement}
 use Rattle.aerodrome_groups.proofs.judge.judge_station.Tie as tie
 
-pub judge-station-spec : {M : Type 1} → statement M
-judge-station-spec =
+pub judge_station_spec : {M : Type 1} → statement M
+judge_station_spec =
     tie.close
     (tie.spec
     (λ c. search rules) (λ c κs. tt) (λ c. search rules) (λ c κs. tt) (λ c. search rules) (λ c κs. tt) (λ c. search rules) (λ c κs. tt)
     (λ c κs. tt)
     (λ c.
-    unfold judgeStation in
+    unfold judge_station in
     rw (← four-letters c.before.before.before.before.before.before.args.s.letters (search rules))
     (rw (c.judge.ensures, c.before.before.before.before.is-letter.ensures, c.before.before.before.is-letter2.ensures, c.before.before.is-letter3.ensures, c.before.is-letter4.ensures))))

@@ -3,8 +3,8 @@
 use Rattle.aerodrome_groups.proofs.judge.runway_fits.Statement.{statement}
 use Rattle.aerodrome_groups.proofs.judge.runway_fits.Tie as tie
 
-pub runway-fits-spec : {M : Type 1} → statement M
-runway-fits-spec =
+pub runway_fits_spec : {M : Type 1} → statement M
+runway_fits_spec =
     tie.close
     (tie.spec
     (λ c κs. tt) (λ c κs. tt)

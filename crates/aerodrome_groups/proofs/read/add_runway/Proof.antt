@@ -5,8 +5,8 @@ use borrow.Author.Tests.{lt-ltb, le-ltb}
 use Rattle.aerodrome_groups.proofs.read.add_runway.Statement.{statement}
 use Rattle.aerodrome_groups.proofs.read.add_runway.Tie as tie
 
-pub add-runway-spec : {M : Type 1} → statement M
-add-runway-spec =
+pub add_runway_spec : {M : Type 1} → statement M
+add_runway_spec =
     tie.close
     (tie.spec
     (λ c. search rules) (λ c. search rules) (λ c. search rules)

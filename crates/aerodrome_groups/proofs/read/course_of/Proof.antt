@@ -1,11 +1,11 @@
--- `read::course_of` meets its contract: the arms are the cases of `courseOf`.
+-- `read::course_of` meets its contract: the arms are the cases of `course_of`.
 -- Assumes nothing.
 use borrow.Author.Tests.{ne_eqb}
 use Rattle.aerodrome_groups.proofs.read.course_of.Statement.{statement}
 use Rattle.aerodrome_groups.proofs.read.course_of.Tie as tie
 
-pub course-of-spec : {M : Type 1} → statement M
-course-of-spec =
+pub course_of_spec : {M : Type 1} → statement M
+course_of_spec =
     tie.close
     (tie.spec
     (λ c. rw c.match.keys1)

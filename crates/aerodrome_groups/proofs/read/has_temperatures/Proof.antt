@@ -3,10 +3,10 @@
 use borrow.Author.Rules.{rules}
 use mathlib.Core.Path.{ap}
 use Rattle.shapes.specs.declared.kinds.Scan.{Scan}
-use Rattle.shapes.specs.Shape.{hasShape}
+use Rattle.shapes.specs.Shape.{has_shape}
 use Rattle.aerodrome_groups.proofs.read.has_temperatures.Statement.{statement}
 use Rattle.aerodrome_groups.proofs.read.has_temperatures.Tie as tie
 
-pub has-temperatures-spec : {M : Type 1} → statement M
-unfolding hasShape
-has-temperatures-spec = tie.close (tie.spec (λ c κs. search rules) (λ c. ap (λ (s : Scan). s.fits) c.scan-temperatures.ensures))
+pub has_temperatures_spec : {M : Type 1} → statement M
+unfolding has_shape
+has_temperatures_spec = tie.close (tie.spec (λ c κs. search rules) (λ c. ap (λ (s : Scan). s.fits) c.scan-temperatures.ensures))

@@ -4,8 +4,8 @@ use borrow.Author.Tests.{ne_eqb}
 use Rattle.aerodrome_groups.proofs.read.range_of.Statement.{statement}
 use Rattle.aerodrome_groups.proofs.read.range_of.Tie as tie
 
-pub range-of-spec : {M : Type 1} → statement M
-range-of-spec =
+pub range_of_spec : {M : Type 1} → statement M
+range_of_spec =
     tie.close
     (tie.spec
     (λ c. rw c.match.keys1)

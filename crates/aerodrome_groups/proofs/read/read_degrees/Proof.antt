@@ -5,8 +5,8 @@ use Rattle.aerodrome_groups.proofs.Readings.{same_bits}
 use Rattle.aerodrome_groups.proofs.read.read_degrees.Statement.{statement}
 use Rattle.aerodrome_groups.proofs.read.read_degrees.Tie as tie
 
-pub read-degrees-spec : {M : Type 1} → statement M
-read-degrees-spec =
+pub read_degrees_spec : {M : Type 1} → statement M
+read_degrees_spec =
     tie.close
     (tie.spec
     (λ c. search rules) (λ c κs. tt) (λ c. search rules) (λ c. search rules) (λ c. search rules) (λ c. search rules) (λ c. search rules)

@@ -1,13 +1,13 @@
 -- `read::read_qnh` meets its contract, case by case.
 -- Assumes nothing.
 use borrow.Author.Rules.{rules}
-use Rattle.aerodrome_groups.specs.Temperatures.{readQnh}
+use Rattle.aerodrome_groups.specs.Temperatures.{read_qnh}
 use Rattle.aerodrome_groups.proofs.read.read_qnh.Statement.{statement}
 use Rattle.aerodrome_groups.proofs.read.read_qnh.Tie as tie
 
-pub read-qnh-spec : {M : Type 1} → statement M
-unfolding readQnh
-read-qnh-spec =
+pub read_qnh_spec : {M : Type 1} → statement M
+unfolding read_qnh
+read_qnh_spec =
     tie.close
     (tie.spec
     (λ c κs. tt) (λ c. search rules) (λ c κs. tt) (λ c. search rules) (λ c. search rules) (λ c. search rules) (λ c. search rules) (λ c. search rules)

@@ -5,8 +5,8 @@ use borrow.Author.Tests.{ne_eqb}
 use Rattle.aerodrome_groups.proofs.read.read_range.Statement.{statement}
 use Rattle.aerodrome_groups.proofs.read.read_range.Tie as tie
 
-pub read-range-spec : {M : Type 1} → statement M
-read-range-spec =
+pub read_range_spec : {M : Type 1} → statement M
+read_range_spec =
     tie.close
     (tie.spec
     (λ c. search rules) (λ c κs. tt) (λ c κs. search rules) (λ c. search rules) (λ c. search rules) (λ c. search rules) (λ c. search rules) (λ c. search rules)

@@ -6,17 +6,17 @@ use native.Mathlib.Omega.{arith}
 use lib.ListN.{get_or}
 use borrow.Author.Rules.{rules}
 use Rattle.elements.specs.Parts.{value_at}
-use Rattle.aerodrome_groups.specs.Runway.{runwayShape, readRunway}
-use Rattle.aerodrome_groups.proofs.Readings.{zeroValue, scanned}
+use Rattle.aerodrome_groups.specs.Runway.{runway_shape, read_runway}
+use Rattle.aerodrome_groups.proofs.Readings.{zero_value, scanned}
 use Rattle.aerodrome_groups.proofs.read.read_runway.Statement.{statement}
 use Rattle.aerodrome_groups.proofs.read.read_runway.Tie as tie
 
-value : (c : tie.After-scan-runway) (i : ℕ) → i < 8 → get_or c.scan-runway.result.values i zeroValue ≡ value_at runwayShape c.before.before.args.g.now i
-value c i h = scanned runwayShape c.before.before.args.g.now c.scan-runway.result c.scan-runway.ensures i h
+value : (c : tie.After-scan-runway) (i : ℕ) → i < 8 → get_or c.scan-runway.result.values i zero_value ≡ value_at runway_shape c.before.before.args.g.now i
+value c i h = scanned runway_shape c.before.before.args.g.now c.scan-runway.result c.scan-runway.ensures i h
 
-pub read-runway-spec : {M : Type 1} → statement M
-unfolding readRunway
-read-runway-spec =
+pub read_runway_spec : {M : Type 1} → statement M
+unfolding read_runway
+read_runway_spec =
     tie.close
     (tie.spec
     (λ c κs. tt) (λ c. search rules) (λ c. search rules) (λ c. search rules) (λ c. search rules) (λ c. search rules) (λ c κs. search rules)

@@ -6,17 +6,17 @@ use native.Mathlib.Omega.{arith}
 use lib.ListN.{get_or}
 use borrow.Author.Rules.{rules}
 use Rattle.elements.specs.Parts.{value_at}
-use Rattle.aerodrome_groups.specs.Temperatures.{temperaturesShape, readTemperatures}
-use Rattle.aerodrome_groups.proofs.Readings.{zeroValue, scanned}
+use Rattle.aerodrome_groups.specs.Temperatures.{temperatures_shape, read_temperatures}
+use Rattle.aerodrome_groups.proofs.Readings.{zero_value, scanned}
 use Rattle.aerodrome_groups.proofs.read.read_temperatures.Statement.{statement}
 use Rattle.aerodrome_groups.proofs.read.read_temperatures.Tie as tie
 
-value : (c : tie.After-scan-temperatures) (i : ℕ) → i < 8 → get_or c.scan-temperatures.result.values i zeroValue ≡ value_at temperaturesShape c.before.before.args.g.now i
-value c i h = scanned temperaturesShape c.before.before.args.g.now c.scan-temperatures.result c.scan-temperatures.ensures i h
+value : (c : tie.After-scan-temperatures) (i : ℕ) → i < 8 → get_or c.scan-temperatures.result.values i zero_value ≡ value_at temperatures_shape c.before.before.args.g.now i
+value c i h = scanned temperatures_shape c.before.before.args.g.now c.scan-temperatures.result c.scan-temperatures.ensures i h
 
-pub read-temperatures-spec : {M : Type 1} → statement M
-unfolding readTemperatures
-read-temperatures-spec =
+pub read_temperatures_spec : {M : Type 1} → statement M
+unfolding read_temperatures
+read_temperatures_spec =
     tie.close
     (tie.spec
     (λ c κs. tt) (λ c. search rules) (λ c. search rules) (λ c. search rules) (λ c. search rules) (λ c κs. search rules)

@@ -4,12 +4,12 @@ use borrow.Author.Rules.{rules}
 use mathlib.Core.Path.{refl}
 use Rattle.shapes.specs.Shape.{leading, split, parts_of}
 use Rattle.shapes.proofs.Scans.{no_step, nothing-step, word-step, figures-step, scan-by-steps, end, ◌then◌}
-use Rattle.aerodrome_groups.specs.Runway.{runwayShape}
+use Rattle.aerodrome_groups.specs.Runway.{runway_shape}
 use Rattle.aerodrome_groups.proofs.read.scan_runway.Statement.{statement}
 use Rattle.aerodrome_groups.proofs.read.scan_runway.Tie as tie
 
-pub scan-runway-spec : {M : Type 1} → statement M
-scan-runway-spec =
+pub scan_runway_spec : {M : Type 1} → statement M
+scan_runway_spec =
     tie.close
     (tie.spec
     (λ c κs. search rules) (λ c. search rules) (λ c κs. search rules) (λ c κs. search rules) (λ c. search rules) (λ c κs. search rules)
@@ -36,7 +36,7 @@ scan-runway-spec =
     let g = none.before.before.args.g.now in
     rw c.scanned.ensures
     (unfold leading split parts_of in
-    scan-by-steps runwayShape g refl
+    scan-by-steps runway_shape g refl
     (figures-step (no_step none.absent.ensures) 1 2 refl refl number.figures-or.ensures
     then word-step (word-step (word-step (nothing-step no-side.nothing.ensures) refl right.word-or.ensures) refl centre.word-or2.ensures) refl side.word-or3.ensures
     then word-step (no_step none.absent.ensures) refl stroke.word-or4.ensures

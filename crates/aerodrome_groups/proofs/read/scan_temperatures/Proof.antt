@@ -4,12 +4,12 @@ use borrow.Author.Rules.{rules}
 use mathlib.Core.Path.{refl}
 use Rattle.shapes.specs.Shape.{leading, split, parts_of}
 use Rattle.shapes.proofs.Scans.{no_step, nothing-step, word-step, figures-step, scan-by-steps, end, ◌then◌}
-use Rattle.aerodrome_groups.specs.Temperatures.{temperaturesShape}
+use Rattle.aerodrome_groups.specs.Temperatures.{temperatures_shape}
 use Rattle.aerodrome_groups.proofs.read.scan_temperatures.Statement.{statement}
 use Rattle.aerodrome_groups.proofs.read.scan_temperatures.Tie as tie
 
-pub scan-temperatures-spec : {M : Type 1} → statement M
-scan-temperatures-spec =
+pub scan_temperatures_spec : {M : Type 1} → statement M
+scan_temperatures_spec =
     tie.close
     (tie.spec
     (λ c κs. search rules) (λ c κs. search rules) (λ c. search rules) (λ c κs. search rules) (λ c. search rules) (λ c κs. search rules)
@@ -27,7 +27,7 @@ scan-temperatures-spec =
     let g = none.before.before.args.g.now in
     rw (c.scanned.ensures, none.absent.ensures)
     (unfold leading split parts_of in
-    scan-by-steps temperaturesShape g refl
+    scan-by-steps temperatures_shape g refl
     (word-step (nothing-step air-plus.nothing.ensures) refl air-sign.word-or.ensures
     then figures-step (no_step none.absent.ensures) 0 2 refl refl air.figures-or.ensures
     then word-step (no_step none.absent.ensures) refl stroke.word-or2.ensures

@@ -4,8 +4,8 @@ use borrow.Author.Tests.{ne_eqb}
 use Rattle.aerodrome_groups.proofs.read.side_of.Statement.{statement}
 use Rattle.aerodrome_groups.proofs.read.side_of.Tie as tie
 
-pub side-of-spec : {M : Type 1} → statement M
-side-of-spec =
+pub side_of_spec : {M : Type 1} → statement M
+side_of_spec =
     tie.close
     (tie.spec
     (λ c. rw c.match.keys1)

@@ -2,20 +2,20 @@
 -- Assumes nothing.
 use mathlib.Core.Path.{sym, ◌∙◌}
 use borrow.Author.Rules.{rules}
-use Rattle.aerodrome_groups.specs.Temperatures.{readDegrees}
+use Rattle.aerodrome_groups.specs.Temperatures.{read_degrees}
 use Rattle.aerodrome_groups.proofs.Readings.{degrees-good, degrees-bad}
 use Rattle.aerodrome_groups.proofs.read.temperatures_by.Statement.{statement}
 use Rattle.aerodrome_groups.proofs.read.temperatures_by.Tie as tie
 
-pub temperatures-by-spec : {M : Type 1} → statement M
-temperatures-by-spec =
+pub temperatures_by_spec : {M : Type 1} → statement M
+temperatures_by_spec =
     tie.close
     (tie.spec
     (λ c κs. search rules) (λ c. search rules) (λ c κs. search rules) (λ c. search rules) (λ c. search rules) (λ c. search rules)
     (λ c.
     let a = c.before.before.before.before.before.before.before.before.args in
-    rw (degrees-good (readDegrees a.m a.a) (sym c.before.before.before.before.before.x.given.1 ∙ c.before.before.before.before.before.before.before.read-degrees.ensures), degrees-good (readDegrees a.n a.b) (sym c.before.y.given.1 ∙ c.before.before.before.read-degrees2.ensures)))
+    rw (degrees-good (read_degrees a.m a.a) (sym c.before.before.before.before.before.x.given.1 ∙ c.before.before.before.before.before.before.before.read-degrees.ensures), degrees-good (read_degrees a.n a.b) (sym c.before.y.given.1 ∙ c.before.before.before.read-degrees2.ensures)))
     (λ c.
     let a = c.before.before.before.before.before.before.before.before.args in
-    rw (degrees-good (readDegrees a.m a.a) (sym c.before.before.before.before.before.x.given.1 ∙ c.before.before.before.before.before.before.before.read-degrees.ensures), degrees-bad (readDegrees a.n a.b) (sym c.before.y2.given.1 ∙ c.before.before.before.read-degrees2.ensures)))
-    (λ c. let a = c.before.before.before.before.args in rw (degrees-bad (readDegrees a.m a.a) (sym c.before.x2.given.1 ∙ c.before.before.before.read-degrees.ensures))))
+    rw (degrees-good (read_degrees a.m a.a) (sym c.before.before.before.before.before.x.given.1 ∙ c.before.before.before.before.before.before.before.read-degrees.ensures), degrees-bad (read_degrees a.n a.b) (sym c.before.y2.given.1 ∙ c.before.before.before.read-degrees2.ensures)))
+    (λ c. let a = c.before.before.before.before.args in rw (degrees-bad (read_degrees a.m a.a) (sym c.before.x2.given.1 ∙ c.before.before.before.read-degrees.ensures))))

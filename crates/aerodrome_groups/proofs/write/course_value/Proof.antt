@@ -4,8 +4,8 @@ use borrow.Author.Rules.{rules}
 use Rattle.aerodrome_groups.proofs.write.course_value.Statement.{statement}
 use Rattle.aerodrome_groups.proofs.write.course_value.Tie as tie
 
-pub course-value-spec : {M : Type 1} → statement M
-course-value-spec =
+pub course_value_spec : {M : Type 1} → statement M
+course_value_spec =
     tie.close
     (tie.spec
     (λ c. search rules) (λ c κs. tt) (λ c. search rules) (λ c κs. tt) (λ c. search rules) (λ c κs. tt) (λ c. search rules) (λ c κs. tt)

@@ -4,5 +4,5 @@ use borrow.Author.Rules.{rules}
 use Rattle.aerodrome_groups.proofs.write.field_of.Statement.{statement}
 use Rattle.aerodrome_groups.proofs.write.field_of.Tie as tie
 
-pub field-of-spec : {M : Type 1} → statement M
-field-of-spec = tie.close (tie.spec (λ c. search rules) (λ c. search rules) (λ c. search rules) (λ c. rw c.before.n.given.1))
+pub field_of_spec : {M : Type 1} → statement M
+field_of_spec = tie.close (tie.spec (λ c. search rules) (λ c. search rules) (λ c. search rules) (λ c. rw c.before.n.given.1))

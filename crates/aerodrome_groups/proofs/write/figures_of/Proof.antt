@@ -4,8 +4,8 @@ use borrow.Author.Rules.{rules}
 use Rattle.aerodrome_groups.proofs.write.figures_of.Statement.{statement}
 use Rattle.aerodrome_groups.proofs.write.figures_of.Tie as tie
 
-pub figures-of-spec : {M : Type 1} → statement M
-figures-of-spec =
+pub figures_of_spec : {M : Type 1} → statement M
+figures_of_spec =
     tie.close
     (tie.spec
     (λ c. search rules) (λ c κs. search rules) (λ c. search rules) (λ c κs. search rules) (λ c. search rules) (λ c κs. search rules)

@@ -4,8 +4,8 @@ use borrow.Author.Rules.{rules}
 use Rattle.aerodrome_groups.proofs.write.mark_value.Statement.{statement}
 use Rattle.aerodrome_groups.proofs.write.mark_value.Tie as tie
 
-pub mark-value-spec : {M : Type 1} → statement M
-mark-value-spec =
+pub mark_value_spec : {M : Type 1} → statement M
+mark_value_spec =
     tie.close
     (tie.spec
     (λ c. search rules) (λ c κs. tt) (λ c. search rules) (λ c κs. tt) (λ c κs. search rules)

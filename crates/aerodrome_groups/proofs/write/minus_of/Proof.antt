@@ -5,8 +5,8 @@ use Rattle.aerodrome_groups.proofs.Readings.{same_bits}
 use Rattle.aerodrome_groups.proofs.write.minus_of.Statement.{statement}
 use Rattle.aerodrome_groups.proofs.write.minus_of.Tie as tie
 
-pub minus-of-spec : {M : Type 1} → statement M
-minus-of-spec =
+pub minus_of_spec : {M : Type 1} → statement M
+minus_of_spec =
     tie.close
     (tie.spec
     (λ c. search rules) (λ c κs. tt) (λ c. search rules) (λ c κs. search rules) (λ c. search rules) (λ c κs. tt) (λ c κs. tt) (λ c. search rules) (λ c κs. tt)

@@ -4,8 +4,8 @@ use borrow.Author.Rules.{rules}
 use Rattle.aerodrome_groups.proofs.write.pressure_field.Statement.{statement}
 use Rattle.aerodrome_groups.proofs.write.pressure_field.Tie as tie
 
-pub pressure-field-spec : {M : Type 1} → statement M
-pressure-field-spec =
+pub pressure_field_spec : {M : Type 1} → statement M
+pressure_field_spec =
     tie.close
     (tie.spec
     (λ c. search rules) (λ c. search rules) (λ c κs. search rules) (λ c. search rules) (λ c. search rules) (λ c. search rules)

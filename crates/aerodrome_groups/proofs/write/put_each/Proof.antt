@@ -11,14 +11,14 @@ use Rattle.figures.proofs.Puts.{put-none, length-put}
 use Rattle.text.specs.Groups.{written}
 use Rattle.places.proofs.Delivered.{one_more}
 use Rattle.record.specs.declared.aerodrome.Runway.{Runway}
-use Rattle.record.specs.Observation.{blankRunway}
+use Rattle.record.specs.Observation.{blank_runway}
 use Rattle.record.proofs.Counted.{take-most}
-use Rattle.aerodrome_groups.specs.Runway.{showRunway}
+use Rattle.aerodrome_groups.specs.Runway.{show_runway}
 use Rattle.aerodrome_groups.proofs.write.put_each.Statement.{statement}
 use Rattle.aerodrome_groups.proofs.write.put_each.Tie as tie
 
 abbrev Inv : tie.invariant-loop
-Inv out₀ at count items end next₀ i₀ out next i = (i ≤ end) × (end ≡ min count 4) × Put out₀ at (written at (map showRunway (take i items))) next out
+Inv out₀ at count items end next₀ i₀ out next i = (i ≤ end) × (end ≡ min count 4) × Put out₀ at (written at (map show_runway (take i items))) next out
 
 abbrev μ : tie.decreases-loop
 μ out₀ at count items end next₀ i₀ out next i = end - i
@@ -27,8 +27,8 @@ abbrev μ : tie.decreases-loop
 four : (c : tie.Start Inv μ) → length c.args.t3 ≡ 4
 four c = search rules
 
-pub put-each-spec : {M : Type 1} → statement M
-put-each-spec =
+pub put_each_spec : {M : Type 1} → statement M
+put_each_spec =
     tie.close
     (tie.spec Inv μ
     (λ c κs. tt)
@@ -37,7 +37,7 @@ put-each-spec =
     (λ c. (
       omega arith,
       c.before.before.before.before.before.before.before.at-most-four.ensures,
-      one_more (λ (w : Runway). showRunway w ∷ []) (map showRunway) refl (λ w ws. refl) c.before.before.before.before.before.before.before.before.before.args.t3 c.before.before.before.before.before.before.loop.i blankRunway (omega (arith, four c.before.before.before.before.before.before.before.before.before)) c.before.before.before.before.before.before.loop.invariant.2 c.before.before.put-runway.ensures,
+      one_more (λ (w : Runway). show_runway w ∷ []) (map show_runway) refl (λ w ws. refl) c.before.before.before.before.before.before.before.before.before.args.t3 c.before.before.before.before.before.before.loop.i blank_runway (omega (arith, four c.before.before.before.before.before.before.before.before.before)) c.before.before.before.before.before.before.loop.invariant.2 c.before.before.put-runway.ensures,
     ))
     (λ c. length-put c.before.loop.invariant.2)
     (λ c.

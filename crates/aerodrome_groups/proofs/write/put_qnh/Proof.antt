@@ -3,16 +3,16 @@
 use borrow.Author.Rules.{rules}
 use Rattle.figures.proofs.Puts.{then}
 use Rattle.text.proofs.Writes.{write-group}
-use Rattle.aerodrome_groups.specs.Temperatures.{showQnh}
+use Rattle.aerodrome_groups.specs.Temperatures.{show_qnh}
 use Rattle.aerodrome_groups.proofs.write.put_qnh.Statement.{statement}
 use Rattle.aerodrome_groups.proofs.write.put_qnh.Tie as tie
 
-pub put-qnh-spec : {M : Type 1} → statement M
-put-qnh-spec =
+pub put_qnh_spec : {M : Type 1} → statement M
+put_qnh_spec =
     tie.close
     (tie.spec
     (λ c κs. tt) (λ c. search rules) (λ c κs. tt) (λ c κs. tt) (λ c κs. search rules) (λ c. search rules)
     (λ c.
-    unfold showQnh in
+    unfold show_qnh in
     rw (← c.before.before.before.pressure-field.ensures)
     (write-group c.before.before.before.before.before.before.before.before.before.before.before.before.open-group.ensures (then c.before.before.before.before.before.before.before.put-text.ensures c.before.before.put-field.ensures))))

@@ -2,13 +2,13 @@
 -- Assumes nothing.
 use borrow.Author.Rules.{rules}
 use Rattle.text.proofs.Writes.{write-group}
-use Rattle.aerodrome_groups.specs.Temperatures.{showTemperatures}
+use Rattle.aerodrome_groups.specs.Temperatures.{show_temperatures}
 use Rattle.aerodrome_groups.proofs.Writings.{temperatures-text, two-values}
 use Rattle.aerodrome_groups.proofs.write.put_temperatures.Statement.{statement}
 use Rattle.aerodrome_groups.proofs.write.put_temperatures.Tie as tie
 
-pub put-temperatures-spec : {M : Type 1} → statement M
-put-temperatures-spec =
+pub put_temperatures_spec : {M : Type 1} → statement M
+put_temperatures_spec =
     tie.close
     (tie.spec
     (λ c κs. tt) (λ c κs. search rules) (λ c κs. search rules) (λ c κs. search rules) (λ c κs. search rules) (λ c κs. tt)
@@ -16,6 +16,6 @@ put-temperatures-spec =
     (λ c.
     let told = c.before.before.before.before.before.before.before.before.before in
     let t = told.before.before.before.before.before.before.args.t in
-    unfold showTemperatures in
+    unfold show_temperatures in
     rw (two-values t.air, two-values t.dew, ← told.before.before.before.before.chosen.ensures, ← told.before.before.before.minus-of.ensures, ← told.before.before.whole_of.ensures, ← told.before.minus-of2.ensures, ← told.whole-of2.ensures)
     (write-group c.before.before.before.before.before.before.before.open-group.ensures (rw temperatures-text at c.before.before.put-shape.ensures))))

@@ -3,12 +3,12 @@
 use borrow.Author.Rules.{rules}
 use Rattle.figures.proofs.Puts.{then}
 use Rattle.text.proofs.Writes.{write-group}
-use Rattle.aerodrome_groups.specs.Head.{showTime}
+use Rattle.aerodrome_groups.specs.Head.{show_time}
 use Rattle.aerodrome_groups.proofs.write.put_time.Statement.{statement}
 use Rattle.aerodrome_groups.proofs.write.put_time.Tie as tie
 
-pub put-time-spec : {M : Type 1} → statement M
-put-time-spec =
+pub put_time_spec : {M : Type 1} → statement M
+put_time_spec =
     tie.close
     (tie.spec
     (λ c κs. tt) (λ c κs. tt) (λ c κs. tt) (λ c κs. tt) (λ c κs. tt) (λ c. search rules)
@@ -18,6 +18,6 @@ put-time-spec =
     let second = third.before.before.before.before in
     let first = second.before.before.before.before in
     let opened = first.before.before.before.before in
-    unfold showTime in
+    unfold show_time in
     write-group opened.open-group.ensures
     (then (then (then first.put_two.ensures second.put-two2.ensures) third.put-two3.ensures) last.put_byte.ensures)))

@@ -8,8 +8,8 @@ use Rattle.aerodrome_groups.proofs.Writings.{last-class}
 use Rattle.aerodrome_groups.proofs.write.range_figure.Statement.{statement}
 use Rattle.aerodrome_groups.proofs.write.range_figure.Tie as tie
 
-pub range-figure-spec : {M : Type 1} → statement M
-range-figure-spec =
+pub range_figure_spec : {M : Type 1} → statement M
+range_figure_spec =
     tie.close
     (tie.spec
     (λ c κs. tt) (λ c. search rules) (λ c. search rules)

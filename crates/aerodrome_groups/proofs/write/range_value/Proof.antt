@@ -4,8 +4,8 @@ use borrow.Author.Rules.{rules}
 use Rattle.aerodrome_groups.proofs.write.range_value.Statement.{statement}
 use Rattle.aerodrome_groups.proofs.write.range_value.Tie as tie
 
-pub range-value-spec : {M : Type 1} → statement M
-range-value-spec =
+pub range_value_spec : {M : Type 1} → statement M
+range_value_spec =
     tie.close
     (tie.spec
     (λ c. search rules) (λ c κs. search rules) (λ c. search rules) (λ c κs. tt) (λ c κs. search rules)

@@ -4,8 +4,8 @@ use borrow.Author.Rules.{rules}
 use Rattle.aerodrome_groups.proofs.write.side_value.Statement.{statement}
 use Rattle.aerodrome_groups.proofs.write.side_value.Tie as tie
 
-pub side-value-spec : {M : Type 1} → statement M
-side-value-spec =
+pub side_value_spec : {M : Type 1} → statement M
+side_value_spec =
     tie.close
     (tie.spec
     (λ c. search rules) (λ c κs. tt) (λ c. search rules) (λ c κs. tt) (λ c. search rules) (λ c κs. tt) (λ c. search rules) (λ c κs. tt)

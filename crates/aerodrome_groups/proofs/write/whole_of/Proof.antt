@@ -5,8 +5,8 @@ use Rattle.aerodrome_groups.proofs.Readings.{same_bits}
 use Rattle.aerodrome_groups.proofs.write.whole_of.Statement.{statement}
 use Rattle.aerodrome_groups.proofs.write.whole_of.Tie as tie
 
-pub whole-of-spec : {M : Type 1} → statement M
-whole-of-spec =
+pub whole_of_spec : {M : Type 1} → statement M
+whole_of_spec =
     tie.close
     (tie.spec
     (λ c. search rules) (λ c κs. search rules) (λ c. search rules) (λ c κs. search rules) (λ c. search rules) (λ c κs. search rules) (λ c. search rules) (λ c κs. tt)

@@ -23,8 +23,8 @@ inside c =
     let both = (and-eq-true_iff _ _).0 c.loop-test.true in
     (ltb-true _ _ both.0, ltb-true _ _ both.1)
 
-pub delgushar-heights-by-rule-spec : {M : Type 1} → statement M
-delgushar-heights-by-rule-spec =
+pub delgushar_heights_by_rule_spec : {M : Type 1} → statement M
+delgushar_heights_by_rule_spec =
     tie.close
     (tie.spec Inv μ
     (λ c. refl)

@@ -3,8 +3,8 @@
 use Rattle.body.proofs.judge.has_element.Statement.{statement}
 use Rattle.body.proofs.judge.has_element.Tie as tie
 
-pub has-element-spec : {M : Type 1} → statement M
-has-element-spec =
+pub has_element_spec : {M : Type 1} → statement M
+has_element_spec =
     tie.close
     (tie.spec
     (λ c κs. tt) (λ c κs. tt) (λ c κs. tt)

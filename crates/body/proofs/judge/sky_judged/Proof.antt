@@ -3,5 +3,5 @@
 use Rattle.body.proofs.judge.sky_judged.Statement.{statement}
 use Rattle.body.proofs.judge.sky_judged.Tie as tie
 
-pub sky-judged-spec : {M : Type 1} → statement M
-sky-judged-spec = tie.close (tie.spec (λ c κs. tt) (λ c κs. tt) (λ c required nsw automatic silent. rw (c.judge-sky.ensures, c.before.is-cavok.ensures)))
+pub sky_judged_spec : {M : Type 1} → statement M
+sky_judged_spec = tie.close (tie.spec (λ c κs. tt) (λ c κs. tt) (λ c required nsw automatic silent. rw (c.judge-sky.ensures, c.before.is-cavok.ensures)))

@@ -3,5 +3,5 @@
 use Rattle.body.proofs.judge.unless_absent.Statement.{statement}
 use Rattle.body.proofs.judge.unless_absent.Tie as tie
 
-pub unless-absent-spec : {M : Type 1} → statement M
-unless-absent-spec = tie.close (tie.spec (λ c. rw c.if1.true) (λ c. rw c.if1.false))
+pub unless_absent_spec : {M : Type 1} → statement M
+unless_absent_spec = tie.close (tie.spec (λ c. rw c.if1.true) (λ c. rw c.if1.false))

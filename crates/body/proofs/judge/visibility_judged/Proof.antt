@@ -3,8 +3,8 @@
 use Rattle.body.proofs.judge.visibility_judged.Statement.{statement}
 use Rattle.body.proofs.judge.visibility_judged.Tie as tie
 
-pub visibility-judged-spec : {M : Type 1} → statement M
-visibility-judged-spec =
+pub visibility_judged_spec : {M : Type 1} → statement M
+visibility_judged_spec =
     tie.close
     (tie.spec
     (λ c κs. tt) (λ c κs. tt) (λ c κs. tt)

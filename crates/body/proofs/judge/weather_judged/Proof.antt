@@ -3,8 +3,8 @@
 use Rattle.body.proofs.judge.weather_judged.Statement.{statement}
 use Rattle.body.proofs.judge.weather_judged.Tie as tie
 
-pub weather-judged-spec : {M : Type 1} → statement M
-weather-judged-spec =
+pub weather_judged_spec : {M : Type 1} → statement M
+weather_judged_spec =
     tie.close
     (tie.spec
     (λ c κs. tt) (λ c κs. tt) (λ c κs. tt) (λ c κs. tt)

@@ -3,8 +3,8 @@
 use Rattle.body.proofs.judge.wind_judged.Statement.{statement}
 use Rattle.body.proofs.judge.wind_judged.Tie as tie
 
-pub wind-judged-spec : {M : Type 1} → statement M
-wind-judged-spec =
+pub wind_judged_spec : {M : Type 1} → statement M
+wind_judged_spec =
     tie.close
     (tie.spec
     (λ c κs. tt) (λ c κs. tt) (λ c κs. tt)

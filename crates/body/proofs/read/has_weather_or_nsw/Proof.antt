@@ -4,8 +4,8 @@ use borrow.Author.Rules.{rules}
 use Rattle.body.proofs.read.has_weather_or_nsw.Statement.{statement}
 use Rattle.body.proofs.read.has_weather_or_nsw.Tie as tie
 
-pub has-weather-or-nsw-spec : {M : Type 1} → statement M
-has-weather-or-nsw-spec =
+pub has_weather_or_nsw_spec : {M : Type 1} → statement M
+has_weather_or_nsw_spec =
     tie.close
     (tie.spec
     (λ c. search rules) (λ c κs. search rules) (λ c κs. search rules)

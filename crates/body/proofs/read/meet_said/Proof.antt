@@ -2,15 +2,15 @@
 -- Assumes nothing.
 use borrow.Author.Rules.{rules}
 use mathlib.Core.Path.{sym, ap}
-use Rattle.body.specs.Met.{metAs}
+use Rattle.body.specs.Met.{met_as}
 use Rattle.body.proofs.Says.{not-refused}
 use Rattle.body.proofs.read.meet_said.Statement.{statement}
 use Rattle.body.proofs.read.meet_said.Tie as tie
 
-pub meet-said-spec : {M : Type 1} → statement M
-meet-said-spec =
+pub meet_said_spec : {M : Type 1} → statement M
+meet_said_spec =
     tie.close
     (tie.spec
     (λ c. search rules)
     (λ c. rw c.before.said.given.1)
-    (λ c. let a = c.before.args in ap (metAs a.start) (sym (not-refused _ a.said c.match.keys2))))
+    (λ c. let a = c.before.args in ap (met_as a.start) (sym (not-refused _ a.said c.match.keys2))))

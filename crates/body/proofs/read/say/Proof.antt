@@ -7,8 +7,8 @@ use Rattle.body.proofs.Says.{says-wind, says-visibility, says-sky, says_nothing}
 use Rattle.body.proofs.read.say.Statement.{statement}
 use Rattle.body.proofs.read.say.Tie as tie
 
-pub say-spec : {M : Type 1} → statement M
-say-spec =
+pub say_spec : {M : Type 1} → statement M
+say_spec =
     tie.close
     (tie.spec
     (λ c κs. search rules) (λ c κs. search rules) (λ c κs. search rules) (λ c κs. search rules) (λ c κs. search rules)

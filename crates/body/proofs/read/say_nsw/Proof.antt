@@ -3,5 +3,5 @@
 use Rattle.body.proofs.read.say_nsw.Statement.{statement}
 use Rattle.body.proofs.read.say_nsw.Tie as tie
 
-pub say-nsw-spec : {M : Type 1} → statement M
-say-nsw-spec = tie.close (tie.spec (λ c. rw c.if1.true) (λ c. rw c.if1.false))
+pub say_nsw_spec : {M : Type 1} → statement M
+say_nsw_spec = tie.close (tie.spec (λ c. rw c.if1.true) (λ c. rw c.if1.false))

@@ -2,25 +2,25 @@
 -- Assumes nothing.
 use borrow.Author.Rules.{rules}
 use mathlib.Core.Path.{sym, ◌∙◌}
-use Rattle.elements.specs.Weather.{readWeather}
+use Rattle.elements.specs.Weather.{read_weather}
 use Rattle.elements.proofs.Answers.{weather-is}
 use Rattle.body.proofs.read.say_weather.Statement.{statement}
 use Rattle.body.proofs.read.say_weather.Tie as tie
 
-pub say-weather-spec : {M : Type 1} → statement M
-say-weather-spec =
+pub say_weather_spec : {M : Type 1} → statement M
+say_weather_spec =
     tie.close
     (tie.spec
     (λ c κs. search rules) (λ c. search rules) (λ c. search rules)
     (λ c.
     let d = c.before.before.before.before in
     let a = d.before.before.args in
-    rw (weather-is (readWeather a.forecast a.automatic a.g.now) (sym c.before.before.read.given.1 ∙ d.read-weather.ensures), c.if1.true))
+    rw (weather-is (read_weather a.forecast a.automatic a.g.now) (sym c.before.before.read.given.1 ∙ d.read-weather.ensures), c.if1.true))
     (λ c.
     let d = c.before.before.before.before in
     let a = d.before.before.args in
-    rw (weather-is (readWeather a.forecast a.automatic a.g.now) (sym c.before.before.read.given.1 ∙ d.read-weather.ensures), c.if1.false))
+    rw (weather-is (read_weather a.forecast a.automatic a.g.now) (sym c.before.before.read.given.1 ∙ d.read-weather.ensures), c.if1.false))
     (λ c.
     let d = c.before.before.before in
     let a = d.before.before.args in
-    rw (weather-is (readWeather a.forecast a.automatic a.g.now) (sym c.before.read2.given.1 ∙ d.read-weather.ensures))))
+    rw (weather-is (read_weather a.forecast a.automatic a.g.now) (sym c.before.read2.given.1 ∙ d.read-weather.ensures))))

@@ -6,8 +6,8 @@ use Rattle.body.proofs.Says.{says-nsw, says-weather}
 use Rattle.body.proofs.read.say_weather_or_nsw.Statement.{statement}
 use Rattle.body.proofs.read.say_weather_or_nsw.Tie as tie
 
-pub say-weather-or-nsw-spec : {M : Type 1} → statement M
-say-weather-or-nsw-spec =
+pub say_weather_or_nsw_spec : {M : Type 1} → statement M
+say_weather_or_nsw_spec =
     tie.close
     (tie.spec
     (λ c κs. search rules) (λ c. search rules) (λ c κs. search rules) (λ c κs. search rules) (λ c κs. search rules)

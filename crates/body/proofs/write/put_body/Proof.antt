@@ -13,8 +13,8 @@ all c required nsw automatic silent =
     (write-groups _ _ c.before.before.before.before.before.before.before.before.before.before.before.before.before.before.before.put-wind-unless.ensures
     (write-groups _ _ c.before.before.before.before.before.before.before.before.before.before.put-visibility-unless.ensures (write-groups _ _ c.before.before.before.before.before.before.put-weather-or-nsw.ensures (rw (append-nil _) c.before.before.put-sky.ensures))))
 
-pub put-body-spec : {M : Type 1} → statement M
-put-body-spec =
+pub put_body_spec : {M : Type 1} → statement M
+put_body_spec =
     tie.close
     (tie.spec
     (λ c κs. tt) (λ c κs. tt) (λ c κs. tt) (λ c κs. tt) (λ c κs. tt) (λ c κs. tt)

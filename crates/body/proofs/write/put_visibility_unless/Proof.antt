@@ -5,8 +5,8 @@ use Rattle.text.proofs.Writes.{write-none}
 use Rattle.body.proofs.write.put_visibility_unless.Statement.{statement}
 use Rattle.body.proofs.write.put_visibility_unless.Tie as tie
 
-pub put-visibility-unless-spec : {M : Type 1} → statement M
-put-visibility-unless-spec =
+pub put_visibility_unless_spec : {M : Type 1} → statement M
+put_visibility_unless_spec =
     tie.close
     (tie.spec
     (λ c κs. tt)

@@ -5,8 +5,8 @@ use Rattle.text.proofs.Writes.{write-groups}
 use Rattle.body.proofs.write.put_weather_or_nsw.Statement.{statement}
 use Rattle.body.proofs.write.put_weather_or_nsw.Tie as tie
 
-pub put-weather-or-nsw-spec : {M : Type 1} → statement M
-put-weather-or-nsw-spec =
+pub put_weather_or_nsw_spec : {M : Type 1} → statement M
+put_weather_or_nsw_spec =
     tie.close
     (tie.spec
     (λ c. search rules) (λ c κs. tt) (λ c κs. tt) (λ c. search rules)

@@ -5,8 +5,8 @@ use Rattle.text.proofs.Writes.{write-none}
 use Rattle.body.proofs.write.put_wind_unless.Statement.{statement}
 use Rattle.body.proofs.write.put_wind_unless.Tie as tie
 
-pub put-wind-unless-spec : {M : Type 1} → statement M
-put-wind-unless-spec =
+pub put_wind_unless_spec : {M : Type 1} → statement M
+put_wind_unless_spec =
     tie.close
     (tie.spec
     (λ c κs. tt)

@@ -8,8 +8,8 @@ use Rattle.figures.proofs.Puts.{length-put}
 use Rattle.examples.proofs.print.figures.Statement.{statement}
 use Rattle.examples.proofs.print.figures.Tie as tie
 
-pub figures-spec : {M : Type 1} → statement M
-figures-spec =
+pub figures_spec : {M : Type 1} → statement M
+figures_spec =
     tie.close
     (tie.spec
     (λ c. search rules) (λ c κs. search rules) (λ c. search rules)

@@ -12,8 +12,8 @@ Inv s list w i₀ i = i ≤ length list
 abbrev μ : tie.decreases-loop
 μ s list w i₀ i = length list - i
 
-pub figures-spec : {M : Type 1} → statement M
-figures-spec =
+pub figures_spec : {M : Type 1} → statement M
+figures_spec =
     tie.close
     (tie.spec Inv μ
     (λ c κs. search rules) (λ c. search rules) (λ c. search rules) (λ c. search rules) (λ c κs. search rules) (λ c κs. search rules)

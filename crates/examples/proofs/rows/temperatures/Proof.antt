@@ -12,8 +12,8 @@ Inv list i₀ i = i ≤ length list
 abbrev μ : tie.decreases-loop
 μ list i₀ i = length list - i
 
-pub temperatures-spec : {M : Type 1} → statement M
-temperatures-spec =
+pub temperatures_spec : {M : Type 1} → statement M
+temperatures_spec =
     tie.close
     (tie.spec Inv μ
     (λ c. search rules) (λ c. search rules) (λ c. search rules) (λ c κs. search rules) (λ c. search rules) (λ c. search rules) (λ c. search rules)

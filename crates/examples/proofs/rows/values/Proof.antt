@@ -12,8 +12,8 @@ Inv s list i₀ i = i ≤ length list
 abbrev μ : tie.decreases-loop
 μ s list i₀ i = length list - i
 
-pub values-spec : {M : Type 1} → statement M
-values-spec =
+pub values_spec : {M : Type 1} → statement M
+values_spec =
     tie.close
     (tie.spec Inv μ
     (λ c. search rules) (λ c. search rules) (λ c. search rules) (λ c κs. search rules) (λ c κs. search rules) (λ c κs. search rules)

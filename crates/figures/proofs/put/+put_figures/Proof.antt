@@ -35,8 +35,8 @@ returns-2 t c =
     let e : a.width ≡ suc (a.width - 1) = omega arith in
     rw e (then c.before.before.before.before.before.before.put-figures.ensures c.before.before.put_byte.ensures)
 
-pub +put-figures-spec : {M : Type 1} → statement M
-+put-figures-spec =
+pub +put_figures_spec : {M : Type 1} → statement M
++put_figures_spec =
     close μ
     (λ t.
     lts.spec (below t, f.Post, byte.Asked, byte.Learnt) (at t) f.Post (returns t)

@@ -9,8 +9,8 @@ use Rattle.figures.proofs.Puts.{splice-out}
 use Rattle.figures.proofs.put.put_byte.Statement.{statement}
 use Rattle.figures.proofs.put.put_byte.Tie as tie
 
-pub put-byte-spec : {M : Type 1} → statement M
-put-byte-spec =
+pub put_byte_spec : {M : Type 1} → statement M
+put_byte_spec =
     tie.close
     (tie.spec
     (λ c. search rules) (λ c. search rules) (λ c. search rules)

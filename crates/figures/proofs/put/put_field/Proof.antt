@@ -1,18 +1,18 @@
--- `figures::put::put_field` meets its contract: each case of the field is a case of `fieldText`.
+-- `figures::put::put_field` meets its contract: each case of the field is a case of `field_text`.
 -- Assumes nothing.
 use borrow.Author.Rules.{rules}
-use Rattle.figures.specs.Figures.{fieldText}
+use Rattle.figures.specs.Figures.{field_text}
 use Rattle.figures.proofs.Puts.{put-none}
 use Rattle.figures.proofs.put.put_field.Statement.{statement}
 use Rattle.figures.proofs.put.put_field.Tie as tie
 
-pub put-field-spec : {M : Type 1} → statement M
-put-field-spec =
+pub put_field_spec : {M : Type 1} → statement M
+put_field_spec =
     tie.close
     (tie.spec
     (λ c. search rules) (λ c κs. search rules) (λ c. search rules) (λ c κs. search rules) (λ c. search rules) (λ c. search rules) (λ c. search rules)
-    (λ c. unfold fieldText in rw c.before.before.before.before.before.f.given.1 c.before.before.put-number.ensures)
+    (λ c. unfold field_text in rw c.before.before.before.before.before.f.given.1 c.before.before.put-number.ensures)
     (λ c. search rules)
-    (λ c. unfold fieldText in rw c.before.before.before.before.enum_told.given.1 c.before.before.put-slashes.ensures)
-    (λ c. unfold fieldText in rw c.enum-told2.given.1 (put-none _ _))
-    (λ c. unfold fieldText in rw c.enum-told3.given.1 (put-none _ _)))
+    (λ c. unfold field_text in rw c.before.before.before.before.enum_told.given.1 c.before.before.put-slashes.ensures)
+    (λ c. unfold field_text in rw c.enum-told2.given.1 (put-none _ _))
+    (λ c. unfold field_text in rw c.enum-told3.given.1 (put-none _ _)))

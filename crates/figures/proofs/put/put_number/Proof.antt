@@ -2,15 +2,15 @@
 -- Assumes nothing.
 use borrow.Author.Rules.{rules}
 use borrow.Author.Tests.{le-leb, lt-leb}
-use Rattle.figures.specs.Figures.{numberText}
+use Rattle.figures.specs.Figures.{number_text}
 use Rattle.figures.proofs.Puts.{put-none}
 use Rattle.figures.proofs.put.put_number.Statement.{statement}
 use Rattle.figures.proofs.put.put_number.Tie as tie
 
-pub put-number-spec : {M : Type 1} → statement M
-put-number-spec =
+pub put_number_spec : {M : Type 1} → statement M
+put_number_spec =
     tie.close
     (tie.spec
     (λ c κs. search rules) (λ c. search rules)
-    (λ c. unfold numberText in rw (le-leb _ _ c.before.before.before.before.if1.true) c.before.before.put-figures.ensures)
-    (λ c. unfold numberText in rw (lt-leb _ _ c.if1.false) (put-none _ _)))
+    (λ c. unfold number_text in rw (le-leb _ _ c.before.before.before.before.if1.true) c.before.before.put-figures.ensures)
+    (λ c. unfold number_text in rw (lt-leb _ _ c.if1.false) (put-none _ _)))

@@ -17,8 +17,8 @@ first zero n b h = refl
 first (suc w) zero b h = absurd (omega arith)
 first (suc w) (suc n) b h = ap (λ (l : _). b ∷ l) (first w n b (omega arith))
 
-pub put-slashes-spec : {M : Type 1} → statement M
-put-slashes-spec =
+pub put_slashes_spec : {M : Type 1} → statement M
+put_slashes_spec =
     tie.close
     (tie.spec
     (λ c. search rules)

@@ -23,8 +23,8 @@ again c =
     let s = c.before.before.before.before.before.before.before.before.before.args.s.now in
     (omega arith, rw (add-one, take-suc s l.i 0 (omega arith)) (then l.invariant.1 c.before.before.put_byte.ensures))
 
-pub put-text-spec : {M : Type 1} → statement M
-put-text-spec =
+pub put_text_spec : {M : Type 1} → statement M
+put_text_spec =
     tie.close
     (tie.spec Inv μ
     (λ c. (search rules, put-none _ _))

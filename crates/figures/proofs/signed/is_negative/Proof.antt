@@ -6,5 +6,5 @@ use Rattle.figures.proofs.Signs.{below-zero}
 use Rattle.figures.proofs.signed.is_negative.Statement.{statement}
 use Rattle.figures.proofs.signed.is_negative.Tie as tie
 
-pub is-negative-spec : {M : Type 1} → statement M
-is-negative-spec = tie.close (tie.spec (λ c. rw (to_z-of_z w32 c.args.t c.ranges.t) (below-zero c.args.t)))
+pub is_negative_spec : {M : Type 1} → statement M
+is_negative_spec = tie.close (tie.spec (λ c. rw (to_z-of_z w32 c.args.t c.ranges.t) (below-zero c.args.t)))

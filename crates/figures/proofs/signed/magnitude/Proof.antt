@@ -60,8 +60,8 @@ whole : {t : ℤ} → SFits w32 t → lt_z (back t) (pos 0) ≡ false → T (non
 whole {t = pos n} f left = rw (to_z-of_z w32 (pos n) f) (tt, record { fits = omega (arith, f.sfits) })
 whole {t = negsuc n} f left = absurd (false≢true (sym left ∙ ap (λ (z : ℤ). lt_z z (pos 0)) (to_z-of_z w32 (negsuc n) f)))
 
-pub magnitude-spec : {M : Type 1} → statement M
-magnitude-spec =
+pub magnitude_spec : {M : Type 1} → statement M
+magnitude_spec =
     tie.close
     (tie.spec
     (λ c. up_fits c.before.ranges.t c.if1.true)

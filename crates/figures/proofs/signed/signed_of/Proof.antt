@@ -25,8 +25,8 @@ minus {m} h = ap (λ (z : ℤ). pos 0 -ℤ z) (plus h) ∙ +ℤ_idl (neg_ℤ (po
 fits : {m : ℕ} (h : m ≤ 2147483647) → SFits w32 (pos 0 -ℤ to_z w32 m)
 fits {m} h = rw (minus h) (magnitude-fits true m h)
 
-pub signed-of-spec : {M : Type 1} → statement M
-signed-of-spec =
+pub signed_of_spec : {M : Type 1} → statement M
+signed_of_spec =
     tie.close
     (tie.spec
     (λ c. search rules)

@@ -4,5 +4,5 @@ use borrow.Author.Rules.{rules}
 use Rattle.metar.proofs.read.after_groups.Statement.{statement}
 use Rattle.metar.proofs.read.after_groups.Tie as tie
 
-pub after-groups-spec : {M : Type 1} → statement M
-after-groups-spec = tie.close (tie.spec (λ c κs. search rules) (λ c κs. search rules) (λ c o. rw (c.end-verdict.ensures, c.before.owes.ensures o)))
+pub after_groups_spec : {M : Type 1} → statement M
+after_groups_spec = tie.close (tie.spec (λ c κs. search rules) (λ c κs. search rules) (λ c o. rw (c.end-verdict.ensures, c.before.owes.ensures o)))

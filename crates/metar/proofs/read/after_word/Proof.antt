@@ -10,5 +10,5 @@ returns c o =
     let a = c.before.before.before.before.args in
     word-leads a.text.now a.start a.end a.here.place a.here.count o c.before.before.part.ensures (c.before.owes.ensures o) c.meet-word.ensures
 
-pub after-word-spec : {M : Type 1} → statement M
-after-word-spec = tie.close (tie.spec (λ c κs. search rules) (λ c κs. search rules) (λ c κs. search rules) returns)
+pub after_word_spec : {M : Type 1} → statement M
+after_word_spec = tie.close (tie.spec (λ c κs. search rules) (λ c κs. search rules) (λ c κs. search rules) returns)

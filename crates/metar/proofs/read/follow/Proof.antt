@@ -4,8 +4,8 @@ use borrow.Author.Rules.{rules}
 use Rattle.metar.proofs.read.follow.Statement.{statement}
 use Rattle.metar.proofs.read.follow.Tie as tie
 
-pub follow-spec : {M : Type 1} → statement M
-follow-spec =
+pub follow_spec : {M : Type 1} → statement M
+follow_spec =
     tie.close
     (tie.spec
     (λ c. search rules) (λ c κs. search rules) (λ c. search rules) (λ c κs. search rules) (λ c. search rules) (λ c. search rules)

@@ -3,10 +3,10 @@
 use borrow.Author.Rules.{rules}
 use mathlib.Core.Path.{sym, ◌∙◌}
 use Rattle.text.proofs.Groups.{Follows, when-group, when-end}
-use Rattle.shapes.specs.Pattern.{hasAny}
+use Rattle.shapes.specs.Pattern.{has_any}
 use Rattle.record.specs.declared.aerodrome.Observation.{Observation}
 use Rattle.metar_row.specs.Row.{row, words}
-use Rattle.metar.specs.Said.{DependsOn, reportSaid}
+use Rattle.metar.specs.Said.{DependsOn, report_said}
 use Rattle.body.proofs.Meets.{meets-halt, meets-fault, meets-said}
 use Rattle.metar.proofs.Steps.{row-few}
 use Rattle.metar.proofs.read.meet.Statement.{statement}
@@ -20,13 +20,13 @@ module _ (c : tie.After-known-told) where
   abbrev seen : Observation → Type 0
   seen = let a = c.before.before.before.before.before.args in DependsOn a.so_far.automatic a.so_far.body a.so_far.states.count
 
-pub meet-spec : {M : Type 1} → statement M
-meet-spec =
+pub meet_spec : {M : Type 1} → statement M
+meet_spec =
     tie.close
     (tie.spec
     (λ c κs. search rules) (λ c. search rules) (λ c. search rules)
     (λ c. when-end _ _ _ (sym c.enum_told.given.1 ∙ c.before.before.next-group.ensures))
     (λ c κs. search rules) (λ c κs. search rules) (λ c. search rules) (λ c. search rules) (λ c. search rules) (λ c κs. search rules) (λ c κs. search rules)
-    (λ c. meets-halt row (hasAny words) reportSaid _ _ (seen c.before.before.before.before) (follows c.before.before.before.before) c.before.before.before.part.ensures c.before.before.decide.ensures c.enum-told2.given.1)
-    (λ c. meets-fault row (hasAny words) reportSaid _ _ (seen c.before.before.before.before.before) (follows c.before.before.before.before.before) c.before.before.before.before.part.ensures c.before.before.before.decide.ensures c.before.turn.given.1)
-    (λ c. meets-said row (hasAny words) reportSaid _ _ (seen c.before.before.before.before.before.before.before) (follows c.before.before.before.before.before.before.before) c.before.before.before.before.before.before.part.ensures c.before.before.before.before.before.decide.ensures c.before.before.before.turn2.given.1 row-few c.before.say-at.result c.before.say-at.ensures c.meet-said.ensures))
+    (λ c. meets-halt row (has_any words) report_said _ _ (seen c.before.before.before.before) (follows c.before.before.before.before) c.before.before.before.part.ensures c.before.before.decide.ensures c.enum-told2.given.1)
+    (λ c. meets-fault row (has_any words) report_said _ _ (seen c.before.before.before.before.before) (follows c.before.before.before.before.before) c.before.before.before.before.part.ensures c.before.before.before.decide.ensures c.before.turn.given.1)
+    (λ c. meets-said row (has_any words) report_said _ _ (seen c.before.before.before.before.before.before.before) (follows c.before.before.before.before.before.before.before) c.before.before.before.before.before.before.part.ensures c.before.before.before.before.before.decide.ensures c.before.before.before.turn2.given.1 row-few c.before.say-at.result c.before.say-at.ensures c.meet-said.ensures))

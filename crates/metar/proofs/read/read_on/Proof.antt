@@ -5,8 +5,8 @@ use mathlib.Core.Path.{◌∙◌}
 use Rattle.metar.proofs.read.read_on.Statement.{statement}
 use Rattle.metar.proofs.read.read_on.Tie as tie
 
-pub read-on-spec : {M : Type 1} → statement M
-read-on-spec =
+pub read_on_spec : {M : Type 1} → statement M
+read_on_spec =
     tie.close
     (tie.spec
     (λ c. search rules) (λ c κs. search rules) (λ c. search rules) (λ c κs. search rules) (λ c κs. search rules)

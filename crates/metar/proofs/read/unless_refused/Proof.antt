@@ -8,8 +8,8 @@ use Rattle.metar.proofs.Steps.{refused-so}
 use Rattle.metar.proofs.read.unless_refused.Statement.{statement}
 use Rattle.metar.proofs.read.unless_refused.Tie as tie
 
-pub unless-refused-spec : {M : Type 1} → statement M
-unless-refused-spec =
+pub unless_refused_spec : {M : Type 1} → statement M
+unless_refused_spec =
     tie.close
     (tie.spec
     (λ c κs. search rules) (λ c κs. search rules)

@@ -3,8 +3,8 @@
 use borrow.Author.Rules.{rules}
 use mathlib.Core.Path.{sym, ap, ◌∙◌}
 use native.Mathlib.Omega.{arith}
-use Rattle.shapes.specs.Pattern.{hasAny}
-use Rattle.places.specs.Turn.{turnUnknown}
+use Rattle.shapes.specs.Pattern.{has_any}
+use Rattle.places.specs.Turn.{turn_unknown}
 use Rattle.places.proofs.Loop.{turn-past}
 use Rattle.places.proofs.Words.{turn-nowhere, turn-somewhere}
 use Rattle.metar_row.specs.Row.{row, words}
@@ -13,15 +13,15 @@ use Rattle.metar.proofs.Steps.{row-length}
 use Rattle.metar.proofs.step.decide.Statement.{statement}
 use Rattle.metar.proofs.step.decide.Tie as tie
 
-pub decide-spec : {M : Type 1} → statement M
-decide-spec =
+pub decide_spec : {M : Type 1} → statement M
+decide_spec =
     tie.close
     (tie.spec
-    (λ c. turn-past row (hasAny words) _ _ _ (rw row-length c.if1.true))
+    (λ c. turn-past row (has_any words) _ _ _ (rw row-length c.if1.true))
     (λ c κs. search rules) (λ c κs. search rules) (λ c κs. search rules) (λ c κs. search rules)
     (λ c.
     let f = c.before.before.before in
-    turn-nowhere row words _ _ _ (rw row-length (omega (arith, f.before.before.if1.false))) f.before.find.ensures (sym f.is-unknown.ensures ∙ c.before.before.if2.true) (c.turn-unknown.ensures ∙ ap turnUnknown c.before.is_IsWord.ensures))
+    turn-nowhere row words _ _ _ (rw row-length (omega (arith, f.before.before.if1.false))) f.before.find.ensures (sym f.is-unknown.ensures ∙ c.before.before.if2.true) (c.turn-unknown.ensures ∙ ap turn_unknown c.before.is_Is_word.ensures))
     (λ c κs. search rules)
     (λ c.
     let f = c.before.before in

@@ -2,21 +2,21 @@
 -- Assumes nothing.
 use borrow.Author.Rules.{rules}
 use mathlib.Core.Path.{sym, ◌∙◌}
-use Rattle.elements.specs.Weather.{readRecent}
+use Rattle.elements.specs.Weather.{read_recent}
 use Rattle.elements.proofs.Answers.{weather-is}
 use Rattle.metar.proofs.step.say_recent.Statement.{statement}
 use Rattle.metar.proofs.step.say_recent.Tie as tie
 
-pub say-recent-spec : {M : Type 1} → statement M
-say-recent-spec =
+pub say_recent_spec : {M : Type 1} → statement M
+say_recent_spec =
     tie.close
     (tie.spec
     (λ c κs. search rules) (λ c. search rules) (λ c. search rules)
     (λ c.
     let d = c.before.before.before in
     let a = d.before.before.args in
-    rw (weather-is (readRecent a.automatic a.g.now) (sym c.before.read.given.1 ∙ d.read-recent.ensures)))
+    rw (weather-is (read_recent a.automatic a.g.now) (sym c.before.read.given.1 ∙ d.read-recent.ensures)))
     (λ c.
     let d = c.before.before.before in
     let a = d.before.before.args in
-    rw (weather-is (readRecent a.automatic a.g.now) (sym c.before.read2.given.1 ∙ d.read-recent.ensures))))
+    rw (weather-is (read_recent a.automatic a.g.now) (sym c.before.read2.given.1 ∙ d.read-recent.ensures))))

@@ -6,12 +6,12 @@ use native.Mathlib.Omega.{arith}
 use lib.ListN.{length, take, drop, length-map}
 use borrow.Author.Rules.{rules}
 use Rattle.elements.proofs.Lists.{each_next, each-stop, each-end}
-use Rattle.trend.specs.Write.{judgeChange, judgeEach}
+use Rattle.trend.specs.Write.{judge_change, judge_each}
 use Rattle.metar_write.proofs.trends.judge_each.Statement.{statement}
 use Rattle.metar_write.proofs.trends.judge_each.Tie as tie
 
 abbrev Inv : tie.invariant-loop
-Inv t n items i₀ i = (i ≤ n) × (judgeEach t.nosig (take n items) ≡ judgeEach t.nosig (drop i (take n items)))
+Inv t n items i₀ i = (i ≤ n) × (judge_each t.nosig (take n items) ≡ judge_each t.nosig (drop i (take n items)))
 
 abbrev μ : tie.decreases-loop
 μ t n items i₀ i = n - i
@@ -22,8 +22,8 @@ slots c =
     let three : length c.args.t.items ≡ 3 = simp length-map at c.well-formed.0.1.1.0.1.0.1 in
     omega (arith, c.requires)
 
-pub judge-each-spec : {M : Type 1} → statement M
-judge-each-spec =
+pub judge_each_spec : {M : Type 1} → statement M
+judge_each_spec =
     tie.close
     (tie.spec Inv μ
     (λ c. (search rules, refl))
@@ -33,16 +33,16 @@ judge-each-spec =
     let a = d.before.before.args in
     let b = a.t.nosig in (
       search rules,
-      each_next (judgeChange b) (judgeEach b) refl (λ x xs. refl) a.t.items a.n (slots d.before.before) d.loop.i d.loop.invariant.1 _ (omega arith) (sym c.before.before.judge-change.ensures ∙ c.enum_told.given.1),
+      each_next (judge_change b) (judge_each b) refl (λ x xs. refl) a.t.items a.n (slots d.before.before) d.loop.i d.loop.invariant.1 _ (omega arith) (sym c.before.before.judge-change.ensures ∙ c.enum_told.given.1),
     ))
     (λ c. search rules)
     (λ c.
     let d = c.before.before.before.before.before.before in
     let a = d.before.before.args in
     let b = a.t.nosig in
-    each-stop (judgeChange b) (judgeEach b) refl (λ x xs. refl) a.t.items a.n (slots d.before.before) d.loop.i d.loop.invariant.1 _ (omega arith) (sym c.before.before.before.judge-change.ensures ∙ c.before.judged.given.1))
+    each-stop (judge_change b) (judge_each b) refl (λ x xs. refl) a.t.items a.n (slots d.before.before) d.loop.i d.loop.invariant.1 _ (omega arith) (sym c.before.before.before.judge-change.ensures ∙ c.before.judged.given.1))
     (λ c.
     let d = c.before in
     let a = d.before.before.args in
     let b = a.t.nosig in
-    each-end (judgeChange b) (judgeEach b) refl (λ x xs. refl) a.t.items a.n (slots d.before.before) d.loop.i d.loop.invariant.1 (omega arith)))
+    each-end (judge_change b) (judge_each b) refl (λ x xs. refl) a.t.items a.n (slots d.before.before) d.loop.i d.loop.invariant.1 (omega arith)))

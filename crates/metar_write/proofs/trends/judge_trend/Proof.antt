@@ -2,16 +2,16 @@
 -- Assumes nothing.
 use borrow.Author.Rules.{rules}
 use borrow.Author.Tests.{le-leb, lt-leb}
-use Rattle.trend.specs.Write.{judgeTrend}
+use Rattle.trend.specs.Write.{judge_trend}
 use Rattle.metar_write.proofs.trends.judge_trend.Statement.{statement}
 use Rattle.metar_write.proofs.trends.judge_trend.Tie as tie
 
-pub judge-trend-spec : {M : Type 1} → statement M
-judge-trend-spec =
+pub judge_trend_spec : {M : Type 1} → statement M
+judge_trend_spec =
     tie.close
     (tie.spec
     (λ c κs. search rules) (λ c κs. tt) (λ c κs. search rules) (λ c κs. search rules) (λ c κs. tt)
     (λ c.
-    unfold judgeTrend in
+    unfold judge_trend in
     rw (c.and_then.ensures, c.before.before.judge.ensures, c.before.judge-each.ensures, c.before.before.before.is-blank-from.ensures, le-leb _ _ c.before.before.before.before.if1.true))
-    (λ c. unfold judgeTrend in rw (c.judge2.ensures, lt-leb _ _ c.before.if1.false)))
+    (λ c. unfold judge_trend in rw (c.judge2.ensures, lt-leb _ _ c.before.if1.false)))

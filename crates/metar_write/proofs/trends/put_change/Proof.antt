@@ -7,8 +7,8 @@ use Rattle.metar_write.proofs.Writing.{change-in-parts}
 use Rattle.metar_write.proofs.trends.put_change.Statement.{statement}
 use Rattle.metar_write.proofs.trends.put_change.Tie as tie
 
-pub put-change-spec : {M : Type 1} → statement M
-put-change-spec =
+pub put_change_spec : {M : Type 1} → statement M
+put_change_spec =
     tie.close
     (tie.spec
     (λ c κs. tt) (λ c κs. tt) (λ c κs. tt) (λ c. search rules)

@@ -10,12 +10,12 @@ use Rattle.figures.proofs.Puts.{length-put}
 use Rattle.text.specs.Groups.{written}
 use Rattle.text.proofs.Writes.{write-none}
 use Rattle.places.proofs.Delivered.{one_more}
-use Rattle.trend.specs.Write.{showChange, showEach}
+use Rattle.trend.specs.Write.{show_change, show_each}
 use Rattle.metar_write.proofs.trends.put_each.Statement.{statement}
 use Rattle.metar_write.proofs.trends.put_each.Tie as tie
 
 abbrev Inv : tie.invariant-loop
-Inv out₀ at n items next₀ i₀ out next i = (i ≤ n) × Put out₀ at (written at (showEach (take i items))) next out
+Inv out₀ at n items next₀ i₀ out next i = (i ≤ n) × Put out₀ at (written at (show_each (take i items))) next out
 
 abbrev μ : tie.decreases-loop
 μ out₀ at n items next₀ i₀ out next i = n - i
@@ -26,8 +26,8 @@ slots c =
     let three : length c.args.t.items ≡ 3 = simp length-map at c.well-formed.1.1.0.1.1.0.1.0.1 in
     omega (arith, c.requires)
 
-pub put-each-spec : {M : Type 1} → statement M
-put-each-spec =
+pub put_each_spec : {M : Type 1} → statement M
+put_each_spec =
     tie.close
     (tie.spec Inv μ
     (λ c. (omega arith, write-none _ _))
@@ -36,7 +36,7 @@ put-each-spec =
     let d = c.before.before.before.before.before.before in
     let s = d.before.before.before in (
       omega arith,
-      one_more showChange showEach refl (λ x xs. refl) s.args.t.items d.loop.i _ (omega (arith, slots s)) d.loop.invariant.1 c.before.before.put-change.ensures,
+      one_more show_change show_each refl (λ x xs. refl) s.args.t.items d.loop.i _ (omega (arith, slots s)) d.loop.invariant.1 c.before.before.put-change.ensures,
     ))
     (λ c. length-put c.before.loop.invariant.1)
     (λ c.

@@ -2,13 +2,13 @@
 -- Assumes nothing.
 use borrow.Author.Rules.{rules}
 use Rattle.text.proofs.Writes.{write-groups}
-use Rattle.trend.specs.Write.{showTrend}
+use Rattle.trend.specs.Write.{show_trend}
 use Rattle.metar_write.proofs.trends.put_trend.Statement.{statement}
 use Rattle.metar_write.proofs.trends.put_trend.Tie as tie
 
-pub put-trend-spec : {M : Type 1} → statement M
-put-trend-spec =
+pub put_trend_spec : {M : Type 1} → statement M
+put_trend_spec =
     tie.close
     (tie.spec
     (λ c. search rules) (λ c κs. tt) (λ c κs. search rules) (λ c. search rules)
-    (λ c. unfold showTrend in write-groups _ _ c.before.before.before.before.before.before.put_if.ensures c.before.before.put-each.ensures))
+    (λ c. unfold show_trend in write-groups _ _ c.before.before.before.before.before.before.put_if.ensures c.before.before.put-each.ensures))

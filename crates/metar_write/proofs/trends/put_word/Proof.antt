@@ -5,8 +5,8 @@ use Rattle.text.proofs.Writes.{write-none}
 use Rattle.metar_write.proofs.trends.put_word.Statement.{statement}
 use Rattle.metar_write.proofs.trends.put_word.Tie as tie
 
-pub put-word-spec : {M : Type 1} → statement M
-put-word-spec =
+pub put_word_spec : {M : Type 1} → statement M
+put_word_spec =
     tie.close
     (tie.spec
     (λ c. search rules) (λ c. search rules) (λ c. search rules) (λ c κs. tt) (λ c. search rules) (λ c. search rules) (λ c κs. tt)

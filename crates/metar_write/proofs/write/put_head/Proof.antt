@@ -18,8 +18,8 @@ all c =
     (write-groups _ _ c.before.before.before.before.before.before.before.put-if2.ensures
     (rw (append-nil _) c.before.before.put-if3.ensures)))))
 
-pub put-head-spec : {M : Type 1} → statement M
-put-head-spec =
+pub put_head_spec : {M : Type 1} → statement M
+put_head_spec =
     tie.close
     (tie.spec
     (λ c κs. tt) (λ c. search rules) (λ c κs. tt) (λ c κs. tt) (λ c κs. tt) (λ c. search rules) (λ c κs. tt) (λ c. search rules) (λ c κs. tt)

@@ -19,8 +19,8 @@ all c =
     (write-groups _ _ c.before.before.before.before.before.before.before.before.before.before.put-qnh.ensures
     (write-groups _ _ c.before.before.before.before.before.before.put-recents2.ensures (rw (append-nil _) c.before.before.put-states2.ensures))))
 
-pub put-last-spec : {M : Type 1} → statement M
-put-last-spec =
+pub put_last_spec : {M : Type 1} → statement M
+put_last_spec =
     tie.close
     (tie.spec
     (λ c κs. tt) (λ c κs. tt) (λ c κs. tt) (λ c κs. tt) (λ c κs. tt) (λ c κs. tt)

@@ -12,8 +12,8 @@ all c =
     (write-groups _ _ c.before.before.before.before.before.before.before.before.before.before.before.before.before.before.before.before.before.before.put-head.ensures
     (write-groups _ _ c.before.before.before.before.before.before.before.before.before.before.before.before.before.before.put-seen.ensures (write-groups _ _ c.before.before.before.before.before.before.before.before.before.before.put-weather-or-nsw.ensures (write-groups _ _ c.before.before.before.before.before.before.put-sky.ensures c.before.before.put_last.ensures))))
 
-pub put-observation-spec : {M : Type 1} → statement M
-put-observation-spec =
+pub put_observation_spec : {M : Type 1} → statement M
+put_observation_spec =
     tie.close
     (tie.spec
     (λ c κs. tt) (λ c κs. tt) (λ c κs. tt) (λ c κs. tt) (λ c κs. tt)

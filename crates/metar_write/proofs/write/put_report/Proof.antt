@@ -7,8 +7,8 @@ use Rattle.metar.specs.Write.{groups_of}
 use Rattle.metar_write.proofs.write.put_report.Statement.{statement}
 use Rattle.metar_write.proofs.write.put_report.Tie as tie
 
-pub put-report-spec : {M : Type 1} → statement M
-put-report-spec =
+pub put_report_spec : {M : Type 1} → statement M
+put_report_spec =
     tie.close
     (tie.spec
     (λ c κs. tt) (λ c κs. search rules) (λ c κs. tt) (λ c. search rules)

@@ -13,8 +13,8 @@ all c =
     write-groups _ _ c.before.before.before.before.before.before.before.before.before.before.before.before.before.before.put-wind-unless.ensures
     (write-groups _ _ c.before.before.before.before.before.before.before.before.before.before.put-variation.ensures (write-groups _ _ c.before.before.before.before.before.before.put-visibility-unless.ensures (rw (append-nil _) c.before.before.put-runways.ensures)))
 
-pub put-seen-spec : {M : Type 1} → statement M
-put-seen-spec =
+pub put_seen_spec : {M : Type 1} → statement M
+put_seen_spec =
     tie.close
     (tie.spec
     (λ c κs. tt) (λ c κs. tt) (λ c κs. tt) (λ c κs. tt)

@@ -16,7 +16,7 @@ use Rattle.record.specs.declared.aerodrome.TrendChange.{TrendChange}
 use Rattle.record.specs.contracts.aerodrome.TrendChange.{the_type}
 use Rattle.record.specs.Arrays.{BodyArrays, MetarArrays}
 use Rattle.body.proofs.Arrays.{body-arrays, each_owned}
-use Rattle.metar.specs.Write.{groups_of, canonicalOf, written_of, bufferOf}
+use Rattle.metar.specs.Write.{groups_of, canonical_of, written_of, buffer_of}
 use Rattle.metar_laws.proofs.Canonical.{trend-listed, groups-sizes, length-canonical}
 use Rattle.metar_write.proofs.write.write_fine.Statement.{statement}
 use Rattle.metar_write.proofs.write.write_fine.Tie as tie
@@ -44,11 +44,11 @@ arrays c =
 -- the report as it is made over the array, which has room for the longest
 report : (c : tie.Start) {end : ℕ} {e : List ℕ} → Put (replicate 704 0) 0 (written 0 (groups_of c.args.r) ++ (61 ∷ [])) end e
     → (end ≤ length e) × (take end e ≡ join (groups_of c.args.r))
-unfolding canonicalOf
+unfolding canonical_of
 report c = made {n = 704} (groups_of c.args.r) (groups-sizes c.args.r (arrays c) c.requires) (omega (arith, length-canonical c.args.r (arrays c) c.requires))
 
-pub write-fine-spec : {M : Type 1} → statement M
-write-fine-spec =
+pub write_fine_spec : {M : Type 1} → statement M
+write_fine_spec =
     tie.close
     (tie.spec
     (λ c. search rules)
@@ -58,4 +58,4 @@ write-fine-spec =
     (λ c κs. tt) (λ c. search rules)
     (λ c.
     let d = c.before.before.before.before.before.before.before.before.before in
-    unfold written_of bufferOf canonicalOf in delivered d.args.out.now d.requires (report d c.before.before.before.before.before.before.put-report.ensures).1 c.before.before.deliver.ensures))
+    unfold written_of buffer_of canonical_of in delivered d.args.out.now d.requires (report d c.before.before.before.before.before.before.put-report.ensures).1 c.before.before.deliver.ensures))

@@ -3,5 +3,5 @@
 use Rattle.record.proofs.blank_aerodrome.blank_body.Statement.{statement}
 use Rattle.record.proofs.blank_aerodrome.blank_body.Tie as tie
 
-pub blank-body-spec : {M : Type 1} → statement M
-blank-body-spec = tie.close (tie.spec (λ c κs. tt) (λ c κs. tt) (λ c κs. tt) (λ c. rw (c.blank-sky.ensures, c.before.blank-weathers.ensures, c.before.before.blank-wind.ensures)))
+pub blank_body_spec : {M : Type 1} → statement M
+blank_body_spec = tie.close (tie.spec (λ c κs. tt) (λ c κs. tt) (λ c κs. tt) (λ c. rw (c.blank-sky.ensures, c.before.blank-weathers.ensures, c.before.before.blank-wind.ensures)))

@@ -3,5 +3,5 @@
 use Rattle.record.proofs.blank_aerodrome.blank_taf.Statement.{statement}
 use Rattle.record.proofs.blank_aerodrome.blank_taf.Tie as tie
 
-pub blank-taf-spec : {M : Type 1} → statement M
-blank-taf-spec = tie.close (tie.spec (λ c κs. tt) (λ c κs. tt) (λ c. rw (c.before.blank-leg.ensures, c.blank-change.ensures)))
+pub blank_taf_spec : {M : Type 1} → statement M
+blank_taf_spec = tie.close (tie.spec (λ c κs. tt) (λ c κs. tt) (λ c. rw (c.before.blank-leg.ensures, c.blank-change.ensures)))

@@ -3,5 +3,5 @@
 use Rattle.record.proofs.blank_aerodrome.blank_trend.Statement.{statement}
 use Rattle.record.proofs.blank_aerodrome.blank_trend.Tie as tie
 
-pub blank-trend-spec : {M : Type 1} → statement M
-blank-trend-spec = tie.close (tie.spec (λ c κs. tt) (λ c. rw c.blank-trend-change.ensures))
+pub blank_trend_spec : {M : Type 1} → statement M
+blank_trend_spec = tie.close (tie.spec (λ c κs. tt) (λ c. rw c.blank-trend-change.ensures))

@@ -3,5 +3,5 @@
 use Rattle.record.proofs.blank_aerodrome.blank_trend_change.Statement.{statement}
 use Rattle.record.proofs.blank_aerodrome.blank_trend_change.Tie as tie
 
-pub blank-trend-change-spec : {M : Type 1} → statement M
-blank-trend-change-spec = tie.close (tie.spec (λ c κs. tt) (λ c. rw c.blank-body.ensures))
+pub blank_trend_change_spec : {M : Type 1} → statement M
+blank_trend_change_spec = tie.close (tie.spec (λ c κs. tt) (λ c. rw c.blank-body.ensures))

@@ -7,18 +7,18 @@ use lib.Dec.{eqb}
 use borrow.Author.Rules.{rules}
 use borrow.Author.Tests.{eq-eqb, ne_eqb}
 use Rattle.figures.proofs.Every.{every-next, every-stop, every-end}
-use Rattle.record.specs.Missing.{noLetters}
+use Rattle.record.specs.Missing.{no_letters}
 use Rattle.record.proofs.letters.are_blank_from.Statement.{statement}
 use Rattle.record.proofs.letters.are_blank_from.Tie as tie
 
 abbrev Inv : tie.invariant-loop
-Inv letters from i₀ i = noLetters (drop from letters) ≡ noLetters (drop i letters)
+Inv letters from i₀ i = no_letters (drop from letters) ≡ no_letters (drop i letters)
 
 abbrev μ : tie.decreases-loop
 μ letters from i₀ i = length letters - i
 
-pub are-blank-from-spec : {M : Type 1} → statement M
-are-blank-from-spec =
+pub are_blank_from_spec : {M : Type 1} → statement M
+are_blank_from_spec =
     tie.close
     (tie.spec Inv μ
     (λ c. refl)

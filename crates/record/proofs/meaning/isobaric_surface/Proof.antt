@@ -4,8 +4,8 @@ use borrow.Author.Tests.{eq-eqb, ne_eqb}
 use Rattle.record.proofs.meaning.isobaric_surface.Statement.{statement}
 use Rattle.record.proofs.meaning.isobaric_surface.Tie as tie
 
-pub isobaric-surface-spec : {M : Type 1} → statement M
-isobaric-surface-spec =
+pub isobaric_surface_spec : {M : Type 1} → statement M
+isobaric_surface_spec =
     tie.close
     (tie.spec
     (λ c. rw (eq-eqb _ _ c.if1.true))

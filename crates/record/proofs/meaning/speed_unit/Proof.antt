@@ -4,8 +4,8 @@ use borrow.Author.Rules.{rules}
 use Rattle.record.proofs.meaning.speed_unit.Statement.{statement}
 use Rattle.record.proofs.meaning.speed_unit.Tie as tie
 
-pub speed-unit-spec : {M : Type 1} → statement M
-speed-unit-spec =
+pub speed_unit_spec : {M : Type 1} → statement M
+speed_unit_spec =
     tie.close
     (tie.spec
     (λ c. search rules) (λ c. search rules)

@@ -7,8 +7,8 @@ use Rattle.report_record.proofs.answer.blank_report.Tie as tie
 returns : tie.Need-returns
 returns c = rw (c.blank-taf.ensures, c.before.blank-metar.ensures, c.before.before.blank-synop.ensures)
 
-pub blank-report-spec : {M : Type 1} → statement M
-blank-report-spec =
+pub blank_report_spec : {M : Type 1} → statement M
+blank_report_spec =
     tie.close
     (tie.spec
     (λ c κs. search rules) (λ c κs. search rules) (λ c κs. search rules) returns)

@@ -7,7 +7,7 @@ use Rattle.report_record.proofs.answer.of_forecast.Tie as tie
 returns : tie.Need-returns
 returns c = rw (c.blank-report.ensures, c.before.kind-by.ensures)
 
-pub of-forecast-spec : {M : Type 1} → statement M
-of-forecast-spec =
+pub of_forecast_spec : {M : Type 1} → statement M
+of_forecast_spec =
     tie.close
     (tie.spec (λ c κs. search rules) (λ c κs. search rules) returns)

@@ -7,7 +7,7 @@ use Rattle.report_record.proofs.answer.of_observed.Tie as tie
 returns : tie.Need-returns
 returns c = rw (c.blank-report.ensures, c.before.kind-by.ensures)
 
-pub of-observed-spec : {M : Type 1} → statement M
-of-observed-spec =
+pub of_observed_spec : {M : Type 1} → statement M
+of_observed_spec =
     tie.close
     (tie.spec (λ c κs. search rules) (λ c κs. search rules) returns)

@@ -7,7 +7,7 @@ use Rattle.report_record.proofs.answer.of_surface.Tie as tie
 returns : tie.Need-returns
 returns c = rw (c.blank-report.ensures, c.before.kind-by.ensures)
 
-pub of-surface-spec : {M : Type 1} → statement M
-of-surface-spec =
+pub of_surface_spec : {M : Type 1} → statement M
+of_surface_spec =
     tie.close
     (tie.spec (λ c κs. search rules) (λ c κs. search rules) returns)

@@ -7,7 +7,7 @@ use Rattle.report_record.proofs.answer.refuse.Tie as tie
 returns : tie.Need-returns
 returns c = rw c.blank-report.ensures
 
-pub refuse-spec : {M : Type 1} → statement M
-refuse-spec =
+pub refuse_spec : {M : Type 1} → statement M
+refuse_spec =
     tie.close
     (tie.spec (λ c κs. search rules) returns)

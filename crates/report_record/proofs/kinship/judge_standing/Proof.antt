@@ -3,21 +3,21 @@
 use borrow.Author.Rules.{rules}
 use mathlib.Core.Path.{sym, ◌∙◌}
 use mathlib.Core.Bool.{true, false}
-use Rattle.report_record.specs.Kinship.{judgeStanding}
+use Rattle.report_record.specs.Kinship.{judge_standing}
 use Rattle.report_record.proofs.kinship.judge_standing.Statement.{statement}
 use Rattle.report_record.proofs.kinship.judge_standing.Tie as tie
 
 returns : tie.Need-returns
-returns c = unfold judgeStanding in rw (← c.before.corrects.ensures, c.if1.true)
+returns c = unfold judge_standing in rw (← c.before.corrects.ensures, c.if1.true)
 
 returns-2 : tie.Need-returns-2
-returns-2 c = unfold judgeStanding in rw (← c.before.before.before.before.corrects.ensures, c.before.before.before.if1.false, ← c.before.before.is-observed.ensures, ← c.before.is-forecast.ensures, c.if2.true)
+returns-2 c = unfold judge_standing in rw (← c.before.before.before.before.corrects.ensures, c.before.before.before.if1.false, ← c.before.before.is-observed.ensures, ← c.before.is-forecast.ensures, c.if2.true)
 
 returns-3 : tie.Need-returns-3
-returns-3 c = unfold judgeStanding in rw (← c.before.before.before.before.corrects.ensures, c.before.before.before.if1.false, ← c.before.before.is-observed.ensures, ← c.before.is-forecast.ensures, c.if2.false)
+returns-3 c = unfold judge_standing in rw (← c.before.before.before.before.corrects.ensures, c.before.before.before.if1.false, ← c.before.before.is-observed.ensures, ← c.before.is-forecast.ensures, c.if2.false)
 
-pub judge-standing-spec : {M : Type 1} → statement M
-judge-standing-spec =
+pub judge_standing_spec : {M : Type 1} → statement M
+judge_standing_spec =
     tie.close
     (tie.spec
     (λ c κs. search rules) returns (λ c κs. search rules) (λ c κs. search rules) returns-2 returns-3)

@@ -7,8 +7,8 @@ use Rattle.report_record.proofs.kinship.metar_corrects.Tie as tie
 returns : tie.Need-returns
 returns c = rw (c.same-instant.ensures, c.before.same-station.ensures, c.before.before.before.is-alike.ensures)
 
-pub metar-corrects-spec : {M : Type 1} → statement M
-metar-corrects-spec =
+pub metar_corrects_spec : {M : Type 1} → statement M
+metar_corrects_spec =
     tie.close
     (tie.spec
     (λ c κs. search rules) (λ c κs. search rules) (λ c κs. search rules) returns)

@@ -7,5 +7,5 @@ use Rattle.report_record.proofs.kinship.same_instant.Tie as tie
 returns : tie.Need-returns
 returns c = rw (c.before.before.same_number.ensures, c.before.same-number2.ensures, c.same-number3.ensures)
 
-pub same-instant-spec : {M : Type 1} → statement M
-same-instant-spec = tie.close (tie.spec (λ c κs. search rules) (λ c κs. search rules) (λ c κs. search rules) returns)
+pub same_instant_spec : {M : Type 1} → statement M
+same_instant_spec = tie.close (tie.spec (λ c κs. search rules) (λ c κs. search rules) (λ c κs. search rules) returns)

@@ -7,8 +7,8 @@ use Rattle.report_record.proofs.kinship.same_number.Tie as tie
 returns-4 : tie.Need-returns-4
 returns-4 c = rw (c.before.before.before.before.a.given.1, c.before.b.given.1)
 
-pub same-number-spec : {M : Type 1} → statement M
-same-number-spec =
+pub same_number_spec : {M : Type 1} → statement M
+same_number_spec =
     tie.close
     (tie.spec
     (λ c. search rules) (λ c. search rules) (λ c. search rules) (λ c. search rules) (λ c. search rules) (λ c. search rules) (λ c. search rules) (λ c. search rules) (λ c. search rules) returns-4)

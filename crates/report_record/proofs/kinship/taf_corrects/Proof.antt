@@ -7,8 +7,8 @@ use Rattle.report_record.proofs.kinship.taf_corrects.Tie as tie
 returns : tie.Need-returns
 returns c = rw (c.same-instant.ensures, c.before.same-station.ensures, c.before.before.is-corrected.ensures)
 
-pub taf-corrects-spec : {M : Type 1} → statement M
-taf-corrects-spec =
+pub taf_corrects_spec : {M : Type 1} → statement M
+taf_corrects_spec =
     tie.close
     (tie.spec
     (λ c κs. search rules) (λ c κs. search rules) (λ c κs. search rules) returns)

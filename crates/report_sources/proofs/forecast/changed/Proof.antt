@@ -4,8 +4,8 @@ use borrow.Author.Rules.{rules}
 use Rattle.report_sources.proofs.forecast.changed.Statement.{statement}
 use Rattle.report_sources.proofs.forecast.changed.Tie as tie
 
-pub changed-spec : {M : Type 1} → statement M
-changed-spec =
+pub changed_spec : {M : Type 1} → statement M
+changed_spec =
     tie.close
     (tie.spec
     (λ c κs. search rules) (λ c κs. search rules) (λ c κs. search rules)

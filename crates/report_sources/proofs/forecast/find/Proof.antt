@@ -1,7 +1,7 @@
 -- `report_sources::forecast::find` meets its contract, by the kind.
 -- Assumes nothing.
 use borrow.Author.Rules.{rules}
-use Rattle.report_sources.specs.Forecasts.{forecastAt}
+use Rattle.report_sources.specs.Forecasts.{forecast_at}
 use Rattle.report_sources.proofs.forecast.find.Statement.{statement}
 use Rattle.report_sources.proofs.forecast.find.Tie as tie
 
@@ -10,7 +10,7 @@ find_spec =
     tie.close
     (tie.spec
     (λ c κs. search rules) (λ c. search rules) (λ c. search rules) (λ c. search rules) (λ c. search rules) (λ c κs. search rules)
-    (λ c. unfold forecastAt in rw (← c.before.before.before.read-in.ensures, c.enum_told.given.1))
-    (λ c. unfold forecastAt in rw (← c.before.before.before.read-in.ensures, c.enum-told2.given.1))
-    (λ c. unfold forecastAt in rw (← c.before.before.before.read-in.ensures, c.enum-told3.given.1))
-    (λ c. unfold forecastAt in rw (← c.before.before.before.before.read-in.ensures, c.before.enum-told4.given.1) c.find.ensures))
+    (λ c. unfold forecast_at in rw (← c.before.before.before.read-in.ensures, c.enum_told.given.1))
+    (λ c. unfold forecast_at in rw (← c.before.before.before.read-in.ensures, c.enum-told2.given.1))
+    (λ c. unfold forecast_at in rw (← c.before.before.before.read-in.ensures, c.enum-told3.given.1))
+    (λ c. unfold forecast_at in rw (← c.before.before.before.before.read-in.ensures, c.before.enum-told4.given.1) c.find.ensures))

@@ -4,8 +4,8 @@ use borrow.Author.Rules.{rules}
 use Rattle.report_sources.proofs.forecast.opened.Statement.{statement}
 use Rattle.report_sources.proofs.forecast.opened.Tie as tie
 
-pub opened-spec : {M : Type 1} → statement M
-opened-spec =
+pub opened_spec : {M : Type 1} → statement M
+opened_spec =
     tie.close
     (tie.spec
     (λ c κs. search rules) (λ c κs. search rules)

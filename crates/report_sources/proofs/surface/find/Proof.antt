@@ -1,7 +1,7 @@
 -- `report_sources::surface::find` meets its contract, by the kind.
 -- Assumes nothing.
 use borrow.Author.Rules.{rules}
-use Rattle.report_sources.specs.Surface.{surfaceAt}
+use Rattle.report_sources.specs.Surface.{surface_at}
 use Rattle.report_sources.proofs.surface.find.Statement.{statement}
 use Rattle.report_sources.proofs.surface.find.Tie as tie
 
@@ -10,7 +10,7 @@ find_spec =
     tie.close
     (tie.spec
     (λ c κs. search rules) (λ c. search rules) (λ c. search rules) (λ c κs. search rules) (λ c. search rules) (λ c. search rules)
-    (λ c. unfold surfaceAt in rw (← c.before.before.before.read.ensures, c.enum_told.given.1))
-    (λ c. unfold surfaceAt in rw (← c.before.before.before.before.read.ensures, c.before.enum-told2.given.1) c.find.ensures)
-    (λ c. unfold surfaceAt in rw (← c.before.before.before.read.ensures, c.enum-told3.given.1))
-    (λ c. unfold surfaceAt in rw (← c.before.before.before.read.ensures, c.enum-told4.given.1)))
+    (λ c. unfold surface_at in rw (← c.before.before.before.read.ensures, c.enum_told.given.1))
+    (λ c. unfold surface_at in rw (← c.before.before.before.before.read.ensures, c.before.enum-told2.given.1) c.find.ensures)
+    (λ c. unfold surface_at in rw (← c.before.before.before.read.ensures, c.enum-told3.given.1))
+    (λ c. unfold surface_at in rw (← c.before.before.before.read.ensures, c.enum-told4.given.1)))

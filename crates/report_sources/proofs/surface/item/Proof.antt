@@ -4,8 +4,8 @@ use borrow.Author.Rules.{rules}
 use Rattle.report_sources.proofs.surface.item.Statement.{statement}
 use Rattle.report_sources.proofs.surface.item.Tie as tie
 
-pub item-spec : {M : Type 1} → statement M
-item-spec =
+pub item_spec : {M : Type 1} → statement M
+item_spec =
     tie.close
     (tie.spec
     (λ c κs. search rules) (λ c κs. search rules) (λ c κs. search rules) (λ c κs. search rules)

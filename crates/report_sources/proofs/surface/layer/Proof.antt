@@ -4,8 +4,8 @@ use borrow.Author.Rules.{rules}
 use Rattle.report_sources.proofs.surface.layer.Statement.{statement}
 use Rattle.report_sources.proofs.surface.layer.Tie as tie
 
-pub layer-spec : {M : Type 1} → statement M
-layer-spec =
+pub layer_spec : {M : Type 1} → statement M
+layer_spec =
     tie.close
     (tie.spec
     (λ c κs. search rules) (λ c κs. search rules)

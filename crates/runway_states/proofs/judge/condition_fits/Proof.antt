@@ -4,8 +4,8 @@ use borrow.Author.Rules.{rules}
 use Rattle.runway_states.proofs.judge.condition_fits.Statement.{statement}
 use Rattle.runway_states.proofs.judge.condition_fits.Tie as tie
 
-pub condition-fits-spec : {M : Type 1} → statement M
-condition-fits-spec =
+pub condition_fits_spec : {M : Type 1} → statement M
+condition_fits_spec =
     tie.close
     (tie.spec
     (λ c. search rules) (λ c. search rules) (λ c κs. tt) (λ c κs. tt) (λ c κs. tt) (λ c κs. tt)

@@ -4,8 +4,8 @@ use borrow.Author.Rules.{rules}
 use Rattle.runway_states.proofs.judge.depth_fits.Statement.{statement}
 use Rattle.runway_states.proofs.judge.depth_fits.Tie as tie
 
-pub depth-fits-spec : {M : Type 1} → statement M
-depth-fits-spec =
+pub depth_fits_spec : {M : Type 1} → statement M
+depth_fits_spec =
     tie.close
     (tie.spec
     (λ c. search rules) (λ c. search rules) (λ c. search rules)

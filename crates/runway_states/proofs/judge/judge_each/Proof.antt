@@ -9,12 +9,12 @@ use borrow.Author.Rules.{rules}
 use Rattle.text.specs.Judge.{judge}
 use Rattle.elements.proofs.Lists.{each_next, each-stop, each-end}
 use Rattle.record.specs.declared.aerodrome.RunwayState.{RunwayState}
-use Rattle.runway_states.specs.State.{stateFits, judgeEachState}
+use Rattle.runway_states.specs.State.{state_fits, judge_each_state}
 use Rattle.runway_states.proofs.judge.judge_each.Statement.{statement}
 use Rattle.runway_states.proofs.judge.judge_each.Tie as tie
 
 abbrev Inv : tie.invariant-loop
-Inv ss n items i₀ i = (i ≤ n) × (judgeEachState ss.snoclo (take n items) ≡ judgeEachState ss.snoclo (drop i (take n items)))
+Inv ss n items i₀ i = (i ≤ n) × (judge_each_state ss.snoclo (take n items) ≡ judge_each_state ss.snoclo (drop i (take n items)))
 
 abbrev μ : tie.decreases-loop
 μ ss n items i₀ i = n - i
@@ -25,8 +25,8 @@ slots c =
     let four : length c.args.ss.items ≡ 4 = simp length-map at c.well-formed.0.1.1.0.1.0.1 in
     omega (arith, c.requires)
 
-pub judge-each-spec : {M : Type 1} → statement M
-judge-each-spec =
+pub judge_each_spec : {M : Type 1} → statement M
+judge_each_spec =
     tie.close
     (tie.spec
     Inv μ
@@ -37,16 +37,16 @@ judge-each-spec =
     let a = d.before.before.args in
     let b = a.ss.snoclo in (
       search rules,
-      each_next (λ (s : RunwayState). judge (stateFits s) (not b)) (judgeEachState b) refl (λ x xs. refl) a.ss.items a.n (slots d.before.before) d.loop.i d.loop.invariant.1 _ (omega arith) (ap (λ (x : Bool). judge x (not b)) (sym c.before.before.before.before.state-fits.ensures) ∙ sym c.before.before.judge.ensures ∙ c.enum_told.given.1),
+      each_next (λ (s : RunwayState). judge (state_fits s) (not b)) (judge_each_state b) refl (λ x xs. refl) a.ss.items a.n (slots d.before.before) d.loop.i d.loop.invariant.1 _ (omega arith) (ap (λ (x : Bool). judge x (not b)) (sym c.before.before.before.before.state-fits.ensures) ∙ sym c.before.before.judge.ensures ∙ c.enum_told.given.1),
     ))
     (λ c. search rules)
     (λ c.
     let d = c.before.before.before.before.before.before.before.before in
     let a = d.before.before.args in
     let b = a.ss.snoclo in
-    each-stop (λ (s : RunwayState). judge (stateFits s) (not b)) (judgeEachState b) refl (λ x xs. refl) a.ss.items a.n (slots d.before.before) d.loop.i d.loop.invariant.1 _ (omega arith) (ap (λ (x : Bool). judge x (not b)) (sym c.before.before.before.before.before.state-fits.ensures) ∙ sym c.before.before.before.judge.ensures ∙ c.before.judged.given.1))
+    each-stop (λ (s : RunwayState). judge (state_fits s) (not b)) (judge_each_state b) refl (λ x xs. refl) a.ss.items a.n (slots d.before.before) d.loop.i d.loop.invariant.1 _ (omega arith) (ap (λ (x : Bool). judge x (not b)) (sym c.before.before.before.before.before.state-fits.ensures) ∙ sym c.before.before.before.judge.ensures ∙ c.before.judged.given.1))
     (λ c.
     let d = c.before in
     let a = d.before.before.args in
     let b = a.ss.snoclo in
-    each-end (λ (s : RunwayState). judge (stateFits s) (not b)) (judgeEachState b) refl (λ x xs. refl) a.ss.items a.n (slots d.before.before) d.loop.i d.loop.invariant.1 (omega arith)))
+    each-end (λ (s : RunwayState). judge (state_fits s) (not b)) (judge_each_state b) refl (λ x xs. refl) a.ss.items a.n (slots d.before.before) d.loop.i d.loop.invariant.1 (omega arith)))

@@ -4,8 +4,8 @@
 use Rattle.runway_states.proofs.judge.state_fits.Statement.{statement}
 use Rattle.runway_states.proofs.judge.state_fits.Tie as tie
 
-pub state-fits-spec : {M : Type 1} → statement M
-state-fits-spec =
+pub state_fits_spec : {M : Type 1} → statement M
+state_fits_spec =
     tie.close
     (tie.spec
     (λ c κs. tt) (λ c κs. tt)

@@ -5,8 +5,8 @@ use borrow.Author.Tests.{lt-ltb, le-ltb}
 use Rattle.runway_states.proofs.read.add_state.Statement.{statement}
 use Rattle.runway_states.proofs.read.add_state.Tie as tie
 
-pub add-state-spec : {M : Type 1} → statement M
-add-state-spec =
+pub add_state_spec : {M : Type 1} → statement M
+add_state_spec =
     tie.close
     (tie.spec
     (λ c. search rules) (λ c. search rules) (λ c. search rules)

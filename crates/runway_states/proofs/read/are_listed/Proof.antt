@@ -4,8 +4,8 @@
 use Rattle.runway_states.proofs.read.are_listed.Statement.{statement}
 use Rattle.runway_states.proofs.read.are_listed.Tie as tie
 
-pub are-listed-spec : {M : Type 1} → statement M
-are-listed-spec =
+pub are_listed_spec : {M : Type 1} → statement M
+are_listed_spec =
     tie.close
     (tie.spec
     (λ c κs. tt) (λ c κs. tt) (λ c κs. tt)

@@ -5,8 +5,8 @@ use borrow.Author.Tests.{ne_eqb}
 use Rattle.runway_states.proofs.read.depth_by.Statement.{statement}
 use Rattle.runway_states.proofs.read.depth_by.Tie as tie
 
-pub depth-by-spec : {M : Type 1} → statement M
-depth-by-spec =
+pub depth_by_spec : {M : Type 1} → statement M
+depth_by_spec =
     tie.close
     (tie.spec
     (λ c. rw c.if1.true)

@@ -3,13 +3,13 @@
 use borrow.Author.Rules.{rules}
 use mathlib.Core.Path.{◌≡◌, sym, ap, ◌∙◌}
 use mathlib.Core.Bool.{Bool, ◌||◌, or-false}
-use Rattle.shapes.specs.Pattern.{hasAny}
+use Rattle.shapes.specs.Pattern.{has_any}
 use Rattle.runway_states.proofs.read.has_state.Statement.{statement}
 use Rattle.runway_states.proofs.read.has_state.Tie as tie
 
-pub has-state-spec : {M : Type 1} → statement M
-has-state-spec =
+pub has_state_spec : {M : Type 1} → statement M
+has_state_spec =
     tie.close
     (tie.spec
     (λ c. search rules) (λ c κs. search rules) (λ c. search rules) (λ c κs. search rules)
-    (λ c. unfold hasAny in rw (c.before.before.has-pattern.ensures, c.has-pattern2.ensures, or-false)))
+    (λ c. unfold has_any in rw (c.before.before.has-pattern.ensures, c.has-pattern2.ensures, or-false)))

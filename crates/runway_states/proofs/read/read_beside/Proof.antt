@@ -2,15 +2,15 @@
 -- Assumes nothing.
 use borrow.Author.Rules.{rules}
 use mathlib.Core.Path.{sym, ◌∙◌}
-use Rattle.runway_states.specs.State.{readState}
+use Rattle.runway_states.specs.State.{read_state}
 use Rattle.runway_states.proofs.Readings.{state-is}
 use Rattle.runway_states.proofs.read.read_beside.Statement.{statement}
 use Rattle.runway_states.proofs.read.read_beside.Tie as tie
 
-pub read-beside-spec : {M : Type 1} → statement M
-read-beside-spec =
+pub read_beside_spec : {M : Type 1} → statement M
+read_beside_spec =
     tie.close
     (tie.spec
     (λ c κs. search rules) (λ c. search rules) (λ c. search rules)
-    (λ c. rw (state-is (readState c.before.before.before.before.args.g.now) (sym c.enum_told.given.1 ∙ c.before.before.state-of.ensures)))
-    (λ c. rw (state-is (readState c.before.before.before.before.before.args.g.now) (sym c.before.read.given.1 ∙ c.before.before.before.state-of.ensures))))
+    (λ c. rw (state-is (read_state c.before.before.before.before.args.g.now) (sym c.enum_told.given.1 ∙ c.before.before.state-of.ensures)))
+    (λ c. rw (state-is (read_state c.before.before.before.before.before.args.g.now) (sym c.before.read.given.1 ∙ c.before.before.before.state-of.ensures))))

@@ -4,8 +4,8 @@ use borrow.Author.Rules.{rules}
 use Rattle.runway_states.proofs.read.read_depth.Statement.{statement}
 use Rattle.runway_states.proofs.read.read_depth.Tie as tie
 
-pub read-depth-spec : {M : Type 1} → statement M
-read-depth-spec =
+pub read_depth_spec : {M : Type 1} → statement M
+read_depth_spec =
     tie.close
     (tie.spec
     (λ c. search rules) (λ c κs. search rules) (λ c. search rules) (λ c. search rules) (λ c. search rules)

@@ -5,8 +5,8 @@ use borrow.Author.Tests.{ne_eqb}
 use Rattle.runway_states.proofs.read.say_snoclo.Statement.{statement}
 use Rattle.runway_states.proofs.read.say_snoclo.Tie as tie
 
-pub say-snoclo-spec : {M : Type 1} → statement M
-say-snoclo-spec =
+pub say_snoclo_spec : {M : Type 1} → statement M
+say_snoclo_spec =
     tie.close
     (tie.spec
     (λ c. rw c.if1.true)

@@ -4,8 +4,8 @@ use borrow.Author.Rules.{rules}
 use Rattle.runway_states.proofs.write.depth_field.Statement.{statement}
 use Rattle.runway_states.proofs.write.depth_field.Tie as tie
 
-pub depth-field-spec : {M : Type 1} → statement M
-depth-field-spec =
+pub depth_field_spec : {M : Type 1} → statement M
+depth_field_spec =
     tie.close
     (tie.spec
     (λ c. search rules) (λ c. search rules) (λ c. search rules) (λ c κs. search rules) (λ c. search rules) (λ c. search rules)

@@ -5,8 +5,8 @@ use Rattle.figures.proofs.Puts.{then}
 use Rattle.runway_states.proofs.write.put_condition.Statement.{statement}
 use Rattle.runway_states.proofs.write.put_condition.Tie as tie
 
-pub put-condition-spec : {M : Type 1} → statement M
-put-condition-spec =
+pub put_condition_spec : {M : Type 1} → statement M
+put_condition_spec =
     tie.close
     (tie.spec
     (λ c. search rules) (λ c. search rules) (λ c κs. tt) (λ c. search rules) (λ c κs. tt) (λ c κs. search rules) (λ c κs. tt) (λ c κs. search rules) (λ c κs. tt) (λ c κs. search rules) (λ c κs. tt)

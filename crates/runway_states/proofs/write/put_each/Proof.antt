@@ -12,12 +12,12 @@ use Rattle.text.specs.Groups.{written}
 use Rattle.places.proofs.Delivered.{one_more}
 use Rattle.record.specs.declared.aerodrome.RunwayState.{RunwayState}
 use Rattle.record.proofs.Counted.{take-most}
-use Rattle.runway_states.specs.State.{showState}
+use Rattle.runway_states.specs.State.{show_state}
 use Rattle.runway_states.proofs.write.put_each.Statement.{statement}
 use Rattle.runway_states.proofs.write.put_each.Tie as tie
 
 abbrev Inv : tie.invariant-loop
-Inv out₀ at count items end next₀ i₀ out next i = (i ≤ end) × (end ≡ min count 4) × Put out₀ at (written at (map showState (take i items))) next out
+Inv out₀ at count items end next₀ i₀ out next i = (i ≤ end) × (end ≡ min count 4) × Put out₀ at (written at (map show_state (take i items))) next out
 
 abbrev μ : tie.decreases-loop
 μ out₀ at count items end next₀ i₀ out next i = end - i
@@ -26,8 +26,8 @@ abbrev μ : tie.decreases-loop
 four : (c : tie.Start Inv μ) → length c.args.t3 ≡ 4
 four c = search rules
 
-pub put-each-spec : {M : Type 1} → statement M
-put-each-spec =
+pub put_each_spec : {M : Type 1} → statement M
+put_each_spec =
     tie.close
     (tie.spec Inv μ
     (λ c κs. tt)
@@ -36,7 +36,7 @@ put-each-spec =
     (λ c. (
       omega arith,
       c.before.before.before.before.before.before.before.at-most-four.ensures,
-      one_more (λ (w : RunwayState). showState w ∷ []) (map showState) refl (λ w ws. refl) c.before.before.before.before.before.before.before.before.before.args.t3 c.before.before.before.before.before.before.loop.i _ (omega (arith, four c.before.before.before.before.before.before.before.before.before)) c.before.before.before.before.before.before.loop.invariant.2 c.before.before.put-state.ensures,
+      one_more (λ (w : RunwayState). show_state w ∷ []) (map show_state) refl (λ w ws. refl) c.before.before.before.before.before.before.before.before.before.args.t3 c.before.before.before.before.before.before.loop.i _ (omega (arith, four c.before.before.before.before.before.before.before.before.before)) c.before.before.before.before.before.before.loop.invariant.2 c.before.before.put-state.ensures,
     ))
     (λ c. length-put c.before.loop.invariant.2)
     (λ c.

@@ -3,13 +3,13 @@
 use borrow.Author.Rules.{rules}
 use Rattle.figures.proofs.Puts.{then}
 use Rattle.text.proofs.Writes.{write-group}
-use Rattle.runway_states.specs.State.{showState}
+use Rattle.runway_states.specs.State.{show_state}
 use Rattle.runway_states.proofs.write.put_state.Statement.{statement}
 use Rattle.runway_states.proofs.write.put_state.Tie as tie
 
-pub put-state-spec : {M : Type 1} → statement M
-put-state-spec =
+pub put_state_spec : {M : Type 1} → statement M
+put_state_spec =
     tie.close
     (tie.spec
     (λ c κs. tt) (λ c κs. tt) (λ c κs. tt) (λ c. search rules)
-    (λ c. unfold showState in write-group c.before.before.before.before.before.before.before.before.before.before.open-group.ensures (then c.before.before.before.before.before.before.put_two.ensures c.before.before.put-condition.ensures)))
+    (λ c. unfold show_state in write-group c.before.before.before.before.before.before.before.before.before.before.open-group.ensures (then c.before.before.before.before.before.before.put_two.ensures c.before.before.put-condition.ensures)))

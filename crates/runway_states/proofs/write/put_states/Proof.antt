@@ -2,13 +2,13 @@
 -- Assumes nothing.
 use borrow.Author.Rules.{rules}
 use Rattle.text.proofs.Writes.{write-groups}
-use Rattle.runway_states.specs.State.{showStates}
+use Rattle.runway_states.specs.State.{show_states}
 use Rattle.runway_states.proofs.write.put_states.Statement.{statement}
 use Rattle.runway_states.proofs.write.put_states.Tie as tie
 
-pub put-states-spec : {M : Type 1} → statement M
-put-states-spec =
+pub put_states_spec : {M : Type 1} → statement M
+put_states_spec =
     tie.close
     (tie.spec
     (λ c κs. search rules) (λ c. search rules) (λ c κs. tt) (λ c. search rules)
-    (λ c. unfold showStates in write-groups _ _ c.before.before.before.before.before.before.before.put-each.ensures c.before.before.put_if.ensures))
+    (λ c. unfold show_states in write-groups _ _ c.before.before.before.before.before.before.before.put-each.ensures c.before.before.put_if.ensures))

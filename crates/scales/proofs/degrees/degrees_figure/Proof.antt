@@ -22,8 +22,8 @@ module _ {t : ℤ} (f : SFits w32 t) where
   sign : {r b : Bool} → r ≡ negative (to_z w32 (of_z w32 t)) → r ≡ b → negative t ≡ b
   sign e g = sym (e ∙ ap negative (to_z-of_z f)) ∙ g
 
-pub degrees-figure-spec : {M : Type 1} → statement M
-degrees-figure-spec =
+pub degrees_figure_spec : {M : Type 1} → statement M
+degrees_figure_spec =
     tie.close
     (tie.spec
     (λ c κs. search rules) (λ c κs. search rules) (λ c. search rules) (λ c. search rules)

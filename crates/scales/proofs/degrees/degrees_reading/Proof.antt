@@ -7,8 +7,8 @@ use Rattle.scales.proofs.DegreesLaws.{too-great, minus-zero, whole-read}
 use Rattle.scales.proofs.degrees.degrees_reading.Statement.{statement}
 use Rattle.scales.proofs.degrees.degrees_reading.Tie as tie
 
-pub degrees-reading-spec : {M : Type 1} → statement M
-degrees-reading-spec =
+pub degrees_reading_spec : {M : Type 1} → statement M
+degrees_reading_spec =
     tie.close
     (tie.spec
     (λ c κs. search rules) (λ c. search rules) (λ c κs. search rules)

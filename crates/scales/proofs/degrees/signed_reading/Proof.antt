@@ -7,8 +7,8 @@ use Rattle.scales.proofs.DegreesLaws.{many-figures, plus-read, minus-none, minus
 use Rattle.scales.proofs.degrees.signed_reading.Statement.{statement}
 use Rattle.scales.proofs.degrees.signed_reading.Tie as tie
 
-pub signed-reading-spec : {M : Type 1} → statement M
-signed-reading-spec =
+pub signed_reading_spec : {M : Type 1} → statement M
+signed_reading_spec =
     tie.close
     (tie.spec
     (λ c κs. search rules) (λ c κs. search rules)

@@ -30,8 +30,8 @@ module _ (s : Bool) (m : ℕ) (h : m ≤ 999) {r : Signed} (e : r ≡ signed_of 
       let i : signed.Is (with_sign s m) ≡ signed_of s m = signed-in s m (omega arith) in
       impossible (cc)
 
-pub tenths-of-spec : {M : Type 1} → statement M
-tenths-of-spec =
+pub tenths_of_spec : {M : Type 1} → statement M
+tenths_of_spec =
     tie.close
     (tie.spec
     (λ c κs. search rules) (λ c. search rules) (λ c. search rules)

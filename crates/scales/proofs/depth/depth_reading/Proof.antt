@@ -7,8 +7,8 @@ use Prim.Native.Nat.{ℕ, ◌-◌, ◌*◌, ◌≤◌, ◌<◌}
 use native.Mathlib.Omega.{arith}
 use lib.Dec.{eqb}
 use borrow.Author.Rules.{rules}
-use Rattle.scales.specs.Scale.{None, run, readIn}
-use Rattle.scales.specs.Metres.{metresReading}
+use Rattle.scales.specs.Scale.{None, run, read_in}
+use Rattle.scales.specs.Metres.{metres_reading}
 use Rattle.scales.specs.Depth.{depth}
 use Rattle.scales.specs.declared.kinds.Reading.TheVariants as reading
 use Rattle.scales.proofs.Answers.{read_is, foot-is}
@@ -17,11 +17,11 @@ use Rattle.scales.proofs.depth.depth_reading.Statement.{statement}
 use Rattle.scales.proofs.depth.depth_reading.Tie as tie
 
 module _ (f : ℕ) where
-  by-1 : f ≤ 90 → reading.Is f ≡ metresReading depth f
+  by-1 : f ≤ 90 → reading.Is f ≡ metres_reading depth f
   unfolding depth run
   by-1 h = foot-is depth f (meet 1 1 f 91 0 0 _ f (omega arith) (omega arith) (omega arith)) (omega arith)
 
-  by-50 : 92 ≤ f → f ≤ 98 → reading.Is ((f - 90) * 50) ≡ metresReading depth f
+  by-50 : 92 ≤ f → f ≤ 98 → reading.Is ((f - 90) * 50) ≡ metres_reading depth f
   unfolding depth run
   by-50 l h =
       foot-is
@@ -31,11 +31,11 @@ module _ (f : ℕ) where
       ∙ meet 50 1 f 7 100 92 [] (f - 92) (omega arith) (omega arith) (omega arith))
       (omega arith)
 
-  unread : readIn eqb [] f ≡ None
-  unfolding readIn
+  unread : read_in eqb [] f ≡ None
+  unfolding read_in
   unread = refl
 
-  unused : 90 < f → (f < 92) ⊎ (98 < f) → reading.Unused ≡ metresReading depth f
+  unused : 90 < f → (f < 92) ⊎ (98 < f) → reading.Unused ≡ metres_reading depth f
   unfolding depth run
   unused l h =
       read_is
@@ -45,8 +45,8 @@ module _ (f : ℕ) where
       ∙ skip 50 1 f 7 100 92 [] (λ k m e. ⊎_elim (λ w. omega arith) (λ w. omega arith) h)
       ∙ unread)
 
-pub depth-reading-spec : {M : Type 1} → statement M
-depth-reading-spec =
+pub depth_reading_spec : {M : Type 1} → statement M
+depth_reading_spec =
     tie.close
     (tie.spec
     (λ c. search rules) (λ c. search rules)

@@ -8,8 +8,8 @@ use Rattle.scales.proofs.DirectionLaws.{north-written, tens-written, none_writte
 use Rattle.scales.proofs.direction.direction_figure.Statement.{statement}
 use Rattle.scales.proofs.direction.direction_figure.Tie as tie
 
-pub direction-figure-spec : {M : Type 1} → statement M
-direction-figure-spec =
+pub direction_figure_spec : {M : Type 1} → statement M
+direction_figure_spec =
     tie.close
     (tie.spec
     (λ c. search rules)

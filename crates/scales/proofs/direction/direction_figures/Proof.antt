@@ -4,7 +4,7 @@ use mathlib.Core.Path.{refl, sym, ◌∙◌}
 use Prim.Native.Nat.{◌≤◌}
 use native.Mathlib.Omega.{arith}
 use borrow.Author.Rules.{rules}
-use Rattle.figures.specs.Figures.{fieldText}
+use Rattle.figures.specs.Figures.{field_text}
 use Rattle.scales.proofs.DirectionLaws.{figure-most, two-figures}
 use Rattle.scales.proofs.direction.direction_figures.Statement.{statement}
 use Rattle.scales.proofs.direction.direction_figures.Tie as tie
@@ -12,9 +12,9 @@ use Rattle.scales.proofs.direction.direction_figures.Tie as tie
 most : (c : tie.After-known-told) → c.before.f.given.0.0 ≤ 36
 most c = figure-most _ _ (sym c.before.before.before.direction-figure.ensures ∙ c.before.f.given.1)
 
-pub direction-figures-spec : {M : Type 1} → statement M
-unfolding fieldText
-direction-figures-spec =
+pub direction_figures_spec : {M : Type 1} → statement M
+unfolding field_text
+direction_figures_spec =
     tie.close
     (tie.spec
     (λ c κs. search rules)

@@ -7,8 +7,8 @@ use Rattle.scales.proofs.DirectionLaws.{read, none_read}
 use Rattle.scales.proofs.direction.direction_reading.Statement.{statement}
 use Rattle.scales.proofs.direction.direction_reading.Tie as tie
 
-pub direction-reading-spec : {M : Type 1} → statement M
-direction-reading-spec =
+pub direction_reading_spec : {M : Type 1} → statement M
+direction_reading_spec =
     tie.close
     (tie.spec
     (λ c. search rules)

@@ -6,8 +6,8 @@ use native.Mathlib.Omega.{arith}
 use lib.Dec.{leb}
 use borrow.Author.Rules.{rules}
 use borrow.Author.Tests.{leb-true}
-use Rattle.scales.specs.Scale.{figureOf}
-use Rattle.scales.specs.Metres.{base, metresFigure}
+use Rattle.scales.specs.Scale.{figure_of}
+use Rattle.scales.specs.Metres.{base, metres_figure}
 use Rattle.scales.specs.declared.kinds.Figure.TheVariants as figure
 use Rattle.scales.proofs.Laws.{figure-such}
 use Rattle.scales.proofs.Answers.{figure-told}
@@ -16,11 +16,11 @@ use Rattle.scales.proofs.layers.bands_figure.Statement.{statement}
 use Rattle.scales.proofs.layers.bands_figure.Tie as tie
 
 -- a figure of 1600 h has one figure
-low : (v : ℕ) {f : ℕ} → metresFigure base v ≡ figure.Is f → f ≤ 9
-low v e = rw (figure-told base v e) (leb-true (figureOf base v) 9 (figure-such (λ f. leb f 9) base v (unfold base in refl)))
+low : (v : ℕ) {f : ℕ} → metres_figure base v ≡ figure.Is f → f ≤ 9
+low v e = rw (figure-told base v e) (leb-true (figure_of base v) 9 (figure-such (λ f. leb f 9) base v (unfold base in refl)))
 
-pub bands-figure-spec : {M : Type 1} → statement M
-bands-figure-spec =
+pub bands_figure_spec : {M : Type 1} → statement M
+bands_figure_spec =
     tie.close
     (tie.spec
     (λ c κs. search rules)

@@ -7,8 +7,8 @@ use Rattle.scales.proofs.LayersLaws.{read-bands, unused-bands}
 use Rattle.scales.proofs.layers.bands_reading.Statement.{statement}
 use Rattle.scales.proofs.layers.bands_reading.Tie as tie
 
-pub bands-reading-spec : {M : Type 1} → statement M
-bands-reading-spec =
+pub bands_reading_spec : {M : Type 1} → statement M
+bands_reading_spec =
     tie.close
     (tie.spec
     (λ c κs. search rules)

@@ -9,9 +9,9 @@ use Rattle.scales.proofs.Listed.{listed}
 use Rattle.scales.proofs.metres.base_figure.Statement.{statement}
 use Rattle.scales.proofs.metres.base_figure.Tie as tie
 
-pub base-figure-spec : {M : Type 1} → statement M
+pub base_figure_spec : {M : Type 1} → statement M
 unfolding base rising
-base-figure-spec =
+base_figure_spec =
     tie.close
     (tie.spec
     (λ c. listed base _ 0 refl (omega arith) (omega arith) (omega arith))

@@ -2,16 +2,16 @@
 -- Assumes nothing.
 use mathlib.Core.Path.{refl}
 use mathlib.Core.List.{◌∷◌}
-use Rattle.scales.specs.Scale.{readIn}
-use Rattle.scales.specs.Metres.{base, metresReading}
+use Rattle.scales.specs.Scale.{read_in}
+use Rattle.scales.specs.Metres.{base, metres_reading}
 use Rattle.scales.proofs.Answers.{read_is, read_same}
 use Rattle.scales.proofs.Listed.{unread}
 use Rattle.scales.proofs.metres.base_reading.Statement.{statement}
 use Rattle.scales.proofs.metres.base_reading.Tie as tie
 
-pub base-reading-spec : {M : Type 1} → statement M
-unfolding base metresReading readIn
-base-reading-spec =
+pub base_reading_spec : {M : Type 1} → statement M
+unfolding base metres_reading read_in
+base_reading_spec =
     tie.close
     (tie.spec
     (λ c. read_same base c.match.keys1)

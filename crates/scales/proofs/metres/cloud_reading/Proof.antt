@@ -7,8 +7,8 @@ use native.Mathlib.Omega.{arith}
 use lib.Dec.{eqb}
 use borrow.Author.Rules.{rules}
 use borrow.Author.Tests.{ne_eqb}
-use Rattle.scales.specs.Scale.{run, readIn}
-use Rattle.scales.specs.Metres.{cloud, metresReading}
+use Rattle.scales.specs.Scale.{run, read_in}
+use Rattle.scales.specs.Metres.{cloud, metres_reading}
 use Rattle.scales.specs.declared.kinds.Reading.TheVariants as reading
 use Rattle.scales.proofs.Answers.{read_is, foot-is}
 use Rattle.scales.proofs.Runs.{skip, meet, other}
@@ -16,11 +16,11 @@ use Rattle.scales.proofs.metres.cloud_reading.Statement.{statement}
 use Rattle.scales.proofs.metres.cloud_reading.Tie as tie
 
 module _ (f : ℕ) where
-  by-30 : f ≤ 100 → reading.Is (f * 30) ≡ metresReading cloud f
+  by-30 : f ≤ 100 → reading.Is (f * 30) ≡ metres_reading cloud f
   unfolding cloud run
   by-30 h = foot-is cloud f (meet 30 1 f 101 0 0 _ f (omega arith) (omega arith) (omega arith)) (omega arith)
 
-  by-300 : 100 < f → f ≤ 990 → f % 10 ≡ 0 → reading.Is (f / 10 * 300) ≡ metresReading cloud f
+  by-300 : 100 < f → f ≤ 990 → f % 10 ≡ 0 → reading.Is (f / 10 * 300) ≡ metres_reading cloud f
   unfolding cloud run
   by-300 l h d =
       foot-is
@@ -30,11 +30,11 @@ module _ (f : ℕ) where
       ∙ meet 300 10 f 89 3300 110 _ (f / 10 - 11) (omega arith) (omega arith) (omega arith))
       (omega arith)
 
-  over : f ≡ 999 → reading.Is 30000 ≡ metresReading cloud f
-  unfolding cloud run readIn
+  over : f ≡ 999 → reading.Is 30000 ≡ metres_reading cloud f
+  unfolding cloud run read_in
   over e = rw e (read_is cloud 999 refl)
 
-  unused : 100 < f → (f ≡ 999 → ⊥) → ((f % 10 ≡ 0 → ⊥) ⊎ (990 < f)) → reading.Unused ≡ metresReading cloud f
+  unused : 100 < f → (f ≡ 999 → ⊥) → ((f % 10 ≡ 0 → ⊥) ⊎ (990 < f)) → reading.Unused ≡ metres_reading cloud f
   unfolding cloud run
   unused l n h =
       read_is
@@ -44,8 +44,8 @@ module _ (f : ℕ) where
       ∙ skip 300 10 f 89 3300 110 _ (λ k m e. ⊎_elim (λ w. omega arith) (λ w. omega arith) h)
       ∙ other eqb _ f (ne_eqb 999 f (λ e. n (sym e))))
 
-pub cloud-reading-spec : {M : Type 1} → statement M
-cloud-reading-spec =
+pub cloud_reading_spec : {M : Type 1} → statement M
+cloud_reading_spec =
     tie.close
     (tie.spec
     (λ c. search rules) (λ c. search rules)

@@ -8,9 +8,9 @@ use lib.Dec.{eqb}
 use borrow.Author.Rules.{rules}
 use mathlib.Core.Bool.{cond}
 use mathlib.Core.List.{List, ◌++◌}
-use Rattle.scales.specs.Scale.{Class, Foot, None, run, readIn}
+use Rattle.scales.specs.Scale.{Class, Foot, None, run, read_in}
 use Rattle.scales.specs.declared.kinds.Range.{Range}
-use Rattle.scales.specs.Metres.{runway, sameRange, answered, rangeReading}
+use Rattle.scales.specs.Metres.{runway, same_range, answered, range_reading}
 use Rattle.scales.specs.declared.kinds.Reading.TheVariants as reading
 use Rattle.scales.specs.declared.kinds.Range.TheVariants.{Exact}
 use Rattle.scales.proofs.Answers.{range-read-is}
@@ -21,38 +21,38 @@ use Rattle.scales.proofs.metres.exact_reading.Tie as tie
 module _ (f : ℕ) where
   -- a run that has not the figure
   skip : (apart n foot : ℕ) (rest : List (Class Range)) → ((k : ℕ) → k < n → foot + k * apart ≡ f → ⊥)
-      → readIn sameRange (run Exact n foot apart foot apart ++ rest) (Exact f) ≡ readIn sameRange rest (Exact f)
-  unfolding sameRange
-  skip apart n foot = miss Exact apart apart sameRange (Exact f) f (λ a. refl) n foot foot
+      → read_in same_range (run Exact n foot apart foot apart ++ rest) (Exact f) ≡ read_in same_range rest (Exact f)
+  unfolding same_range
+  skip apart n foot = miss Exact apart apart same_range (Exact f) f (λ a. refl) n foot foot
 
-  by-25 : 50 ≤ f → f < 400 → answered (cond (eqb (f % 25) 0) (Foot f) None) ≡ rangeReading (Exact f)
-  unfolding runway sameRange readIn
+  by-25 : 50 ≤ f → f < 400 → answered (cond (eqb (f % 25) 0) (Foot f) None) ≡ range_reading (Exact f)
+  unfolding runway same_range read_in
   by-25 l h =
       range-read-is
       (Exact f)
-      (level Exact 25 (omega arith) sameRange (Exact f) f (λ a. refl) 14 2 _ (omega arith) (omega arith)
+      (level Exact 25 (omega arith) same_range (Exact f) f (λ a. refl) 14 2 _ (omega arith) (omega arith)
       (skip 50 8 400 _ (λ k m e. omega arith) ∙ skip 100 13 800 _ (λ k m e. omega arith)))
 
-  by-50 : 400 ≤ f → f < 800 → answered (cond (eqb (f % 50) 0) (Foot f) None) ≡ rangeReading (Exact f)
-  unfolding runway sameRange readIn
+  by-50 : 400 ≤ f → f < 800 → answered (cond (eqb (f % 50) 0) (Foot f) None) ≡ range_reading (Exact f)
+  unfolding runway same_range read_in
   by-50 l h =
       range-read-is
       (Exact f)
       (skip 25 14 50 _ (λ k m e. omega arith)
-      ∙ level Exact 50 (omega arith) sameRange (Exact f) f (λ a. refl) 8 8 _ (omega arith) (omega arith)
+      ∙ level Exact 50 (omega arith) same_range (Exact f) f (λ a. refl) 8 8 _ (omega arith) (omega arith)
       (skip 100 13 800 _ (λ k m e. omega arith)))
 
-  by-100 : 800 ≤ f → f ≤ 2000 → answered (cond (eqb (f % 100) 0) (Foot f) None) ≡ rangeReading (Exact f)
-  unfolding runway sameRange readIn
+  by-100 : 800 ≤ f → f ≤ 2000 → answered (cond (eqb (f % 100) 0) (Foot f) None) ≡ range_reading (Exact f)
+  unfolding runway same_range read_in
   by-100 l h =
       range-read-is
       (Exact f)
       (skip 25 14 50 _ (λ k m e. omega arith)
       ∙ skip 50 8 400 _ (λ k m e. omega arith)
-      ∙ level Exact 100 (omega arith) sameRange (Exact f) f (λ a. refl) 13 8 _ (omega arith) (omega arith) refl)
+      ∙ level Exact 100 (omega arith) same_range (Exact f) f (λ a. refl) 13 8 _ (omega arith) (omega arith) refl)
 
-  unused : (f < 50) ⊎ (2000 < f) → reading.Unused ≡ rangeReading (Exact f)
-  unfolding runway sameRange readIn
+  unused : (f < 50) ⊎ (2000 < f) → reading.Unused ≡ range_reading (Exact f)
+  unfolding runway same_range read_in
   unused h =
       range-read-is
       (Exact f)
@@ -60,8 +60,8 @@ module _ (f : ℕ) where
       ∙ skip 50 8 400 _ (λ k m e. ⊎_elim (λ w. omega arith) (λ w. omega arith) h)
       ∙ skip 100 13 800 _ (λ k m e. ⊎_elim (λ w. omega arith) (λ w. omega arith) h))
 
-pub exact-reading-spec : {M : Type 1} → statement M
-exact-reading-spec =
+pub exact_reading_spec : {M : Type 1} → statement M
+exact_reading_spec =
     tie.close
     (tie.spec
     (λ c κs. search rules) (λ c κs. search rules) (λ c κs. search rules)

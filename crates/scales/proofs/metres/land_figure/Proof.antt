@@ -8,9 +8,9 @@ use Rattle.scales.proofs.Stepped.{stepped, by-one-figure, fifty-figure, by-ten-f
 use Rattle.scales.proofs.metres.land_figure.Statement.{statement}
 use Rattle.scales.proofs.metres.land_figure.Tie as tie
 
-pub land-figure-spec : {M : Type 1} → statement M
+pub land_figure_spec : {M : Type 1} → statement M
 unfolding land stepped
-land-figure-spec =
+land_figure_spec =
     tie.close
     (tie.spec
     (λ c. search rules) (λ c. search rules)

@@ -7,9 +7,9 @@ use Rattle.scales.proofs.Stepped.{stepped, by-one-reading, by-ten-reading, by-fi
 use Rattle.scales.proofs.metres.land_reading.Statement.{statement}
 use Rattle.scales.proofs.metres.land_reading.Tie as tie
 
-pub land-reading-spec : {M : Type 1} → statement M
+pub land_reading_spec : {M : Type 1} → statement M
 unfolding land stepped
-land-reading-spec =
+land_reading_spec =
     tie.close
     (tie.spec
     (λ c. search rules) (λ c. search rules) (λ c. search rules) (λ c. search rules) (λ c. search rules)

@@ -5,8 +5,8 @@ use borrow.Author.Tests.{eq-eqb, ne_eqb}
 use Rattle.scales.proofs.metres.multiple.Statement.{statement}
 use Rattle.scales.proofs.metres.multiple.Tie as tie
 
-pub multiple-spec : {M : Type 1} → statement M
-multiple-spec =
+pub multiple_spec : {M : Type 1} → statement M
+multiple_spec =
     tie.close
     (tie.spec
     (λ c. search rules)

@@ -4,32 +4,32 @@ use mathlib.Core.Path.{◌≡◌, sym}
 use Prim.Native.Nat.{ℕ}
 use borrow.Author.Rules.{rules}
 use borrow.Author.Tests.{ne_eqb}
-use Rattle.scales.specs.Scale.{run, readIn}
-use Rattle.scales.specs.Metres.{runway, sameRange, rangeReading}
+use Rattle.scales.specs.Scale.{run, read_in}
+use Rattle.scales.specs.Metres.{runway, same_range, range_reading}
 use Rattle.scales.specs.declared.kinds.Reading.TheVariants as reading
 use Rattle.scales.specs.declared.kinds.Range.TheVariants.{Below, Above}
 use Rattle.scales.proofs.metres.runway_reading.Statement.{statement}
 use Rattle.scales.proofs.metres.runway_reading.Tie as tie
 
 module _ (f : ℕ) where
-  below : f ≡ 50 → reading.Is 0 ≡ rangeReading (Below f)
-  unfolding rangeReading runway run readIn sameRange
+  below : f ≡ 50 → reading.Is 0 ≡ range_reading (Below f)
+  unfolding range_reading runway run read_in same_range
   below e = rw e
 
-  not-below : (f ≡ 50 → ⊥) → reading.Unused ≡ rangeReading (Below f)
-  unfolding rangeReading runway run readIn sameRange
+  not-below : (f ≡ 50 → ⊥) → reading.Unused ≡ range_reading (Below f)
+  unfolding range_reading runway run read_in same_range
   not-below n = rw (ne_eqb 50 f (λ e. n (sym e)))
 
-  above : f ≡ 2000 → reading.Is 2001 ≡ rangeReading (Above f)
-  unfolding rangeReading runway run readIn sameRange
+  above : f ≡ 2000 → reading.Is 2001 ≡ range_reading (Above f)
+  unfolding range_reading runway run read_in same_range
   above e = rw e
 
-  not-above : (f ≡ 2000 → ⊥) → reading.Unused ≡ rangeReading (Above f)
-  unfolding rangeReading runway run readIn sameRange
+  not-above : (f ≡ 2000 → ⊥) → reading.Unused ≡ range_reading (Above f)
+  unfolding range_reading runway run read_in same_range
   not-above n = rw (ne_eqb 2000 f (λ e. n (sym e)))
 
-pub runway-reading-spec : {M : Type 1} → statement M
-runway-reading-spec =
+pub runway_reading_spec : {M : Type 1} → statement M
+runway_reading_spec =
     tie.close
     (tie.spec
     (λ c. search rules) (λ c. search rules) (λ c κs. search rules) (λ c. search rules)

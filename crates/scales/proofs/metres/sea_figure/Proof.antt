@@ -9,9 +9,9 @@ use Rattle.scales.proofs.Listed.{listed}
 use Rattle.scales.proofs.metres.sea_figure.Statement.{statement}
 use Rattle.scales.proofs.metres.sea_figure.Tie as tie
 
-pub sea-figure-spec : {M : Type 1} → statement M
+pub sea_figure_spec : {M : Type 1} → statement M
 unfolding sea rising
-sea-figure-spec =
+sea_figure_spec =
     tie.close
     (tie.spec
     (λ c. listed sea _ 0 refl (omega arith) (omega arith) (omega arith))

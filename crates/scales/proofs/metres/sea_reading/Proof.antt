@@ -2,16 +2,16 @@
 -- Assumes nothing.
 use mathlib.Core.Path.{refl}
 use mathlib.Core.List.{◌∷◌}
-use Rattle.scales.specs.Scale.{readIn}
-use Rattle.scales.specs.Metres.{sea, metresReading}
+use Rattle.scales.specs.Scale.{read_in}
+use Rattle.scales.specs.Metres.{sea, metres_reading}
 use Rattle.scales.proofs.Answers.{read_is, read_same}
 use Rattle.scales.proofs.Listed.{unread}
 use Rattle.scales.proofs.metres.sea_reading.Statement.{statement}
 use Rattle.scales.proofs.metres.sea_reading.Tie as tie
 
-pub sea-reading-spec : {M : Type 1} → statement M
-unfolding sea metresReading readIn
-sea-reading-spec =
+pub sea_reading_spec : {M : Type 1} → statement M
+unfolding sea metres_reading read_in
+sea_reading_spec =
     tie.close
     (tie.spec
     (λ c. read_same sea c.match.keys1)

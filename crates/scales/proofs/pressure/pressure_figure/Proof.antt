@@ -5,8 +5,8 @@ use Rattle.scales.proofs.PressureLaws.{written, none_written}
 use Rattle.scales.proofs.pressure.pressure_figure.Statement.{statement}
 use Rattle.scales.proofs.pressure.pressure_figure.Tie as tie
 
-pub pressure-figure-spec : {M : Type 1} → statement M
-pressure-figure-spec =
+pub pressure_figure_spec : {M : Type 1} → statement M
+pressure_figure_spec =
     tie.close
     (tie.spec
     (λ c. written _ (omega arith))

@@ -6,8 +6,8 @@ use Rattle.scales.proofs.PressureLaws.{read, none_read}
 use Rattle.scales.proofs.pressure.pressure_reading.Statement.{statement}
 use Rattle.scales.proofs.pressure.pressure_reading.Tie as tie
 
-pub pressure-reading-spec : {M : Type 1} → statement M
-pressure-reading-spec =
+pub pressure_reading_spec : {M : Type 1} → statement M
+pressure_reading_spec =
     tie.close
     (tie.spec
     (λ c. search rules)

@@ -7,8 +7,8 @@ use Rattle.scales.proofs.RainLaws.{trace-written, tenths-written, whole-written,
 use Rattle.scales.proofs.rain.rain_figure.Statement.{statement}
 use Rattle.scales.proofs.rain.rain_figure.Tie as tie
 
-pub rain-figure-spec : {M : Type 1} → statement M
-rain-figure-spec =
+pub rain_figure_spec : {M : Type 1} → statement M
+rain_figure_spec =
     tie.close
     (tie.spec
     (λ c. search rules) (λ c. search rules) (λ c. search rules) (λ c. search rules)

@@ -7,8 +7,8 @@ use Rattle.scales.proofs.RainLaws.{whole-read, trace-read, tenths-read, none_rea
 use Rattle.scales.proofs.rain.rain_reading.Statement.{statement}
 use Rattle.scales.proofs.rain.rain_reading.Tie as tie
 
-pub rain-reading-spec : {M : Type 1} → statement M
-rain-reading-spec =
+pub rain_reading_spec : {M : Type 1} → statement M
+rain_reading_spec =
     tie.close
     (tie.spec
     (λ c. search rules) (λ c. search rules)

@@ -7,8 +7,8 @@ use Rattle.section3.proofs.Feet.{foot-told, always-told, open-bands}
 use Rattle.section3.proofs.heights.bands_foot.Statement.{statement}
 use Rattle.section3.proofs.heights.bands_foot.Tie as tie
 
-pub bands-foot-spec : {M : Type 1} → statement M
-bands-foot-spec =
+pub bands_foot_spec : {M : Type 1} → statement M
+bands_foot_spec =
     tie.close
     (tie.spec
     (λ c κs. search rules) (λ c. search rules) (λ c. search rules)

@@ -4,8 +4,8 @@ use borrow.Author.Rules.{rules}
 use Rattle.section3.proofs.heights.class_height.Statement.{statement}
 use Rattle.section3.proofs.heights.class_height.Tie as tie
 
-pub class-height-spec : {M : Type 1} → statement M
-class-height-spec =
+pub class_height_spec : {M : Type 1} → statement M
+class_height_spec =
     tie.close
     (tie.spec
     (λ c. search rules) (λ c. search rules) (λ c κs. search rules) (λ c. search rules) (λ c κs. search rules)

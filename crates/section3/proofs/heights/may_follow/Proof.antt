@@ -27,8 +27,8 @@ inside c =
     let both = (and-eq-true_iff _ _).0 c.loop-test.true in
     (ltb-true _ _ both.0, ltb-true _ _ both.1)
 
-pub may-follow-spec : {M : Type 1} → statement M
-may-follow-spec =
+pub may_follow_spec : {M : Type 1} → statement M
+may_follow_spec =
     tie.close
     (tie.spec Inv μ
     (λ c κs. search rules)

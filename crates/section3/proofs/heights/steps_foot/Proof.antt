@@ -7,8 +7,8 @@ use Rattle.section3.proofs.Feet.{foot-told, always-told, open-steps}
 use Rattle.section3.proofs.heights.steps_foot.Statement.{statement}
 use Rattle.section3.proofs.heights.steps_foot.Tie as tie
 
-pub steps-foot-spec : {M : Type 1} → statement M
-steps-foot-spec =
+pub steps_foot_spec : {M : Type 1} → statement M
+steps_foot_spec =
     tie.close
     (tie.spec
     (λ c κs. search rules) (λ c. search rules) (λ c. search rules)

@@ -6,13 +6,13 @@ use mathlib.Core.List.{[]}
 use Prim.Native.Nat.{◌≤◌, ◌-◌}
 use native.Mathlib.Omega.{arith}
 use lib.ListN.{length, take, drop, length-map}
-use Rattle.section3.specs.Write.{judgeEach}
+use Rattle.section3.specs.Write.{judge_each}
 use Rattle.section3.proofs.Judging.{each_next, each-stop, each-end}
 use Rattle.section3.proofs.judge.judge_each.Statement.{statement}
 use Rattle.section3.proofs.judge.judge_each.Tie as tie
 
 abbrev Inv : tie.invariant-loop
-Inv n items i₀ i = (i ≤ n) × (judgeEach [] (take n items) ≡ judgeEach (take i items) (drop i (take n items)))
+Inv n items i₀ i = (i ≤ n) × (judge_each [] (take n items) ≡ judge_each (take i items) (drop i (take n items)))
 
 abbrev μ : tie.decreases-loop
 μ n items i₀ i = n - i
@@ -23,8 +23,8 @@ slots c =
     let four : length c.args.layers.items ≡ 4 = simp length-map at c.well-formed.0.1.1.0.1.0.1 in
     omega (arith, c.requires)
 
-pub judge-each-spec : {M : Type 1} → statement M
-judge-each-spec =
+pub judge_each_spec : {M : Type 1} → statement M
+judge_each_spec =
     tie.close
     (tie.spec
     Inv μ

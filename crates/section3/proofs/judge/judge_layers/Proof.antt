@@ -2,16 +2,16 @@
 -- Assumes nothing.
 use borrow.Author.Rules.{rules}
 use borrow.Author.Tests.{le-leb, lt-leb}
-use Rattle.section3.specs.Write.{judgeLayers}
+use Rattle.section3.specs.Write.{judge_layers}
 use Rattle.section3.proofs.judge.judge_layers.Statement.{statement}
 use Rattle.section3.proofs.judge.judge_layers.Tie as tie
 
-pub judge-layers-spec : {M : Type 1} → statement M
-judge-layers-spec =
+pub judge_layers_spec : {M : Type 1} → statement M
+judge_layers_spec =
     tie.close
     (tie.spec
     (λ c κs. search rules) (λ c κs. tt) (λ c κs. search rules) (λ c κs. search rules) (λ c κs. tt)
     (λ c.
-    unfold judgeLayers in
+    unfold judge_layers in
     rw (c.and_then.ensures, c.before.before.judge.ensures, c.before.judge-each.ensures, c.before.before.before.is-blank-from.ensures, le-leb _ _ c.before.before.before.before.if1.true))
-    (λ c. unfold judgeLayers in rw (c.judge2.ensures, lt-leb _ _ c.before.if1.false)))
+    (λ c. unfold judge_layers in rw (c.judge2.ensures, lt-leb _ _ c.before.if1.false)))

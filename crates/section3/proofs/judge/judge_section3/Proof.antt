@@ -1,12 +1,12 @@
 -- `section3::judge::judge_section3` meets its contract, part by part.
 -- Assumes nothing.
-use Rattle.section3.specs.Write.{judgeSection3}
+use Rattle.section3.specs.Write.{judge_section3}
 use Rattle.section3.proofs.judge.judge_section3.Statement.{statement}
 use Rattle.section3.proofs.judge.judge_section3.Tie as tie
 
-pub judge-section3-spec : {M : Type 1} → statement M
-judge-section3-spec =
+pub judge_section3_spec : {M : Type 1} → statement M
+judge_section3_spec =
     tie.close
     (tie.spec
     (λ c κs. tt) (λ c κs. tt) (λ c κs. tt) (λ c κs. tt) (λ c κs. tt)
-    (λ c. unfold judgeSection3 in rw (c.and-then2.ensures, c.before.judge-air2.ensures, c.before.before.and_then.ensures, c.before.before.before.judge-layers.ensures, c.before.before.before.before.judge-air.ensures)))
+    (λ c. unfold judge_section3 in rw (c.and-then2.ensures, c.before.judge-air2.ensures, c.before.before.and_then.ensures, c.before.before.before.judge-layers.ensures, c.before.before.before.before.judge-air.ensures)))

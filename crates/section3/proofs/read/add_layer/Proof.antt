@@ -5,8 +5,8 @@ use borrow.Author.Tests.{lt-ltb, le-ltb}
 use Rattle.section3.proofs.read.add_layer.Statement.{statement}
 use Rattle.section3.proofs.read.add_layer.Tie as tie
 
-pub add-layer-spec : {M : Type 1} → statement M
-add-layer-spec =
+pub add_layer_spec : {M : Type 1} → statement M
+add_layer_spec =
     tie.close
     (tie.spec
     (λ c. search rules) (λ c. search rules) (λ c. search rules)

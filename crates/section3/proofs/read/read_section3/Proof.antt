@@ -10,8 +10,8 @@ use Rattle.places.specs.Parts.{Further}
 use Rattle.places.proofs.Loop.{turn-room}
 use Rattle.record.specs.declared.surface.Section3.{Section3}
 use Rattle.record.specs.declared.surface.Synop.{Synop}
-use Rattle.record.specs.Blank.{blankSection3}
-use Rattle.section3.specs.Row.{row, halts, partIn}
+use Rattle.record.specs.Blank.{blank_section3}
+use Rattle.section3.specs.Row.{row, halts, part_in}
 use Rattle.section3.specs.Step.{Opened}
 use Rattle.section3.proofs.Going.{reading}
 use Rattle.section3.proofs.Turns.{row-few}
@@ -21,7 +21,7 @@ use Rattle.section3.proofs.read.read_section3.Tie as tie
 
 abbrev Inv : tie.invariant-loop
 Inv text from section3₀ place₀ count₀ at₀ section3 place count at = (takes : Section3 → Synop) (more : Further Synop Section3 Opened)
-    → reading (partIn takes) more text 0 0 blankSection3 from ≡ reading (partIn takes) more text place count section3 at
+    → reading (part_in takes) more text 0 0 blank_section3 from ≡ reading (part_in takes) more text place count section3 at
 
 abbrev μ : tie.decreases-loop
 μ text from section3₀ place₀ count₀ at₀ section3 place count at = length text - at
@@ -30,8 +30,8 @@ abbrev μ : tie.decreases-loop
 follows : (c : tie.After-known-told Inv μ) → Follows c.before.before.before.before.before.before.before.before.args.text.now c.before.before.before.before.before.loop.at c.before.start.given.0.0 c.before.start.given.0.1.0
 follows c = when-group _ _ _ _ (sym c.before.start.given.1 ∙ c.before.before.before.next-group.ensures)
 
-pub read-section3-spec : {M : Type 1} → statement M
-read-section3-spec =
+pub read_section3_spec : {M : Type 1} → statement M
+read_section3_spec =
     tie.close
     (tie.spec Inv μ
     (λ c κs. search rules)

@@ -7,8 +7,8 @@ use Rattle.section3.proofs.Steps.{layer-none, layer-fifth, layer-follows, layer-
 use Rattle.section3.proofs.read.say_layer.Statement.{statement}
 use Rattle.section3.proofs.read.say_layer.Tie as tie
 
-pub say-layer-spec : {M : Type 1} → statement M
-say-layer-spec =
+pub say_layer_spec : {M : Type 1} → statement M
+say_layer_spec =
     tie.close
     (tie.spec
     (λ c. search rules) (λ c κs. search rules)

@@ -11,7 +11,7 @@ use Rattle.synop_groups.specs.declared.kinds.Said.{Said}
 use Rattle.synop_groups.specs.declared.kinds.Said.TheVariants as said
 use Rattle.synop_groups.specs.contracts.kinds.Said as saids
 use Rattle.section3.specs.declared.kinds.Told.TheVariants as told
-use Rattle.section3.specs.Row.{airBy, toldBy}
+use Rattle.section3.specs.Row.{air_by, told_by}
 use Rattle.section3.proofs.read.told_by.Statement.{statement}
 use Rattle.section3.proofs.read.told_by.Tie as tie
 
@@ -19,7 +19,7 @@ use Rattle.section3.proofs.read.told_by.Tie as tie
 abbrev elsewhere : List ℕ
 elsewhere = 1 ∷ 2 ∷ 3 ∷ 4 ∷ 5 ∷ 6 ∷ 8 ∷ 9 ∷ 10 ∷ 11 ∷ 12 ∷ 13 ∷ 14 ∷ 15 ∷ []
 
-others : (b : Bool) (x : Said) → OneOf elsewhere (tag_of saids.the_type x) → told.Nothing ≡ toldBy (airBy b) x
+others : (b : Bool) (x : Said) → OneOf elsewhere (tag_of saids.the_type x) → told.Nothing ≡ told_by (air_by b) x
 others b (said.Refused f) one = absurd (miss elsewhere 0 tt one)
 others b (said.Time t) one = refl
 others b (said.Station n) one = refl
@@ -38,8 +38,8 @@ others b (said.Clouds c) one = refl
 others b (said.Clock c) one = refl
 others b (said.Layer l) one = absurd (miss elsewhere 16 tt one)
 
-pub told-by-spec : {M : Type 1} → statement M
-told-by-spec =
+pub told_by_spec : {M : Type 1} → statement M
+told_by_spec =
     tie.close
     (tie.spec
     (λ c. search rules) (λ c. search rules) (λ c. search rules)

@@ -4,8 +4,8 @@ use borrow.Author.Rules.{rules}
 use Rattle.section3.proofs.read.with_told.Statement.{statement}
 use Rattle.section3.proofs.read.with_told.Tie as tie
 
-pub with-told-spec : {M : Type 1} → statement M
-with-told-spec =
+pub with_told_spec : {M : Type 1} → statement M
+with_told_spec =
     tie.close
     (tie.spec
     (λ c. search rules) (λ c. search rules) (λ c. search rules) (λ c. search rules) (λ c. search rules) (λ c κs. search rules)

@@ -9,8 +9,8 @@ use Rattle.section3.proofs.Turns.{row-length, halts-word, halts-none, goes}
 use Rattle.section3.proofs.row.decide.Statement.{statement}
 use Rattle.section3.proofs.row.decide.Tie as tie
 
-pub decide-spec : {M : Type 1} → statement M
-decide-spec =
+pub decide_spec : {M : Type 1} → statement M
+decide_spec =
     tie.close
     (tie.spec
     (λ c. turn-past row halts _ _ _ (rw row-length c.if1.true))

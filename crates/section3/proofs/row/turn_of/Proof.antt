@@ -4,8 +4,8 @@ use borrow.Author.Tests.{lt-ltb, le-ltb, eq-eqb, ne_eqb}
 use Rattle.section3.proofs.row.turn_of.Statement.{statement}
 use Rattle.section3.proofs.row.turn_of.Tie as tie
 
-pub turn-of-spec : {M : Type 1} → statement M
-turn-of-spec =
+pub turn_of_spec : {M : Type 1} → statement M
+turn_of_spec =
     tie.close
     (tie.spec
     (λ c. rw (lt-ltb _ _ c.if1.true))

@@ -3,5 +3,5 @@
 use Rattle.section3.proofs.write.is_silent.Statement.{statement}
 use Rattle.section3.proofs.write.is_silent.Tie as tie
 
-pub is-silent-spec : {M : Type 1} → statement M
-is-silent-spec = tie.close (tie.spec (λ c κs. tt) (λ c κs. tt) (λ c. rw (c.is-missing2.ensures, c.before.is-missing.ensures)))
+pub is_silent_spec : {M : Type 1} → statement M
+is_silent_spec = tie.close (tie.spec (λ c κs. tt) (λ c κs. tt) (λ c. rw (c.is-missing2.ensures, c.before.is-missing.ensures)))

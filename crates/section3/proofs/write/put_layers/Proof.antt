@@ -12,12 +12,12 @@ use Rattle.text.specs.Groups.{written}
 use Rattle.places.proofs.Delivered.{one_more}
 use Rattle.record.specs.declared.surface.CloudLayer.{CloudLayer}
 use Rattle.record.proofs.Counted.{take-most}
-use Rattle.synop_groups.specs.Shows.{showLayer}
+use Rattle.synop_groups.specs.Shows.{show_layer}
 use Rattle.section3.proofs.write.put_layers.Statement.{statement}
 use Rattle.section3.proofs.write.put_layers.Tie as tie
 
 abbrev Inv : tie.invariant-loop
-Inv out₀ at count items end next₀ i₀ out next i = (i ≤ end) × (end ≡ min count 4) × Put out₀ at (written at (map showLayer (take i items))) next out
+Inv out₀ at count items end next₀ i₀ out next i = (i ≤ end) × (end ≡ min count 4) × Put out₀ at (written at (map show_layer (take i items))) next out
 
 abbrev μ : tie.decreases-loop
 μ out₀ at count items end next₀ i₀ out next i = end - i
@@ -26,8 +26,8 @@ abbrev μ : tie.decreases-loop
 four : (c : tie.Start Inv μ) → length c.args.t3 ≡ 4
 four c = search rules
 
-pub put-layers-spec : {M : Type 1} → statement M
-put-layers-spec =
+pub put_layers_spec : {M : Type 1} → statement M
+put_layers_spec =
     tie.close
     (tie.spec Inv μ
     (λ c κs. tt)
@@ -36,7 +36,7 @@ put-layers-spec =
     (λ c. (
       omega arith,
       c.before.before.before.before.before.before.before.at-most-four.ensures,
-      one_more (λ (w : CloudLayer). showLayer w ∷ []) (map showLayer) refl (λ w ws. refl) c.before.before.before.before.before.before.before.before.before.args.t3 c.before.before.before.before.before.before.loop.i _ (omega (arith, four c.before.before.before.before.before.before.before.before.before)) c.before.before.before.before.before.before.loop.invariant.2 c.before.before.put-layer.ensures,
+      one_more (λ (w : CloudLayer). show_layer w ∷ []) (map show_layer) refl (λ w ws. refl) c.before.before.before.before.before.before.before.before.before.args.t3 c.before.before.before.before.before.before.loop.i _ (omega (arith, four c.before.before.before.before.before.before.before.before.before)) c.before.before.before.before.before.before.loop.invariant.2 c.before.before.put-layer.ensures,
     ))
     (λ c. length-put c.before.loop.invariant.2)
     (λ c.

@@ -4,20 +4,20 @@ use borrow.Author.Rules.{rules}
 use mathlib.Core.List.{append-nil, map}
 use lib.ListN.{take}
 use Rattle.text.proofs.Writes.{write-groups}
-use Rattle.synop_groups.specs.Shows.{showLayer}
-use Rattle.section3.specs.Row.{showLayers, row}
-use Rattle.section3.specs.Write.{showSection3}
+use Rattle.synop_groups.specs.Shows.{show_layer}
+use Rattle.section3.specs.Row.{show_layers, row}
+use Rattle.section3.specs.Write.{show_section3}
 use Rattle.section3.proofs.write.put_section3.Statement.{statement}
 use Rattle.section3.proofs.write.put_section3.Tie as tie
 
-pub put-section3-spec : {M : Type 1} → statement M
-put-section3-spec =
+pub put_section3_spec : {M : Type 1} → statement M
+put_section3_spec =
     tie.close
     (tie.spec
     (λ c κs. search rules) (λ c. search rules) (λ c κs. search rules) (λ c κs. search rules) (λ c κs. search rules) (λ c κs. search rules) (λ c. search rules)
     (λ c.
     let s = c.before.before.before.before.before.before.before.before.before.before.before.before.before.before.before.before.before.before.before.before.before.before.before.args.s in
-    unfold showSection3 row showLayers in
-    rw (append-nil (map showLayer (take s.layers.count s.layers.items)))
+    unfold show_section3 row show_layers in
+    rw (append-nil (map show_layer (take s.layers.count s.layers.items)))
     (write-groups _ _ (rw c.before.before.before.before.before.before.before.before.before.before.before.before.before.before.before.before.is-silent.ensures at c.before.before.before.before.before.before.before.before.before.before.before.before.before.before.put_if.ensures)
     (write-groups _ _ c.before.before.before.before.before.before.before.before.before.before.put-air.ensures (write-groups _ _ c.before.before.before.before.before.before.put-minimum.ensures c.before.before.put-layers.ensures)))))

@@ -7,8 +7,8 @@ use Rattle.seen_values.proofs.DegreesLaws.{below-zero, from_zero}
 use Rattle.seen_values.proofs.degrees.degrees_seen.Statement.{statement}
 use Rattle.seen_values.proofs.degrees.degrees_seen.Tie as tie
 
-pub degrees-seen-spec : {M : Type 1} → statement M
-degrees-seen-spec =
+pub degrees_seen_spec : {M : Type 1} → statement M
+degrees_seen_spec =
     tie.close
     (tie.spec
     (λ c κs. search rules) (λ c κs. search rules) (λ c κs. search rules) (λ c κs. search rules)

@@ -4,8 +4,8 @@ use borrow.Author.Rules.{rules}
 use Rattle.seen_values.proofs.degrees.spread.Statement.{statement}
 use Rattle.seen_values.proofs.degrees.spread.Tie as tie
 
-pub spread-spec : {M : Type 1} → statement M
-spread-spec =
+pub spread_spec : {M : Type 1} → statement M
+spread_spec =
     tie.close
     (tie.spec
     (λ c κs. search rules) (λ c κs. search rules)

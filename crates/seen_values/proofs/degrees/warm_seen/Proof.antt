@@ -7,8 +7,8 @@ use Rattle.seen_values.proofs.DegreesLaws.{at_zero, near-zero, too_far, whole-de
 use Rattle.seen_values.proofs.degrees.warm_seen.Statement.{statement}
 use Rattle.seen_values.proofs.degrees.warm_seen.Tie as tie
 
-pub warm-seen-spec : {M : Type 1} → statement M
-warm-seen-spec =
+pub warm_seen_spec : {M : Type 1} → statement M
+warm_seen_spec =
     tie.close
     (tie.spec
     (λ c κs. search rules) (λ c κs. search rules) (λ c κs. search rules) (λ c. search rules) (λ c. search rules) (λ c κs. search rules) (λ c κs. search rules)

@@ -6,8 +6,8 @@ use Rattle.seen_values.proofs.Rounds.{direction-tens, direction-part, direction-
 use Rattle.seen_values.proofs.direction.direction_seen.Statement.{statement}
 use Rattle.seen_values.proofs.direction.direction_seen.Tie as tie
 
-pub direction-seen-spec : {M : Type 1} → statement M
-direction-seen-spec =
+pub direction_seen_spec : {M : Type 1} → statement M
+direction_seen_spec =
     tie.close
     (tie.spec
     (λ c. search rules) (λ c. search rules)

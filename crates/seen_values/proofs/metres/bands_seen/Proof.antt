@@ -6,5 +6,5 @@ use Rattle.seen_values.proofs.Classes.{bands-seen}
 use Rattle.seen_values.proofs.metres.bands_seen.Statement.{statement}
 use Rattle.seen_values.proofs.metres.bands_seen.Tie as tie
 
-pub bands-seen-spec : {M : Type 1} → statement M
-bands-seen-spec = tie.close (tie.spec (λ c κs. search rules) (λ c. c.base-seen.ensures ∙ bands-seen _))
+pub bands_seen_spec : {M : Type 1} → statement M
+bands_seen_spec = tie.close (tie.spec (λ c κs. search rules) (λ c. c.base-seen.ensures ∙ bands-seen _))

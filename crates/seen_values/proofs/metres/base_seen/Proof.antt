@@ -9,8 +9,8 @@ use Rattle.seen_values.proofs.Classes.{by-figure, by-none, base-follows}
 use Rattle.seen_values.proofs.metres.base_seen.Statement.{statement}
 use Rattle.seen_values.proofs.metres.base_seen.Tie as tie
 
-pub base-seen-spec : {M : Type 1} → statement M
-base-seen-spec =
+pub base_seen_spec : {M : Type 1} → statement M
+base_seen_spec =
     tie.close
     (tie.spec
     (λ c. search rules) (λ c. search rules) (λ c κs. search rules) (λ c κs. search rules) (λ c. search rules) (λ c κs. search rules) (λ c κs. search rules) (λ c. search rules)

@@ -7,13 +7,13 @@ use mathlib.Core.Bool.{and-eq-true_iff}
 use lib.ListN.{length, drop}
 use borrow.Author.Rules.{rules}
 use borrow.Author.Tests.{ltb-true, lt-ltb, le-ltb}
-use Rattle.seen_values.specs.Steps.{classBy}
+use Rattle.seen_values.specs.Steps.{class_by}
 use Rattle.seen_values.proofs.Classes.{here, over, low-at}
 use Rattle.seen_values.proofs.metres.class_by.Statement.{statement}
 use Rattle.seen_values.proofs.metres.class_by.Tie as tie
 
 abbrev Inv : tie.invariant-loop
-Inv foot limits spans i₀ i = classBy limits spans foot ≡ classBy (drop i limits) (drop i spans) foot
+Inv foot limits spans i₀ i = class_by limits spans foot ≡ class_by (drop i limits) (drop i spans) foot
 
 abbrev μ : tie.decreases-loop
 μ foot limits spans i₀ i = length limits - i
@@ -24,8 +24,8 @@ inside c =
     let both = (and-eq-true_iff _ _).0 c.loop-test.true in
     (ltb-true _ _ both.0, ltb-true _ _ both.1)
 
-pub class-by-spec : {M : Type 1} → statement M
-class-by-spec =
+pub class_by_spec : {M : Type 1} → statement M
+class_by_spec =
     tie.close
     (tie.spec Inv μ
     (λ c. refl)

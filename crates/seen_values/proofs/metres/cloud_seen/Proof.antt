@@ -9,8 +9,8 @@ use Rattle.seen_values.proofs.Classes.{by-figure, by-none, cloud-follows}
 use Rattle.seen_values.proofs.metres.cloud_seen.Statement.{statement}
 use Rattle.seen_values.proofs.metres.cloud_seen.Tie as tie
 
-pub cloud-seen-spec : {M : Type 1} → statement M
-cloud-seen-spec =
+pub cloud_seen_spec : {M : Type 1} → statement M
+cloud_seen_spec =
     tie.close
     (tie.spec
     (λ c. search rules) (λ c. search rules) (λ c κs. search rules) (λ c κs. search rules) (λ c. search rules) (λ c κs. search rules) (λ c κs. search rules) (λ c. search rules)

@@ -8,8 +8,8 @@ use Rattle.seen_values.proofs.Classes.{by-figure, by-none, depth-follows}
 use Rattle.seen_values.proofs.metres.depth_seen.Statement.{statement}
 use Rattle.seen_values.proofs.metres.depth_seen.Tie as tie
 
-pub depth-seen-spec : {M : Type 1} → statement M
-depth-seen-spec =
+pub depth_seen_spec : {M : Type 1} → statement M
+depth_seen_spec =
     tie.close
     (tie.spec
     (λ c. search rules) (λ c. search rules) (λ c κs. search rules) (λ c κs. search rules) (λ c. search rules) (λ c κs. search rules) (λ c κs. search rules) (λ c. search rules)

@@ -5,8 +5,8 @@ use borrow.Author.Tests.{eq-eqb, ne_eqb}
 use Rattle.seen_values.proofs.metres.if_foot.Statement.{statement}
 use Rattle.seen_values.proofs.metres.if_foot.Tie as tie
 
-pub if-foot-spec : {M : Type 1} → statement M
-if-foot-spec =
+pub if_foot_spec : {M : Type 1} → statement M
+if_foot_spec =
     tie.close
     (tie.spec
     (λ c. search rules) (λ c. search rules)

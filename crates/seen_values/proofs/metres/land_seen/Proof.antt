@@ -9,8 +9,8 @@ use Rattle.seen_values.proofs.Classes.{by-figure, by-none, land-follows}
 use Rattle.seen_values.proofs.metres.land_seen.Statement.{statement}
 use Rattle.seen_values.proofs.metres.land_seen.Tie as tie
 
-pub land-seen-spec : {M : Type 1} → statement M
-land-seen-spec =
+pub land_seen_spec : {M : Type 1} → statement M
+land_seen_spec =
     tie.close
     (tie.spec
     (λ c. search rules) (λ c. search rules) (λ c κs. search rules) (λ c κs. search rules) (λ c. search rules) (λ c κs. search rules) (λ c κs. search rules) (λ c. search rules)

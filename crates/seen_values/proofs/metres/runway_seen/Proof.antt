@@ -6,8 +6,8 @@ use Rattle.seen_values.proofs.Classes.{by-range, by-no-range, runway-follows}
 use Rattle.seen_values.proofs.metres.runway_seen.Statement.{statement}
 use Rattle.seen_values.proofs.metres.runway_seen.Tie as tie
 
-pub runway-seen-spec : {M : Type 1} → statement M
-runway-seen-spec =
+pub runway_seen_spec : {M : Type 1} → statement M
+runway_seen_spec =
     tie.close
     (tie.spec
     (λ c. search rules) (λ c. search rules) (λ c κs. search rules) (λ c κs. search rules) (λ c. search rules) (λ c κs. search rules) (λ c κs. search rules) (λ c. search rules)

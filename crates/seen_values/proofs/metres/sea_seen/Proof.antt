@@ -9,8 +9,8 @@ use Rattle.seen_values.proofs.Classes.{by-figure, by-none, sea-follows}
 use Rattle.seen_values.proofs.metres.sea_seen.Statement.{statement}
 use Rattle.seen_values.proofs.metres.sea_seen.Tie as tie
 
-pub sea-seen-spec : {M : Type 1} → statement M
-sea-seen-spec =
+pub sea_seen_spec : {M : Type 1} → statement M
+sea_seen_spec =
     tie.close
     (tie.spec
     (λ c. search rules) (λ c. search rules) (λ c κs. search rules) (λ c κs. search rules) (λ c. search rules) (λ c κs. search rules) (λ c κs. search rules) (λ c. search rules)

@@ -2,16 +2,16 @@
 -- Assumes nothing.
 use mathlib.Core.Path.{◌∙◌}
 use borrow.Author.Rules.{rules}
-use Rattle.scales.specs.Layers.{layerSteps}
+use Rattle.scales.specs.Layers.{layer_steps}
 use Rattle.scales.proofs.LayersLaws.{steps-laws, steps-rounds}
 use Rattle.seen_values.proofs.Classes.{by-figure, by-none, steps-follows}
 use Rattle.seen_values.proofs.metres.steps_seen.Statement.{statement}
 use Rattle.seen_values.proofs.metres.steps_seen.Tie as tie
 
-pub steps-seen-spec : {M : Type 1} → statement M
-steps-seen-spec =
+pub steps_seen_spec : {M : Type 1} → statement M
+steps_seen_spec =
     tie.close
     (tie.spec
     (λ c. search rules) (λ c. search rules) (λ c κs. search rules) (λ c κs. search rules) (λ c. search rules) (λ c κs. search rules) (λ c κs. search rules) (λ c. search rules)
-    (λ c. c.if-foot.ensures ∙ by-figure layerSteps steps-laws steps-rounds _ _ steps-follows _ c.before.before.before.before.before.steps-figure.ensures c.before.before.before.figure.given.1 c.before.steps-reading.ensures c.before.before.before.before.before.before.class-by.ensures)
-    (λ c. by-none layerSteps steps-laws steps-rounds _ _ steps-follows _ c.before.before.steps-figure.ensures c.enum_told.given.1))
+    (λ c. c.if-foot.ensures ∙ by-figure layer_steps steps-laws steps-rounds _ _ steps-follows _ c.before.before.before.before.before.steps-figure.ensures c.before.before.before.figure.given.1 c.before.steps-reading.ensures c.before.before.before.before.before.before.class-by.ensures)
+    (λ c. by-none layer_steps steps-laws steps-rounds _ _ steps-follows _ c.before.before.steps-figure.ensures c.enum_told.given.1))

@@ -9,8 +9,8 @@ use Rattle.seen_values.proofs.Classes.{by-figure, by-none, visibility-follows}
 use Rattle.seen_values.proofs.metres.visibility_seen.Statement.{statement}
 use Rattle.seen_values.proofs.metres.visibility_seen.Tie as tie
 
-pub visibility-seen-spec : {M : Type 1} → statement M
-visibility-seen-spec =
+pub visibility_seen_spec : {M : Type 1} → statement M
+visibility_seen_spec =
     tie.close
     (tie.spec
     (λ c. search rules) (λ c. search rules) (λ c κs. search rules) (λ c κs. search rules) (λ c. search rules) (λ c κs. search rules) (λ c κs. search rules) (λ c. search rules)

@@ -6,8 +6,8 @@ use Rattle.seen_values.proofs.Rounds.{pressure-whole, pressure-part, pressure-fa
 use Rattle.seen_values.proofs.pressure.pressure_seen.Statement.{statement}
 use Rattle.seen_values.proofs.pressure.pressure_seen.Tie as tie
 
-pub pressure-seen-spec : {M : Type 1} → statement M
-pressure-seen-spec =
+pub pressure_seen_spec : {M : Type 1} → statement M
+pressure_seen_spec =
     tie.close
     (tie.spec
     (λ c. search rules)

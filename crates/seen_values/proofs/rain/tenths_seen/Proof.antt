@@ -6,8 +6,8 @@ use Rattle.seen_values.proofs.Rounds.{rain-zero, rain-tenth, rain-one, rain-last
 use Rattle.seen_values.proofs.rain.tenths_seen.Statement.{statement}
 use Rattle.seen_values.proofs.rain.tenths_seen.Tie as tie
 
-pub tenths-seen-spec : {M : Type 1} → statement M
-tenths-seen-spec =
+pub tenths_seen_spec : {M : Type 1} → statement M
+tenths_seen_spec =
     tie.close
     (tie.spec
     (λ c. search rules) (λ c. search rules)

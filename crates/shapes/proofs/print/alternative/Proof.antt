@@ -23,8 +23,8 @@ end : (c : tie.After-up-to Inv μ)
     → let from = c.before.before.loop.from in from + c.up_to_lem.result ≡ from + up_to 124 (drop from c.before.before.before.before.args.part.now)
 end c = rw (c.up_to_lem.ensures.0, all_from)
 
-pub alternative-spec : {M : Type 1} → statement M
-alternative-spec =
+pub alternative_spec : {M : Type 1} → statement M
+alternative_spec =
     tie.close
     (tie.spec Inv μ
     (λ c. search rules) (λ c. search rules) (λ c. search rules) (λ c. search rules) (λ c κs. search rules) (λ c. search rules) (λ c. search rules)

@@ -9,8 +9,8 @@ use Rattle.shapes.proofs.Splits.{all_from}
 use Rattle.shapes.proofs.print.put_filled.Statement.{statement}
 use Rattle.shapes.proofs.print.put_filled.Tie as tie
 
-pub put-filled-spec : {M : Type 1} → statement M
-put-filled-spec =
+pub put_filled_spec : {M : Type 1} → statement M
+put_filled_spec =
     tie.close
     (tie.spec
     (λ c κs. search rules) (λ c. search rules) (λ c. search rules) (λ c. search rules) (λ c κs. search rules) (λ c. search rules)

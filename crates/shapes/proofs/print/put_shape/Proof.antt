@@ -10,7 +10,7 @@ use Rattle.figures.specs.Put.{Put}
 use Rattle.figures.proofs.Puts.{then, put-none, length-put}
 use Rattle.figures.specs.declared.kinds.Field.TheVariants.{Number}
 use Rattle.shapes.specs.declared.kinds.Value.{Value}
-use Rattle.shapes.specs.Shape.{parts_of, printParts, printOf, up_to}
+use Rattle.shapes.specs.Shape.{parts_of, print_parts, print_of, up_to}
 use Rattle.shapes.proofs.Splits.{all_from}
 use Rattle.shapes.proofs.Prints.{text, next-value, print-on, print-last, print-none}
 use Rattle.shapes.proofs.print.put_shape.Statement.{statement}
@@ -19,7 +19,7 @@ use Rattle.shapes.proofs.print.put_shape.Tie as tie
 abbrev Inv : tie.invariant-loop
 Inv out₀ at shape values next₀ from₀ n₀ out next from n =
     (n ≤ 8) × (from ≤ length shape) × (length out ≡ length out₀)
-    × ((r : ℕ) (e : List ℕ) → Put out next (printParts (parts_of (drop from shape)) (drop n values)) r e → Put out₀ at (printOf shape values) r e)
+    × ((r : ℕ) (e : List ℕ) → Put out next (print_parts (parts_of (drop from shape)) (drop n values)) r e → Put out₀ at (print_of shape values) r e)
 
 abbrev μ : tie.decreases-loop
 μ out₀ at shape values next₀ from₀ n₀ out next from n = 8 - n
@@ -49,11 +49,11 @@ module _ (c : tie.After-put-filled Inv μ) where
   now-value : drop c.before.before.before.before.before.before.before.before.loop.n c.before.before.before.before.before.before.before.before.before.before.before.args.t4 ≡ value ∷ rest
   now-value = next-value c.before.before.before.before.before.before.before.before.before.before.before.args.t4 c.before.before.before.before.before.before.before.before.loop.n _ (omega (arith, eight c.before.before.before.before.before.before.before.before.before.before.before))
 
-pub put-shape-spec : {M : Type 1} → statement M
-put-shape-spec =
+pub put_shape_spec : {M : Type 1} → statement M
+put_shape_spec =
     tie.close
     (tie.spec Inv μ
-    (λ c. (omega arith, omega arith, refl, unfold printOf in λ r e p. p))
+    (λ c. (omega arith, omega arith, refl, unfold print_of in λ r e p. p))
     (λ c. search rules) (λ c. search rules) (λ c. search rules) (λ c κs. search rules) (λ c. search rules) (λ c. search rules) (λ c. search rules)
     (λ c. search rules) (λ c. search rules) (λ c. search rules) (λ c κs. search rules) (λ c κs. search rules)
     (λ c. length-put (put c.before.before.before) ∙ c.before.before.before.before.before.before.before.before.before.before.before.loop.invariant.2)

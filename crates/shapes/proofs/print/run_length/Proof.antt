@@ -6,19 +6,19 @@ use native.Mathlib.Omega.{arith}
 use lib.ListN.{length, drop}
 use borrow.Author.Rules.{rules}
 use borrow.Author.Tests.{eq-eqb, ne_eqb}
-use Rattle.shapes.specs.Shape.{runLength}
+use Rattle.shapes.specs.Shape.{run_length}
 use Rattle.shapes.proofs.Splits.{lead-on, lead-stop, lead-end}
 use Rattle.shapes.proofs.print.run_length.Statement.{statement}
 use Rattle.shapes.proofs.print.run_length.Tie as tie
 
 abbrev Inv : tie.invariant-loop
-Inv p i₀ i = (i ≤ length p) × (runLength p ≡ i + runLength (drop i p))
+Inv p i₀ i = (i ≤ length p) × (run_length p ≡ i + run_length (drop i p))
 
 abbrev μ : tie.decreases-loop
 μ p i₀ i = length p - i
 
-pub run-length-spec : {M : Type 1} → statement M
-run-length-spec =
+pub run_length_spec : {M : Type 1} → statement M
+run_length_spec =
     tie.close
     (tie.spec Inv μ
     (λ c. search rules) (λ c. search rules) (λ c. search rules) (λ c. search rules)

@@ -18,8 +18,8 @@ Inv s c i₀ i = (i ≤ length s) × (up_to c s ≡ i + up_to c (drop i s))
 abbrev μ : tie.decreases-loop
 μ s c i₀ i = length s - i
 
-pub up-to-spec : {M : Type 1} → statement M
-up-to-spec =
+pub up_to_spec : {M : Type 1} → statement M
+up_to_spec =
     tie.close
     (tie.spec Inv μ
     (λ c. search rules) (λ c. search rules)

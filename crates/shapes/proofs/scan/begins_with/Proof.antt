@@ -27,8 +27,8 @@ turn : (c : tie.Else1 Inv μ)
     (fits (get_or p i 0) (get_or g i 0) && begins (drop (i + 1) p) (drop (i + 1) g)) ≡ begins p g
 turn c = begin-byte _ _ _ c.before.before.loop.invariant.2 (omega arith) (omega arith)
 
-pub begins-with-spec : {M : Type 1} → statement M
-begins-with-spec =
+pub begins_with_spec : {M : Type 1} → statement M
+begins_with_spec =
     tie.close
     (tie.spec Inv μ
     (λ c. search rules)

@@ -6,8 +6,8 @@ use Rattle.shapes.proofs.Scans.{begins-within}
 use Rattle.shapes.proofs.scan.figures_or.Statement.{statement}
 use Rattle.shapes.proofs.scan.figures_or.Tie as tie
 
-pub figures-or-spec : {M : Type 1} → statement M
-figures-or-spec =
+pub figures_or_spec : {M : Type 1} → statement M
+figures_or_spec =
     tie.close
     (tie.spec
     (λ c κs. search rules) (λ c κs. search rules) (λ c κs. search rules)

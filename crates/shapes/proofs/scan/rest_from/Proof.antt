@@ -8,8 +8,8 @@ use Rattle.shapes.proofs.Splits.{all_from}
 use Rattle.shapes.proofs.scan.rest_from.Statement.{statement}
 use Rattle.shapes.proofs.scan.rest_from.Tie as tie
 
-pub rest-from-spec : {M : Type 1} → statement M
-rest-from-spec =
+pub rest_from_spec : {M : Type 1} → statement M
+rest_from_spec =
     tie.close
     (tie.spec
     (λ c. search rules) (λ c. search rules) (λ c. search rules)

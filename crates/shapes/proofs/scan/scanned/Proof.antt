@@ -6,8 +6,8 @@ use borrow.Author.Tests.{eq-eqb, ne_eqb}
 use Rattle.shapes.proofs.scan.scanned.Statement.{statement}
 use Rattle.shapes.proofs.scan.scanned.Tie as tie
 
-pub scanned-spec : {M : Type 1} → statement M
-scanned-spec =
+pub scanned_spec : {M : Type 1} → statement M
+scanned_spec =
     tie.close
     (tie.spec
     (λ c κs. search rules)

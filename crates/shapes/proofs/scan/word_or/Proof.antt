@@ -6,8 +6,8 @@ use Rattle.shapes.proofs.Scans.{begins-within}
 use Rattle.shapes.proofs.scan.word_or.Statement.{statement}
 use Rattle.shapes.proofs.scan.word_or.Tie as tie
 
-pub word-or-spec : {M : Type 1} → statement M
-word-or-spec =
+pub word_or_spec : {M : Type 1} → statement M
+word_or_spec =
     tie.close
     (tie.spec
     (λ c κs. search rules) (λ c κs. search rules)

@@ -3,8 +3,8 @@
 use Rattle.sky.proofs.judge.judge_cover.Statement.{statement}
 use Rattle.sky.proofs.judge.judge_cover.Tie as tie
 
-pub judge-cover-spec : {M : Type 1} → statement M
-judge-cover-spec =
+pub judge_cover_spec : {M : Type 1} → statement M
+judge_cover_spec =
     tie.close
     (tie.spec
     (λ c κs. tt) (λ c κs. tt) (λ c κs. tt)

@@ -3,8 +3,8 @@
 use Rattle.sky.proofs.judge.judge_layer.Statement.{statement}
 use Rattle.sky.proofs.judge.judge_layer.Tie as tie
 
-pub judge-layer-spec : {M : Type 1} → statement M
-judge-layer-spec =
+pub judge_layer_spec : {M : Type 1} → statement M
+judge_layer_spec =
     tie.close
     (tie.spec
     (λ c κs. tt) (λ c κs. tt) (λ c κs. tt) (λ c κs. tt)

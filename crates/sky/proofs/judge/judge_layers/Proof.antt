@@ -3,7 +3,7 @@
 use mathlib.Core.Logic.{inl, inr}
 use Prim.Native.Nat.{◌≤◌, ◌-◌}
 use lib.ListN.{get_or, take, drop}
-use Rattle.record.specs.Body.{blankLayer}
+use Rattle.record.specs.Body.{blank_layer}
 use Rattle.sky.proofs.Readings.{next_of, past_all}
 use Rattle.sky.proofs.Judging.{Going, start, finish, halt, on}
 use borrow.Author.Rules.{rules}
@@ -16,8 +16,8 @@ Inv forecast beside count layers last₀ i₀ last i = (i ≤ 4) × Going foreca
 abbrev μ : tie.decreases-loop
 μ forecast beside count layers last₀ i₀ last i = 4 - i
 
-pub judge-layers-spec : {M : Type 1} → statement M
-judge-layers-spec =
+pub judge_layers_spec : {M : Type 1} → statement M
+judge_layers_spec =
     tie.close
     (tie.spec Inv μ
     (λ c. (search rules, start _ _ _))
@@ -27,7 +27,7 @@ judge-layers-spec =
     let d = c.before.before.before.before.before.before.before.before in
     let e = d.before.args in
     let judgement = rw c.before.before.before.before.written-height.ensures at c.before.before.before.judge-layer.ensures in
-    halt e.forecast e.beside (get_or e.t3 d.loop.i blankLayer) (rw (next_of e.t3 e.count d.loop.i blankLayer (search rules) (search rules)) at d.loop.invariant.1) judgement c.before.judged.given.1)
+    halt e.forecast e.beside (get_or e.t3 d.loop.i blank_layer) (rw (next_of e.t3 e.count d.loop.i blank_layer (search rules) (search rules)) at d.loop.invariant.1) judgement c.before.judged.given.1)
     (λ c. search rules) (λ c κs. tt) (λ c. search rules) (λ c. search rules)
     (λ c.
     let d = c.before.before.before.before.before.before.before.before in
@@ -35,6 +35,6 @@ judge-layers-spec =
     let judgement = rw c.before.before.before.before.written-height.ensures at c.before.before.before.judge-layer.ensures in (
       search rules,
       rw (c.last-height.ensures, c.before.before.before.before.written-height.ensures)
-          (on e.forecast e.beside (get_or e.t3 d.loop.i blankLayer) (rw (next_of e.t3 e.count d.loop.i blankLayer (search rules) (search rules)) at d.loop.invariant.1) judgement c.before.enum_told.given.1),
+          (on e.forecast e.beside (get_or e.t3 d.loop.i blank_layer) (rw (next_of e.t3 e.count d.loop.i blank_layer (search rules) (search rules)) at d.loop.invariant.1) judgement c.before.enum_told.given.1),
     ))
     (λ c. finish _ _ (rw (past_all c.before.before.args.t3 c.before.before.args.count c.before.loop.i (inr (search rules))) at c.before.loop.invariant.1)))

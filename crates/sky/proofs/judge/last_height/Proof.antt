@@ -4,8 +4,8 @@ use borrow.Author.Rules.{rules}
 use Rattle.sky.proofs.judge.last_height.Statement.{statement}
 use Rattle.sky.proofs.judge.last_height.Tie as tie
 
-pub last-height-spec : {M : Type 1} → statement M
-last-height-spec =
+pub last_height_spec : {M : Type 1} → statement M
+last_height_spec =
     tie.close
     (tie.spec
     (λ c. search rules) (λ c. search rules) (λ c. search rules)

@@ -7,8 +7,8 @@ use borrow.Author.Rules.{rules}
 use Rattle.sky.proofs.judge.written_height.Statement.{statement}
 use Rattle.sky.proofs.judge.written_height.Tie as tie
 
-pub written-height-spec : {M : Type 1} → statement M
-written-height-spec =
+pub written_height_spec : {M : Type 1} → statement M
+written_height_spec =
     tie.close
     (tie.spec
     (λ c. search rules) (λ c. search rules) (λ c κs. tt) (λ c κs. tt) (λ c. search rules) (λ c. search rules) (λ c. search rules)

@@ -4,8 +4,8 @@ use borrow.Author.Tests.{eq-eqb, ne_eqb}
 use Rattle.sky.proofs.read.amount_of.Statement.{statement}
 use Rattle.sky.proofs.read.amount_of.Tie as tie
 
-pub amount-of-spec : {M : Type 1} → statement M
-amount-of-spec =
+pub amount_of_spec : {M : Type 1} → statement M
+amount_of_spec =
     tie.close
     (tie.spec
     (λ c. rw (eq-eqb _ _ c.if1.true))

@@ -4,8 +4,8 @@ use borrow.Author.Tests.{eq-eqb, ne_eqb}
 use Rattle.sky.proofs.read.convective_of.Statement.{statement}
 use Rattle.sky.proofs.read.convective_of.Tie as tie
 
-pub convective-of-spec : {M : Type 1} → statement M
-convective-of-spec =
+pub convective_of_spec : {M : Type 1} → statement M
+convective_of_spec =
     tie.close
     (tie.spec
     (λ c. rw (eq-eqb _ _ c.if1.true))

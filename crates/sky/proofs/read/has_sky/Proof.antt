@@ -4,5 +4,5 @@ use borrow.Author.Rules.{rules}
 use Rattle.sky.proofs.read.has_sky.Statement.{statement}
 use Rattle.sky.proofs.read.has_sky.Tie as tie
 
-pub has-sky-spec : {M : Type 1} → statement M
-has-sky-spec = tie.close (tie.spec (λ c κs. search rules) (λ c κs. search rules) (λ c. rw (c.before.is-layer.ensures, c.stands-alone.ensures)))
+pub has_sky_spec : {M : Type 1} → statement M
+has_sky_spec = tie.close (tie.spec (λ c κs. search rules) (λ c κs. search rules) (λ c. rw (c.before.is-layer.ensures, c.stands-alone.ensures)))

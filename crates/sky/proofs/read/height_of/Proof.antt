@@ -4,8 +4,8 @@ use borrow.Author.Rules.{rules}
 use Rattle.sky.proofs.read.height_of.Statement.{statement}
 use Rattle.sky.proofs.read.height_of.Tie as tie
 
-pub height-of-spec : {M : Type 1} → statement M
-height-of-spec =
+pub height_of_spec : {M : Type 1} → statement M
+height_of_spec =
     tie.close
     (tie.spec
     (λ c. search rules) (λ c κs. tt) (λ c. search rules) (λ c. search rules) (λ c. search rules) (λ c. search rules) (λ c. search rules)

@@ -4,8 +4,8 @@ use borrow.Author.Rules.{rules}
 use Rattle.sky.proofs.read.not_above.Statement.{statement}
 use Rattle.sky.proofs.read.not_above.Tie as tie
 
-pub not-above-spec : {M : Type 1} → statement M
-not-above-spec =
+pub not_above_spec : {M : Type 1} → statement M
+not_above_spec =
     tie.close
     (tie.spec
     (λ c. search rules) (λ c. search rules) (λ c. search rules) (λ c. search rules) (λ c. search rules) (λ c. search rules)

@@ -1,25 +1,25 @@
 -- `sky::read::read_as_alone` meets its contract, by what the group says.
 -- Assumes nothing.
-use Rattle.elements.specs.Sky.{readAlone}
+use Rattle.elements.specs.Sky.{read_alone}
 use Rattle.sky.proofs.Readings.{cover-good, cover-bad}
 use borrow.Author.Rules.{rules}
 use Rattle.sky.proofs.read.read_as_alone.Statement.{statement}
 use Rattle.sky.proofs.read.read_as_alone.Tie as tie
 
-pub read-as-alone-spec : {M : Type 1} → statement M
-read-as-alone-spec =
+pub read_as_alone_spec : {M : Type 1} → statement M
+read_as_alone_spec =
     tie.close
     (tie.spec
     (λ c κs. tt) (λ c. search rules) (λ c. search rules)
     (λ c.
     let d = c.before.before.before.before in
     let e = d.before.before.args in
-    rw (cover-good (readAlone e.forecast e.g.now) d.read-alone.ensures c.before.before.read.given.1, c.if1.true))
+    rw (cover-good (read_alone e.forecast e.g.now) d.read-alone.ensures c.before.before.read.given.1, c.if1.true))
     (λ c.
     let d = c.before.before.before.before in
     let e = d.before.before.args in
-    rw (cover-good (readAlone e.forecast e.g.now) d.read-alone.ensures c.before.before.read.given.1, c.if1.false))
+    rw (cover-good (read_alone e.forecast e.g.now) d.read-alone.ensures c.before.before.read.given.1, c.if1.false))
     (λ c.
     let d = c.before.before.before in
     let e = d.before.before.args in
-    rw (cover-bad (readAlone e.forecast e.g.now) d.read-alone.ensures c.before.read2.given.1)))
+    rw (cover-bad (read_alone e.forecast e.g.now) d.read-alone.ensures c.before.read2.given.1)))

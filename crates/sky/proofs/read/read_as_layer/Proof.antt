@@ -1,24 +1,24 @@
 -- `sky::read::read_as_layer` meets its contract, by what the group says.
 -- Assumes nothing.
 use lib.ListN.{get_or}
-use Rattle.shapes.specs.Shape.{blankValue}
-use Rattle.elements.specs.Sky.{layerBy}
+use Rattle.shapes.specs.Shape.{blank_value}
+use Rattle.elements.specs.Sky.{layer_by}
 use Rattle.sky.proofs.Readings.{layer-good, layer-bad}
 use borrow.Author.Rules.{rules}
 use Rattle.sky.proofs.read.read_as_layer.Statement.{statement}
 use Rattle.sky.proofs.read.read_as_layer.Tie as tie
 
-pub read-as-layer-spec : {M : Type 1} → statement M
-read-as-layer-spec =
+pub read_as_layer_spec : {M : Type 1} → statement M
+read_as_layer_spec =
     tie.close
     (tie.spec
     (λ c κs. tt) (λ c. search rules) (λ c κs. tt) (λ c. search rules)
     (λ c.
     let d = c.before.before.before.before in
     let vs = d.before.before.args.scanned.values in
-    rw (layer-good (layerBy d.before.before.args.forecast (get_or vs 0 blankValue) (get_or vs 1 blankValue) (get_or vs 2 blankValue)) d.read-layer.ensures c.before.before.read.given.1)
+    rw (layer-good (layer_by d.before.before.args.forecast (get_or vs 0 blank_value) (get_or vs 1 blank_value) (get_or vs 2 blank_value)) d.read-layer.ensures c.before.before.read.given.1)
     c.say-layer.ensures)
     (λ c.
     let d = c.before.before.before in
     let vs = d.before.before.args.scanned.values in
-    rw (layer-bad (layerBy d.before.before.args.forecast (get_or vs 0 blankValue) (get_or vs 1 blankValue) (get_or vs 2 blankValue)) d.read-layer.ensures c.before.read2.given.1)))
+    rw (layer-bad (layer_by d.before.before.args.forecast (get_or vs 0 blank_value) (get_or vs 1 blank_value) (get_or vs 2 blank_value)) d.read-layer.ensures c.before.read2.given.1)))

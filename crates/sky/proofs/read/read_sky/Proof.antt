@@ -1,16 +1,16 @@
 -- `sky::read::read_sky` meets its contract, by the group's shape.
 -- Assumes nothing.
-use Rattle.shapes.specs.Shape.{hasShape}
-use Rattle.elements.specs.Sky.{readLayer}
-use Rattle.elements.specs.Answers.{skySaid}
+use Rattle.shapes.specs.Shape.{has_shape}
+use Rattle.elements.specs.Sky.{read_layer}
+use Rattle.elements.specs.Answers.{sky_said}
 use Rattle.sky.proofs.read.read_sky.Statement.{statement}
 use Rattle.sky.proofs.read.read_sky.Tie as tie
 
-pub read-sky-spec : {M : Type 1} → statement M
-unfolding hasShape readLayer skySaid
-read-sky-spec =
+pub read_sky_spec : {M : Type 1} → statement M
+unfolding has_shape read_layer sky_said
+read_sky_spec =
     tie.close
     (tie.spec
     (λ c κs. tt) (λ c κs. tt) (λ c κs. tt)
-    (λ c. rw (← c.before.before.scan-layer.ensures, hasShape, c.before.if1.true) c.read-as-layer.ensures)
-    (λ c. rw (← c.before.before.scan-layer.ensures, hasShape, c.before.if1.false) c.read-as-alone.ensures))
+    (λ c. rw (← c.before.before.scan-layer.ensures, has_shape, c.before.if1.true) c.read-as-layer.ensures)
+    (λ c. rw (← c.before.before.scan-layer.ensures, has_shape, c.before.if1.false) c.read-as-alone.ensures))

@@ -16,8 +16,8 @@ Inv k h layers i₀ i = (i ≤ 4) × (rises (take k layers) h ≡ rises (drop i 
 abbrev μ : tie.decreases-loop
 μ k h layers i₀ i = 4 - i
 
-pub rises-spec : {M : Type 1} → statement M
-rises-spec =
+pub rises_spec : {M : Type 1} → statement M
+rises_spec =
     tie.close
     (tie.spec Inv μ
     (λ c. (search rules, refl))

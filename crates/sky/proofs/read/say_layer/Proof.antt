@@ -3,8 +3,8 @@
 use Rattle.sky.proofs.read.say_layer.Statement.{statement}
 use Rattle.sky.proofs.read.say_layer.Tie as tie
 
-pub say-layer-spec : {M : Type 1} → statement M
-say-layer-spec =
+pub say_layer_spec : {M : Type 1} → statement M
+say_layer_spec =
     tie.close
     (tie.spec
     (λ c κs. tt) (λ c κs. tt)

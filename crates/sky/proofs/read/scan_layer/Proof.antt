@@ -4,12 +4,12 @@ use borrow.Author.Rules.{rules}
 use mathlib.Core.Path.{refl}
 use Rattle.shapes.specs.Shape.{leading, split, parts_of}
 use Rattle.shapes.proofs.Scans.{no_step, nothing-step, word-step, figures-step, scan-by-steps, end, ◌then◌}
-use Rattle.elements.specs.Sky.{layerShape}
+use Rattle.elements.specs.Sky.{layer_shape}
 use Rattle.sky.proofs.read.scan_layer.Statement.{statement}
 use Rattle.sky.proofs.read.scan_layer.Tie as tie
 
-pub scan-layer-spec : {M : Type 1} → statement M
-scan-layer-spec =
+pub scan_layer_spec : {M : Type 1} → statement M
+scan_layer_spec =
     tie.close
     (tie.spec
     (λ c κs. search rules) (λ c. search rules) (λ c κs. search rules) (λ c. search rules) (λ c κs. search rules) (λ c. search rules)
@@ -28,7 +28,7 @@ scan-layer-spec =
     let g = none.before.before.args.g.now in
     rw (c.scanned.ensures, none.absent.ensures)
     (unfold leading split parts_of in
-    scan-by-steps layerShape g refl
+    scan-by-steps layer_shape g refl
     (word-step (word-step (word-step (word-step (no_step none.absent.ensures) refl overcast.word-or.ensures) refl broken.word-or2.ensures) refl scattered.word-or3.ensures) refl amount.word-or4.ensures
     then figures-step (no_step none.absent.ensures) 0 3 refl refl height.figures-or.ensures
     then word-step (word-step (nothing-step neither.nothing.ensures) refl towering.word-or5.ensures) refl convective.word-or6.ensures

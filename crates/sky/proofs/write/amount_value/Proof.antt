@@ -4,8 +4,8 @@ use borrow.Author.Rules.{rules}
 use Rattle.sky.proofs.write.amount_value.Statement.{statement}
 use Rattle.sky.proofs.write.amount_value.Tie as tie
 
-pub amount-value-spec : {M : Type 1} → statement M
-amount-value-spec =
+pub amount_value_spec : {M : Type 1} → statement M
+amount_value_spec =
     tie.close
     (tie.spec
     (λ c. search rules) (λ c κs. tt) (λ c. search rules) (λ c κs. tt) (λ c. search rules) (λ c κs. tt) (λ c. search rules) (λ c κs. tt)

@@ -8,8 +8,8 @@ use Rattle.sky.proofs.Heights.{open_above}
 use Rattle.sky.proofs.write.cloud_number.Statement.{statement}
 use Rattle.sky.proofs.write.cloud_number.Tie as tie
 
-pub cloud-number-spec : {M : Type 1} → statement M
-cloud-number-spec =
+pub cloud_number_spec : {M : Type 1} → statement M
+cloud_number_spec =
     tie.close
     (tie.spec
     (λ c κs. tt) (λ c. search rules) (λ c. search rules)

@@ -4,8 +4,8 @@ use borrow.Author.Rules.{rules}
 use Rattle.sky.proofs.write.convective_value.Statement.{statement}
 use Rattle.sky.proofs.write.convective_value.Tie as tie
 
-pub convective-value-spec : {M : Type 1} → statement M
-convective-value-spec =
+pub convective_value_spec : {M : Type 1} → statement M
+convective_value_spec =
     tie.close
     (tie.spec
     (λ c. search rules) (λ c κs. tt) (λ c. search rules) (λ c κs. tt) (λ c. search rules) (λ c κs. tt)

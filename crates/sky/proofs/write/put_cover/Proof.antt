@@ -5,8 +5,8 @@ use borrow.Author.Rules.{rules}
 use Rattle.sky.proofs.write.put_cover.Statement.{statement}
 use Rattle.sky.proofs.write.put_cover.Tie as tie
 
-pub put-cover-spec : {M : Type 1} → statement M
-put-cover-spec =
+pub put_cover_spec : {M : Type 1} → statement M
+put_cover_spec =
     tie.close
     (tie.spec
     (λ c. search rules) (λ c. search rules) (λ c. search rules) (λ c κs. tt) (λ c. search rules) (λ c. search rules) (λ c κs. tt) (λ c. search rules)

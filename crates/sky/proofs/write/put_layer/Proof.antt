@@ -1,14 +1,14 @@
 -- `sky::write::put_layer` meets its contract: the group is put after what opens it.
 -- Assumes nothing.
 use Rattle.text.proofs.Writes.{write-group}
-use Rattle.elements.specs.Sky.{showLayer}
+use Rattle.elements.specs.Sky.{show_layer}
 use Rattle.sky.proofs.Writings.{three-parts}
 use borrow.Author.Rules.{rules}
 use Rattle.sky.proofs.write.put_layer.Statement.{statement}
 use Rattle.sky.proofs.write.put_layer.Tie as tie
 
-pub put-layer-spec : {M : Type 1} → statement M
-put-layer-spec =
+pub put_layer_spec : {M : Type 1} → statement M
+put_layer_spec =
     tie.close
     (tie.spec
     (λ c κs. tt) (λ c κs. tt) (λ c κs. tt) (λ c. search rules) (λ c. search rules) (λ c κs. tt) (λ c. search rules) (λ c κs. tt) (λ c. search rules)
@@ -16,6 +16,6 @@ put-layer-spec =
     (λ c.
     let opened = c.before.before.before.before.before.before.before in
     let told = opened.before.before in
-    unfold showLayer in
+    unfold show_layer in
     write-group opened.open-group.ensures
     (rw (told.convective-value.ensures, told.before.amount-value.ensures, told.before.before.before.height-field.ensures, three-parts) at c.before.before.put-shape.ensures)))

@@ -8,21 +8,21 @@ use Rattle.figures.specs.Put.{Put}
 use Rattle.figures.proofs.Puts.{length-put}
 use Rattle.text.specs.Groups.{written}
 use Rattle.text.proofs.Writes.{write-groups}
-use Rattle.record.specs.Body.{blankLayer}
-use Rattle.elements.specs.Sky.{showLayer}
+use Rattle.record.specs.Body.{blank_layer}
+use Rattle.elements.specs.Sky.{show_layer}
 use Rattle.sky.proofs.Writings.{write-none, show-next, show-all}
 use borrow.Author.Rules.{rules}
 use Rattle.sky.proofs.write.put_layers.Statement.{statement}
 use Rattle.sky.proofs.write.put_layers.Tie as tie
 
 abbrev Inv : tie.invariant-loop
-Inv out₀ at count layers next₀ i₀ out next i = (i ≤ 4) × Put out₀ at (written at (map showLayer (take i (take count layers)))) next out
+Inv out₀ at count layers next₀ i₀ out next i = (i ≤ 4) × Put out₀ at (written at (map show_layer (take i (take count layers)))) next out
 
 abbrev μ : tie.decreases-loop
 μ out₀ at count layers next₀ i₀ out next i = 4 - i
 
-pub put-layers-spec : {M : Type 1} → statement M
-put-layers-spec =
+pub put_layers_spec : {M : Type 1} → statement M
+put_layers_spec =
     tie.close
     (tie.spec Inv μ
     (λ c. (search rules, write-none _ _))
@@ -33,7 +33,7 @@ put-layers-spec =
     let d = c.before.before.before.before.before.before.before in
     let e = d.before.before.args in (
       search rules,
-      rw (show-next e.t3 e.count d.loop.i blankLayer (search rules) (search rules))
+      rw (show-next e.t3 e.count d.loop.i blank_layer (search rules) (search rules))
           (write-groups _ _ d.loop.invariant.1 c.before.before.put-layer.ensures),
     ))
     (λ c. length-put c.before.loop.invariant.1)

@@ -6,8 +6,8 @@ use borrow.Author.Rules.{rules}
 use Rattle.sky.proofs.write.put_vertical.Statement.{statement}
 use Rattle.sky.proofs.write.put_vertical.Tie as tie
 
-pub put-vertical-spec : {M : Type 1} → statement M
-put-vertical-spec =
+pub put_vertical_spec : {M : Type 1} → statement M
+put_vertical_spec =
     tie.close
     (tie.spec
     (λ c κs. tt) (λ c. search rules) (λ c κs. tt) (λ c κs. tt) (λ c κs. tt) (λ c. search rules)

@@ -5,8 +5,8 @@ use borrow.Author.Rules.{rules}
 use Rattle.sky.proofs.write.put_word.Statement.{statement}
 use Rattle.sky.proofs.write.put_word.Tie as tie
 
-pub put-word-spec : {M : Type 1} → statement M
-put-word-spec =
+pub put_word_spec : {M : Type 1} → statement M
+put_word_spec =
     tie.close
     (tie.spec
     (λ c κs. tt) (λ c κs. tt) (λ c. search rules)

@@ -22,8 +22,8 @@ others name.Longitude told g = refl
 others (name.Indicators land) told g = refl
 others name.Wind told g = refl
 
-pub has-shape-spec : {M : Type 1} → statement M
-has-shape-spec =
+pub has_shape_spec : {M : Type 1} → statement M
+has_shape_spec =
     tie.close
     (tie.spec
     (λ c. search rules) (λ c. search rules) (λ c κs. search rules) (λ c. search rules) (λ c κs. search rules)

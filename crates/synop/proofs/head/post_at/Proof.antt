@@ -9,8 +9,8 @@ use Rattle.synop.proofs.HeadSteps.{last-post}
 use Rattle.synop.proofs.head.post_at.Statement.{statement}
 use Rattle.synop.proofs.head.post_at.Tie as tie
 
-pub post-at-spec : {M : Type 1} → statement M
-post-at-spec =
+pub post_at_spec : {M : Type 1} → statement M
+post_at_spec =
     tie.close
     (tie.spec
     (λ c. search rules) (λ c. search rules) (λ c. search rules) (λ c. search rules)

@@ -4,8 +4,8 @@ use borrow.Author.Rules.{rules}
 use Rattle.synop.proofs.head.said_by.Statement.{statement}
 use Rattle.synop.proofs.head.said_by.Tie as tie
 
-pub said-by-spec : {M : Type 1} → statement M
-said-by-spec =
+pub said_by_spec : {M : Type 1} → statement M
+said_by_spec =
     tie.close
     (tie.spec
     (λ c. search rules) (λ c κs. search rules) (λ c. search rules) (λ c κs. search rules) (λ c. search rules) (λ c κs. search rules)

@@ -6,8 +6,8 @@ use Rattle.synop.proofs.HeadSteps.{nine-bytes}
 use Rattle.synop.proofs.head.sign_of.Statement.{statement}
 use Rattle.synop.proofs.head.sign_of.Tie as tie
 
-pub sign-of-spec : {M : Type 1} → statement M
-sign-of-spec =
+pub sign_of_spec : {M : Type 1} → statement M
+sign_of_spec =
     tie.close
     (tie.spec
     (λ c κs. search rules) (λ c κs. search rules) (λ c κs. search rules) (λ c κs. search rules) (λ c κs. search rules)

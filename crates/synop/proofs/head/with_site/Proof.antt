@@ -10,7 +10,7 @@ use Rattle.record.specs.declared.surface.Site.{Site}
 use Rattle.synop_groups.specs.declared.kinds.Said.{Said}
 use Rattle.synop_groups.specs.declared.kinds.Said.TheVariants as said
 use Rattle.synop_groups.specs.contracts.kinds.Said as says
-use Rattle.synop.specs.Read.{siteOnto}
+use Rattle.synop.specs.Read.{site_onto}
 use Rattle.synop.proofs.head.with_site.Statement.{statement}
 use Rattle.synop.proofs.head.with_site.Tie as tie
 
@@ -18,7 +18,7 @@ use Rattle.synop.proofs.head.with_site.Tie as tie
 abbrev elsewhere : List ℕ
 elsewhere = 0 ∷ 4 ∷ 5 ∷ 6 ∷ 7 ∷ 8 ∷ 9 ∷ 10 ∷ 11 ∷ 12 ∷ 13 ∷ 14 ∷ 15 ∷ 16 ∷ []
 
-others : (x : Said) → OneOf elsewhere (tag_of says.the_type x) → (s : Site) → s ≡ siteOnto x s
+others : (x : Said) → OneOf elsewhere (tag_of says.the_type x) → (s : Site) → s ≡ site_onto x s
 others (said.Refused f) told s = refl
 others (said.Time t) told s = absurd (miss elsewhere 1 tt told)
 others (said.Station n) told s = absurd (miss elsewhere 2 tt told)
@@ -37,8 +37,8 @@ others (said.Clouds c) told s = refl
 others (said.Clock c) told s = refl
 others (said.Layer l) told s = refl
 
-pub with-site-spec : {M : Type 1} → statement M
-with-site-spec =
+pub with_site_spec : {M : Type 1} → statement M
+with_site_spec =
     tie.close
     (tie.spec
     (λ c. search rules) (λ c. search rules) (λ c κs. search rules) (λ c. search rules)

@@ -6,8 +6,8 @@ use Rattle.synop.proofs.TextSteps.{short-by}
 use Rattle.synop.proofs.read.end_short.Statement.{statement}
 use Rattle.synop.proofs.read.end_short.Tie as tie
 
-pub end-short-spec : {M : Type 1} → statement M
-end-short-spec =
+pub end_short_spec : {M : Type 1} → statement M
+end_short_spec =
     tie.close
     (tie.spec
     (λ c κs. search rules) (λ c. search rules) (λ c κs. search rules) (λ c. search rules) (λ c κs. search rules)

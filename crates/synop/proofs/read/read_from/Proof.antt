@@ -12,8 +12,8 @@ use Rattle.synop.proofs.read.read_from.Tie as tie
 follows : (c : tie.After-known-told) → Follows c.before.before.before.before.before.before.before.args.text.now c.before.before.before.before.before.before.before.args.at c.before.start.given.0.0 c.before.start.given.0.1.0
 follows c = when-group _ _ _ _ (sym c.before.start.given.1 ∙ c.before.before.before.next-group.ensures)
 
-pub read-from-spec : {M : Type 1} → statement M
-read-from-spec =
+pub read_from_spec : {M : Type 1} → statement M
+read_from_spec =
     tie.close
     (tie.spec
     (λ c κs. search rules) (λ c κs. search rules) (λ c. search rules) (λ c. search rules) (λ c κs. search rules)

@@ -7,8 +7,8 @@ use Rattle.synop.proofs.TextSteps.{nil-then, nil-over}
 use Rattle.synop.proofs.read.read_nil.Statement.{statement}
 use Rattle.synop.proofs.read.read_nil.Tie as tie
 
-pub read-nil-spec : {M : Type 1} → statement M
-read-nil-spec =
+pub read_nil_spec : {M : Type 1} → statement M
+read_nil_spec =
     tie.close
     (tie.spec
     (λ c κs. search rules) (λ c. search rules) (λ c κs. search rules) (λ c. search rules) (λ c κs. search rules) (λ c. search rules)

@@ -6,20 +6,20 @@ use native.Mathlib.Omega.{arith}
 use mathlib.Core.Path.{◌≡◌, refl, sym, ◌∙◌}
 use mathlib.Core.List.{map}
 use lib.ListN.{length}
-use Rattle.text.specs.Text.{tailOf}
-use Rattle.text.specs.Groups.{groupsFrom}
+use Rattle.text.specs.Text.{tail_of}
+use Rattle.text.specs.Groups.{groups_from}
 use Rattle.text.proofs.Groups.{Follows, when-group, when-end}
 use Rattle.synop_section.specs.Answer.{answer}
 use Rattle.synop.specs.Read.{walk}
-use Rattle.synop.specs.Head.{named, post_of, synopOf}
+use Rattle.synop.specs.Head.{named, post_of, synop_of}
 use Rattle.synop.proofs.HeadSteps.{few-posts, walks, walks-past, walks-over, walks-nil, walks-other, walks-bad, walks-on}
 use Rattle.synop.proofs.read.read_posts.Statement.{statement}
 use Rattle.synop.proofs.read.read_posts.Tie as tie
 
 abbrev Inv : tie.invariant-loop
 Inv text at ship site₀ surface₀ section3 count number₀ from₀ site surface number from =
-    (answer (walk (map post_of (named ship)) (synopOf ship site₀ surface₀ section3) (tailOf text) (length text) (groupsFrom text at))
-    ≡ walks ship number (synopOf ship site surface section3) text from)
+    (answer (walk (map post_of (named ship)) (synop_of ship site₀ surface₀ section3) (tail_of text) (length text) (groups_from text at))
+    ≡ walks ship number (synop_of ship site surface section3) text from)
     × (count ≡ length (named ship))
 
 abbrev μ : tie.decreases-loop
@@ -33,8 +33,8 @@ here c = rw c.before.loop.invariant.1 at c.loop-test.true
 follows : (c : tie.After-known-told Inv μ) → Follows c.before.before.before.before.before.before.before.before.before.before.before.args.text.now c.before.before.before.before.before.loop.from c.before.start.given.0.0 c.before.start.given.0.1.0
 follows c = when-group _ _ _ _ (sym c.before.start.given.1 ∙ c.before.before.before.next-group.ensures)
 
-pub read-posts-spec : {M : Type 1} → statement M
-read-posts-spec =
+pub read_posts_spec : {M : Type 1} → statement M
+read_posts_spec =
     tie.close
     (tie.spec Inv μ
     (λ c κs. search rules)

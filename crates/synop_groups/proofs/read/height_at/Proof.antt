@@ -1,13 +1,13 @@
 -- `synop_groups::read::height_at` meets its contract.
 -- Assumes nothing.
 use borrow.Author.Rules.{rules}
-use Rattle.synop_groups.specs.Parts.{layerPart}
+use Rattle.synop_groups.specs.Parts.{layer_part}
 use Rattle.synop_groups.proofs.read.height_at.Statement.{statement}
 use Rattle.synop_groups.proofs.read.height_at.Tie as tie
 
-pub height-at-spec : {M : Type 1} → statement M
-unfolding layerPart
-height-at-spec =
+pub height_at_spec : {M : Type 1} → statement M
+unfolding layer_part
+height_at_spec =
     tie.close
     (tie.spec
     (λ c κs. search rules) (λ c. search rules) (λ c κs. search rules) (λ c. search rules) (λ c. search rules) (λ c. search rules)

@@ -2,13 +2,13 @@
 -- Assumes nothing.
 use borrow.Author.Rules.{rules}
 use borrow.Author.Tests.{le-leb, lt-leb}
-use Rattle.synop_groups.specs.Parts.{heightFor}
+use Rattle.synop_groups.specs.Parts.{height_for}
 use Rattle.synop_groups.proofs.read.height_of.Statement.{statement}
 use Rattle.synop_groups.proofs.read.height_of.Tie as tie
 
-pub height-of-spec : {M : Type 1} → statement M
-unfolding heightFor
-height-of-spec =
+pub height_of_spec : {M : Type 1} → statement M
+unfolding height_for
+height_of_spec =
     tie.close
     (tie.spec
     (λ c κs. search rules) (λ c. search rules) (λ c. search rules) (λ c κs. search rules) (λ c. search rules) (λ c. search rules)

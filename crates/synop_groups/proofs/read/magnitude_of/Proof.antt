@@ -6,8 +6,8 @@ use Rattle.synop_groups.proofs.Readings.{same_bits}
 use Rattle.synop_groups.proofs.read.magnitude_of.Statement.{statement}
 use Rattle.synop_groups.proofs.read.magnitude_of.Tie as tie
 
-pub magnitude-of-spec : {M : Type 1} → statement M
-magnitude-of-spec =
+pub magnitude_of_spec : {M : Type 1} → statement M
+magnitude_of_spec =
     tie.close
     (tie.spec
     (λ c. search rules) (λ c. search rules) (λ c κs. search rules) (λ c. search rules)

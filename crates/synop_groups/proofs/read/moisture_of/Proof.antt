@@ -2,14 +2,14 @@
 -- Assumes nothing.
 use borrow.Author.Tests.{le-leb, lt-leb, eq-eqb, ne_eqb}
 use borrow.Author.Rules.{rules}
-use Rattle.synop_groups.specs.Reads.{moistureIs}
+use Rattle.synop_groups.specs.Reads.{moisture_is}
 use Rattle.synop_groups.proofs.Readings.{same_bits}
 use Rattle.synop_groups.proofs.read.moisture_of.Statement.{statement}
 use Rattle.synop_groups.proofs.read.moisture_of.Tie as tie
 
-pub moisture-of-spec : {M : Type 1} → statement M
-unfolding moistureIs
-moisture-of-spec =
+pub moisture_of_spec : {M : Type 1} → statement M
+unfolding moisture_is
+moisture_of_spec =
     tie.close
     (tie.spec
     (λ c. rw (eq-eqb _ _ c.before.if1.true, le-leb _ _ c.if2.true))

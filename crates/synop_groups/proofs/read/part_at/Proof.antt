@@ -5,9 +5,9 @@ use Rattle.synop_groups.specs.Parts.{part_of}
 use Rattle.synop_groups.proofs.read.part_at.Statement.{statement}
 use Rattle.synop_groups.proofs.read.part_at.Tie as tie
 
-pub part-at-spec : {M : Type 1} → statement M
+pub part_at_spec : {M : Type 1} → statement M
 unfolding part_of
-part-at-spec =
+part_at_spec =
     tie.close
     (tie.spec
     (λ c κs. search rules) (λ c. search rules) (λ c. search rules) (λ c. search rules) (λ c. search rules)

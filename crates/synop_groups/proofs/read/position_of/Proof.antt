@@ -7,9 +7,9 @@ use Rattle.synop_groups.proofs.Readings.{same_bits}
 use Rattle.synop_groups.proofs.read.position_of.Statement.{statement}
 use Rattle.synop_groups.proofs.read.position_of.Tie as tie
 
-pub position-of-spec : {M : Type 1} → statement M
+pub position_of_spec : {M : Type 1} → statement M
 unfolding position_of
-position-of-spec =
+position_of_spec =
     tie.close
     (tie.spec
     (λ c κs. search rules) (λ c. rw (lt-leb _ _ c.before.if1.true) c.wrong-figure.ensures)

@@ -4,8 +4,8 @@ use borrow.Author.Rules.{rules}
 use Rattle.synop_groups.proofs.read.rainfall_of.Statement.{statement}
 use Rattle.synop_groups.proofs.read.rainfall_of.Tie as tie
 
-pub rainfall-of-spec : {M : Type 1} → statement M
-rainfall-of-spec =
+pub rainfall_of_spec : {M : Type 1} → statement M
+rainfall_of_spec =
     tie.close
     (tie.spec
     (λ c κs. search rules) (λ c. search rules) (λ c κs. search rules) (λ c. search rules) (λ c κs. search rules)

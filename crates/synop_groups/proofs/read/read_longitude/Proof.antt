@@ -1,13 +1,13 @@
 -- `synop_groups::read::read_longitude` meets its contract.
 -- Assumes nothing.
-use Rattle.synop_groups.specs.Reads.{saidLongitude}
+use Rattle.synop_groups.specs.Reads.{said_longitude}
 use Rattle.synop_groups.proofs.Readings.{readings}
 use Rattle.synop_groups.proofs.read.read_longitude.Statement.{statement}
 use Rattle.synop_groups.proofs.read.read_longitude.Tie as tie
 
-pub read-longitude-spec : {M : Type 1} → statement M
-unfolding saidLongitude
-read-longitude-spec =
+pub read_longitude_spec : {M : Type 1} → statement M
+unfolding said_longitude
+read_longitude_spec =
     tie.close
     (tie.spec
     (λ c κs. search readings) (λ c. search readings) (λ c κs. search readings) (λ c. search readings)

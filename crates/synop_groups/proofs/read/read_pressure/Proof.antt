@@ -1,13 +1,13 @@
 -- `synop_groups::read::read_pressure` meets its contract.
 -- Assumes nothing.
-use Rattle.synop_groups.specs.Reads.{saidPressure}
+use Rattle.synop_groups.specs.Reads.{said_pressure}
 use Rattle.synop_groups.proofs.Readings.{readings, small}
 use Rattle.synop_groups.proofs.read.read_pressure.Statement.{statement}
 use Rattle.synop_groups.proofs.read.read_pressure.Tie as tie
 
-pub read-pressure-spec : {M : Type 1} → statement M
-unfolding saidPressure
-read-pressure-spec =
+pub read_pressure_spec : {M : Type 1} → statement M
+unfolding said_pressure
+read_pressure_spec =
     tie.close
     (tie.spec
     (λ c κs. search readings) (λ c. search readings) (λ c κs. small _ 1 4 c.before.before.before.field.ensures c.before.f.given.1) (λ c. search readings) (λ c κs. search readings) (λ c. rw c.pressure-of.ensures (search readings))

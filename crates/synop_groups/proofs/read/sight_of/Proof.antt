@@ -2,13 +2,13 @@
 -- Assumes nothing.
 use borrow.Author.Rules.{rules}
 use borrow.Author.Tests.{le-leb, lt-leb}
-use Rattle.synop_groups.specs.Parts.{sightFor}
+use Rattle.synop_groups.specs.Parts.{sight_for}
 use Rattle.synop_groups.proofs.read.sight_of.Statement.{statement}
 use Rattle.synop_groups.proofs.read.sight_of.Tie as tie
 
-pub sight-of-spec : {M : Type 1} → statement M
-unfolding sightFor
-sight-of-spec =
+pub sight_of_spec : {M : Type 1} → statement M
+unfolding sight_for
+sight_of_spec =
     tie.close
     (tie.spec
     (λ c κs. search rules) (λ c. search rules) (λ c. search rules) (λ c κs. search rules) (λ c. search rules) (λ c. search rules)

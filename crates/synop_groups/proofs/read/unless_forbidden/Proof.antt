@@ -4,8 +4,8 @@ use borrow.Author.Rules.{rules}
 use Rattle.synop_groups.proofs.read.unless_forbidden.Statement.{statement}
 use Rattle.synop_groups.proofs.read.unless_forbidden.Tie as tie
 
-pub unless-forbidden-spec : {M : Type 1} → statement M
-unless-forbidden-spec =
+pub unless_forbidden_spec : {M : Type 1} → statement M
+unless_forbidden_spec =
     tie.close
     (tie.spec
     (λ c κs. search rules) (λ c. rw c.before.if1.true c.disagreement.ensures) (λ c. rw c.if1.false))

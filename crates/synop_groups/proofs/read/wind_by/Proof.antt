@@ -2,13 +2,13 @@
 -- Assumes nothing.
 use borrow.Author.Tests.{eq-eqb, ne_eqb}
 use borrow.Author.Rules.{rules}
-use Rattle.synop_groups.specs.Reads.{windBy}
+use Rattle.synop_groups.specs.Reads.{wind_by}
 use Rattle.synop_groups.proofs.read.wind_by.Statement.{statement}
 use Rattle.synop_groups.proofs.read.wind_by.Tie as tie
 
-pub wind-by-spec : {M : Type 1} → statement M
-unfolding windBy
-wind-by-spec =
+pub wind_by_spec : {M : Type 1} → statement M
+unfolding wind_by
+wind_by_spec =
     tie.close
     (tie.spec
     (λ c κs. search rules) (λ c. rw (eq-eqb _ _ c.before.if1.true) c.wind-of.ensures)

@@ -6,8 +6,8 @@ use Rattle.synop_groups.proofs.Readings.{agree-is}
 use Rattle.synop_groups.proofs.read.wind_of.Statement.{statement}
 use Rattle.synop_groups.proofs.read.wind_of.Tie as tie
 
-pub wind-of-spec : {M : Type 1} → statement M
-wind-of-spec =
+pub wind_of_spec : {M : Type 1} → statement M
+wind_of_spec =
     tie.close
     (tie.spec
     (λ c κs. search rules)

@@ -5,8 +5,8 @@ use Rattle.synop_groups.proofs.Readings.{signed, unsigned}
 use Rattle.synop_groups.proofs.read.with_sign.Statement.{statement}
 use Rattle.synop_groups.proofs.read.with_sign.Tie as tie
 
-pub with-sign-spec : {M : Type 1} → statement M
-with-sign-spec =
+pub with_sign_spec : {M : Type 1} → statement M
+with_sign_spec =
     tie.close
     (tie.spec
     (λ c κs. search rules) (λ c. search rules) (λ c. search rules)

@@ -5,19 +5,19 @@ use Prim.Native.Nat.{◌≤◌, ◌-◌}
 use lib.ListN.{length, drop}
 use borrow.Author.Rules.{rules}
 use Rattle.figures.specs.Figures.{every}
-use Rattle.synop_groups.specs.Judge.{slotFits}
+use Rattle.synop_groups.specs.Judge.{slot_fits}
 use Rattle.figures.proofs.Every.{every-next, every-stop, every-end}
 use Rattle.synop_groups.proofs.sign.slots_fit.Statement.{statement}
 use Rattle.synop_groups.proofs.sign.slots_fit.Tie as tie
 
 abbrev Inv : tie.invariant-loop
-Inv filled s i₀ i = (i ≤ length s) × (every (slotFits filled) s ≡ every (slotFits filled) (drop i s))
+Inv filled s i₀ i = (i ≤ length s) × (every (slot_fits filled) s ≡ every (slot_fits filled) (drop i s))
 
 abbrev μ : tie.decreases-loop
 μ filled s i₀ i = length s - i
 
-pub slots-fit-spec : {M : Type 1} → statement M
-slots-fit-spec =
+pub slots_fit_spec : {M : Type 1} → statement M
+slots_fit_spec =
     tie.close
     (tie.spec Inv μ
     (λ c. (search rules, refl))
@@ -25,11 +25,11 @@ slots-fit-spec =
     (λ c.
     let d = c.before.before.before.before in
     let e = d.before.before in
-    (search rules, d.loop.invariant.1 ∙ every-next (slotFits e.args.filled) e.args.s.now d.loop.i 0 (search rules) (sym c.before.slot-fits.ensures ∙ c.if1.true)))
+    (search rules, d.loop.invariant.1 ∙ every-next (slot_fits e.args.filled) e.args.s.now d.loop.i 0 (search rules) (sym c.before.slot-fits.ensures ∙ c.if1.true)))
     (λ c.
     let d = c.before.before.before.before in
     let e = d.before.before in
-    sym (d.loop.invariant.1 ∙ every-stop (slotFits e.args.filled) e.args.s.now d.loop.i 0 (search rules) (sym c.before.slot-fits.ensures ∙ c.if1.false)))
+    sym (d.loop.invariant.1 ∙ every-stop (slot_fits e.args.filled) e.args.s.now d.loop.i 0 (search rules) (sym c.before.slot-fits.ensures ∙ c.if1.false)))
     (λ c.
     let d = c.before.before.before in
-    sym (c.before.loop.invariant.1 ∙ every-end (slotFits d.args.filled) d.args.s.now c.before.loop.i (search rules))))
+    sym (c.before.loop.invariant.1 ∙ every-end (slot_fits d.args.filled) d.args.s.now c.before.loop.i (search rules))))

@@ -6,8 +6,8 @@ use mir.ValLaws.{to_z-of_z}
 use Rattle.synop_groups_judge.proofs.judge.change_agrees.Statement.{statement}
 use Rattle.synop_groups_judge.proofs.judge.change_agrees.Tie as tie
 
-pub change-agrees-spec : {M : Type 1} → statement M
-change-agrees-spec =
+pub change_agrees_spec : {M : Type 1} → statement M
+change_agrees_spec =
     tie.close
     (tie.spec
     (λ c. search rules) (λ c. search rules) (λ c κs. tt) (λ c. search rules)

@@ -1,4 +1,4 @@
--- `synop_groups_judge::judge::change_suits` meets its contract: the two tests are those of `changeSuits`.
+-- `synop_groups_judge::judge::change_suits` meets its contract: the two tests are those of `change_suits`.
 -- Assumes nothing.
 use borrow.Author.Rules.{rules}
 use borrow.Author.Tests.{lt-ltb, le-ltb, eq-eqb, ne_eqb}
@@ -7,8 +7,8 @@ use mir.ValLaws.{to_z-of_z}
 use Rattle.synop_groups_judge.proofs.judge.change_suits.Statement.{statement}
 use Rattle.synop_groups_judge.proofs.judge.change_suits.Tie as tie
 
-pub change-suits-spec : {M : Type 1} → statement M
-change-suits-spec =
+pub change_suits_spec : {M : Type 1} → statement M
+change_suits_spec =
     tie.close
     (tie.spec
     (λ c κs. tt) (λ c κs. tt)

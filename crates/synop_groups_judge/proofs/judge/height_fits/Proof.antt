@@ -4,8 +4,8 @@ use borrow.Author.Rules.{rules}
 use Rattle.synop_groups_judge.proofs.judge.height_fits.Statement.{statement}
 use Rattle.synop_groups_judge.proofs.judge.height_fits.Tie as tie
 
-pub height-fits-spec : {M : Type 1} → statement M
-height-fits-spec =
+pub height_fits_spec : {M : Type 1} → statement M
+height_fits_spec =
     tie.close
     (tie.spec
     (λ c. search rules) (λ c. search rules) (λ c. search rules) (λ c. search rules)

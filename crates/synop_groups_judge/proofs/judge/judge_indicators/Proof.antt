@@ -1,18 +1,18 @@
 -- `synop_groups_judge::judge::judge_indicators` meets its contract, by what its parts are judged.
 -- Assumes nothing.
-use Rattle.synop_groups.specs.Judge.{judgeIndicators}
+use Rattle.synop_groups.specs.Judge.{judge_indicators}
 use Rattle.synop_groups_judge.proofs.Judging.{optional-metres}
 use Rattle.synop_groups_judge.proofs.judge.judge_indicators.Statement.{statement}
 use Rattle.synop_groups_judge.proofs.judge.judge_indicators.Tie as tie
 
-pub judge-indicators-spec : {M : Type 1} → statement M
-judge-indicators-spec =
+pub judge_indicators_spec : {M : Type 1} → statement M
+judge_indicators_spec =
     tie.close
     (tie.spec
     (λ c κs. tt) (λ c κs. tt) (λ c κs. tt) (λ c κs. tt) (λ c κs. tt)
     (λ c.
     let d = c.before.before.before in
     let e = d.before in
-    unfold judgeIndicators in
+    unfold judge_indicators in
     let base = c.before.before.is-missing-or-between.ensures in
     rw (c.judge.ensures, e.is-between.ensures, d.is-between2.ensures, base, optional-metres, c.before.sight-fits.ensures)))

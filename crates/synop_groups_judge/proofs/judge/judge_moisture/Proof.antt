@@ -1,12 +1,12 @@
 -- `synop_groups_judge::judge::judge_moisture` meets its contract, by what its parts are judged.
 -- Assumes nothing.
-use Rattle.synop_groups.specs.Judge.{judgeMoisture}
+use Rattle.synop_groups.specs.Judge.{judge_moisture}
 use Rattle.synop_groups_judge.proofs.judge.judge_moisture.Statement.{statement}
 use Rattle.synop_groups_judge.proofs.judge.judge_moisture.Tie as tie
 
-pub judge-moisture-spec : {M : Type 1} → statement M
-judge-moisture-spec =
+pub judge_moisture_spec : {M : Type 1} → statement M
+judge_moisture_spec =
     tie.close
     (tie.spec
     (λ c κs. tt) (λ c κs. tt)
-    (λ c. unfold judgeMoisture in rw (c.judge.ensures, c.before.moist-fits.ensures)))
+    (λ c. unfold judge_moisture in rw (c.judge.ensures, c.before.moist-fits.ensures)))

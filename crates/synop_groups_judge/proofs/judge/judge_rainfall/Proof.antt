@@ -1,12 +1,12 @@
 -- `synop_groups_judge::judge::judge_rainfall` meets its contract, by what its parts are judged.
 -- Assumes nothing.
-use Rattle.synop_groups.specs.Judge.{judgeRainfall}
+use Rattle.synop_groups.specs.Judge.{judge_rainfall}
 use Rattle.synop_groups_judge.proofs.judge.judge_rainfall.Statement.{statement}
 use Rattle.synop_groups_judge.proofs.judge.judge_rainfall.Tie as tie
 
-pub judge-rainfall-spec : {M : Type 1} → statement M
-judge-rainfall-spec =
+pub judge_rainfall_spec : {M : Type 1} → statement M
+judge_rainfall_spec =
     tie.close
     (tie.spec
     (λ c κs. tt) (λ c κs. tt) (λ c κs. tt)
-    (λ c. unfold judgeRainfall in rw (c.judge.ensures, c.before.before.fall-fits.ensures, c.before.is-missing.ensures)))
+    (λ c. unfold judge_rainfall in rw (c.judge.ensures, c.before.before.fall-fits.ensures, c.before.is-missing.ensures)))

@@ -1,16 +1,16 @@
 -- `synop_groups_judge::judge::judge_sign` meets its contract, by what its parts are judged.
 -- Assumes nothing.
 use borrow.Author.Rules.{rules}
-use Rattle.synop_groups.specs.Judge.{judgeSign}
+use Rattle.synop_groups.specs.Judge.{judge_sign}
 use Rattle.synop_groups_judge.proofs.judge.judge_sign.Statement.{statement}
 use Rattle.synop_groups_judge.proofs.judge.judge_sign.Tie as tie
 
-pub judge-sign-spec : {M : Type 1} → statement M
-judge-sign-spec =
+pub judge_sign_spec : {M : Type 1} → statement M
+judge_sign_spec =
     tie.close
     (tie.spec
     (λ c. search rules) (λ c κs. tt) (λ c κs. tt) (λ c κs. tt) (λ c κs. tt)
     (λ c.
     let d = c.before.before in
-    unfold judgeSign in
+    unfold judge_sign in
     rw (c.judge.ensures, c.before.is-blank-from.ensures, d.slots-fit.ensures, d.before.name-part.ensures)))

@@ -1,12 +1,12 @@
 -- `synop_groups_judge::judge::judge_tendency` meets its contract, by what its parts are judged.
 -- Assumes nothing.
-use Rattle.synop_groups.specs.Judge.{judgeTendency}
+use Rattle.synop_groups.specs.Judge.{judge_tendency}
 use Rattle.synop_groups_judge.proofs.judge.judge_tendency.Statement.{statement}
 use Rattle.synop_groups_judge.proofs.judge.judge_tendency.Tie as tie
 
-pub judge-tendency-spec : {M : Type 1} → statement M
-judge-tendency-spec =
+pub judge_tendency_spec : {M : Type 1} → statement M
+judge_tendency_spec =
     tie.close
     (tie.spec
     (λ c κs. tt) (λ c κs. tt) (λ c κs. tt)
-    (λ c. unfold judgeTendency in rw (c.judge.ensures, c.before.before.change-fits.ensures, c.before.change-agrees.ensures)))
+    (λ c. unfold judge_tendency in rw (c.judge.ensures, c.before.before.change-fits.ensures, c.before.change-agrees.ensures)))

@@ -1,16 +1,16 @@
 -- `synop_groups_judge::judge::judge_weather` meets its contract, by what its parts are judged.
 -- Assumes nothing.
-use Rattle.synop_groups.specs.Judge.{judgeWeather}
+use Rattle.synop_groups.specs.Judge.{judge_weather}
 use Rattle.synop_groups_judge.proofs.judge.judge_weather.Statement.{statement}
 use Rattle.synop_groups_judge.proofs.judge.judge_weather.Tie as tie
 
-pub judge-weather-spec : {M : Type 1} → statement M
-judge-weather-spec =
+pub judge_weather_spec : {M : Type 1} → statement M
+judge_weather_spec =
     tie.close
     (tie.spec
     (λ c κs. tt) (λ c κs. tt) (λ c κs. tt) (λ c κs. tt) (λ c κs. tt)
     (λ c.
     let d = c.before.before.before in
     let e = d.before in
-    unfold judgeWeather in
+    unfold judge_weather in
     rw (c.judge.ensures, e.is-missing-or-between.ensures, d.is-missing-or-between2.ensures, c.before.before.is-missing-or-between3.ensures, c.before.is-blank.ensures)))

@@ -1,15 +1,15 @@
 -- `synop_groups_judge::judge::judge_wind` meets its contract, by what its parts are judged.
 -- Assumes nothing.
-use Rattle.synop_groups.specs.Judge.{judgeWind}
+use Rattle.synop_groups.specs.Judge.{judge_wind}
 use Rattle.synop_groups_judge.proofs.judge.judge_wind.Statement.{statement}
 use Rattle.synop_groups_judge.proofs.judge.judge_wind.Tie as tie
 
-pub judge-wind-spec : {M : Type 1} → statement M
-judge-wind-spec =
+pub judge_wind_spec : {M : Type 1} → statement M
+judge_wind_spec =
     tie.close
     (tie.spec
     (λ c κs. tt) (λ c κs. tt) (λ c κs. tt) (λ c κs. tt)
     (λ c.
     let d = c.before.before.before in
-    unfold judgeWind in
+    unfold judge_wind in
     rw (c.judge.ensures, d.is-missing-or-between.ensures, c.before.before.wind-fits.ensures, c.before.wind-agrees.ensures)))

@@ -6,8 +6,8 @@ use mir.ValLaws.{to_z-of_z}
 use Rattle.synop_groups_judge.proofs.judge.latitude_fits.Statement.{statement}
 use Rattle.synop_groups_judge.proofs.judge.latitude_fits.Tie as tie
 
-pub latitude-fits-spec : {M : Type 1} → statement M
-latitude-fits-spec =
+pub latitude_fits_spec : {M : Type 1} → statement M
+latitude_fits_spec =
     tie.close
     (tie.spec
     (λ c. search rules) (λ c. search rules) (λ c κs. tt) (λ c. search rules)

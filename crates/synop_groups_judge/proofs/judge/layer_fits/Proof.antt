@@ -1,14 +1,14 @@
 -- `synop_groups_judge::judge::layer_fits` meets its contract, by what its parts are judged.
 -- Assumes nothing.
-use Rattle.synop_groups.specs.Judge.{layerFits}
+use Rattle.synop_groups.specs.Judge.{layer_fits}
 use Rattle.synop_groups_judge.proofs.judge.layer_fits.Statement.{statement}
 use Rattle.synop_groups_judge.proofs.judge.layer_fits.Tie as tie
 
-pub layer-fits-spec : {M : Type 1} → statement M
-layer-fits-spec =
+pub layer_fits_spec : {M : Type 1} → statement M
+layer_fits_spec =
     tie.close
     (tie.spec
     (λ c κs. tt) (λ c κs. tt) (λ c κs. tt) (λ c κs. tt)
     (λ c.
-    unfold layerFits in
+    unfold layer_fits in
     rw (c.height-fits.ensures, c.before.is-missing-or-between2.ensures, c.before.before.is-missing-or-between.ensures, c.before.before.before.is-blank.ensures)))

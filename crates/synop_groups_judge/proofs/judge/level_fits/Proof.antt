@@ -4,8 +4,8 @@ use borrow.Author.Rules.{rules}
 use Rattle.synop_groups_judge.proofs.judge.level_fits.Statement.{statement}
 use Rattle.synop_groups_judge.proofs.judge.level_fits.Tie as tie
 
-pub level-fits-spec : {M : Type 1} → statement M
-level-fits-spec =
+pub level_fits_spec : {M : Type 1} → statement M
+level_fits_spec =
     tie.close
     (tie.spec
     (λ c. search rules) (λ c. search rules) (λ c. search rules) (λ c. search rules)

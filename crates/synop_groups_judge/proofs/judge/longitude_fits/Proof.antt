@@ -6,8 +6,8 @@ use mir.ValLaws.{to_z-of_z}
 use Rattle.synop_groups_judge.proofs.judge.longitude_fits.Statement.{statement}
 use Rattle.synop_groups_judge.proofs.judge.longitude_fits.Tie as tie
 
-pub longitude-fits-spec : {M : Type 1} → statement M
-longitude-fits-spec =
+pub longitude_fits_spec : {M : Type 1} → statement M
+longitude_fits_spec =
     tie.close
     (tie.spec
     (λ c. search rules) (λ c. search rules) (λ c. search rules)

@@ -6,8 +6,8 @@ use mir.ValLaws.{to_z-of_z}
 use Rattle.synop_groups_judge.proofs.judge.moist_fits.Statement.{statement}
 use Rattle.synop_groups_judge.proofs.judge.moist_fits.Tie as tie
 
-pub moist-fits-spec : {M : Type 1} → statement M
-moist-fits-spec =
+pub moist_fits_spec : {M : Type 1} → statement M
+moist_fits_spec =
     tie.close
     (tie.spec
     (λ c. search rules) (λ c. search rules) (λ c κs. tt) (λ c. search rules) (λ c. search rules)

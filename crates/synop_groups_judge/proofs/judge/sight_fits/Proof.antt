@@ -4,8 +4,8 @@ use borrow.Author.Rules.{rules}
 use Rattle.synop_groups_judge.proofs.judge.sight_fits.Statement.{statement}
 use Rattle.synop_groups_judge.proofs.judge.sight_fits.Tie as tie
 
-pub sight-fits-spec : {M : Type 1} → statement M
-sight-fits-spec =
+pub sight_fits_spec : {M : Type 1} → statement M
+sight_fits_spec =
     tie.close
     (tie.spec
     (λ c. search rules) (λ c. search rules) (λ c. search rules) (λ c. search rules)

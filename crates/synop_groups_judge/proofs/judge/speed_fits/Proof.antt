@@ -4,8 +4,8 @@ use borrow.Author.Rules.{rules}
 use Rattle.synop_groups_judge.proofs.judge.speed_fits.Statement.{statement}
 use Rattle.synop_groups_judge.proofs.judge.speed_fits.Tie as tie
 
-pub speed-fits-spec : {M : Type 1} → statement M
-speed-fits-spec =
+pub speed_fits_spec : {M : Type 1} → statement M
+speed_fits_spec =
     tie.close
     (tie.spec
     (λ c. search rules) (λ c. search rules) (λ c. search rules) (λ c. search rules)

@@ -6,8 +6,8 @@ use mir.ValLaws.{to_z-of_z}
 use Rattle.synop_groups_judge.proofs.judge.tenths_fit.Statement.{statement}
 use Rattle.synop_groups_judge.proofs.judge.tenths_fit.Tie as tie
 
-pub tenths-fit-spec : {M : Type 1} → statement M
-tenths-fit-spec =
+pub tenths_fit_spec : {M : Type 1} → statement M
+tenths_fit_spec =
     tie.close
     (tie.spec
     (λ c. search rules) (λ c. search rules) (λ c κs. tt) (λ c. search rules)

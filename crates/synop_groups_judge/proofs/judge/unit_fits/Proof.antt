@@ -4,8 +4,8 @@ use borrow.Author.Rules.{rules}
 use Rattle.synop_groups_judge.proofs.judge.unit_fits.Statement.{statement}
 use Rattle.synop_groups_judge.proofs.judge.unit_fits.Tie as tie
 
-pub unit-fits-spec : {M : Type 1} → statement M
-unit-fits-spec =
+pub unit_fits_spec : {M : Type 1} → statement M
+unit_fits_spec =
     tie.close
     (tie.spec
     (λ c. search rules) (λ c. search rules) (λ c. search rules)

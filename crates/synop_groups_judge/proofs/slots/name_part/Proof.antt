@@ -6,8 +6,8 @@ use borrow.Author.Rules.{rules}
 use Rattle.synop_groups_judge.proofs.slots.name_part.Statement.{statement}
 use Rattle.synop_groups_judge.proofs.slots.name_part.Tie as tie
 
-pub name-part-spec : {M : Type 1} → statement M
-name-part-spec =
+pub name_part_spec : {M : Type 1} → statement M
+name_part_spec =
     tie.close
     (tie.spec
     (λ c. sym (length-take-le c.before.before.args.length c.before.before.args.s.now c.before.if1.true))

@@ -6,8 +6,8 @@ use mir.ValLaws.{to_z-of_z}
 use Rattle.synop_groups_write.proofs.write.is_minus.Statement.{statement}
 use Rattle.synop_groups_write.proofs.write.is_minus.Tie as tie
 
-pub is-minus-spec : {M : Type 1} → statement M
-is-minus-spec =
+pub is_minus_spec : {M : Type 1} → statement M
+is_minus_spec =
     tie.close
     (tie.spec
     (λ c. search rules) (λ c. search rules) (λ c κs. tt) (λ c. search rules)

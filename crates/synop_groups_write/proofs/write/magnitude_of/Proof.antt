@@ -6,8 +6,8 @@ use mir.ValLaws.{to_z-of_z}
 use Rattle.synop_groups_write.proofs.write.magnitude_of.Statement.{statement}
 use Rattle.synop_groups_write.proofs.write.magnitude_of.Tie as tie
 
-pub magnitude-of-spec : {M : Type 1} → statement M
-magnitude-of-spec =
+pub magnitude_of_spec : {M : Type 1} → statement M
+magnitude_of_spec =
     tie.close
     (tie.spec
     (λ c. search rules) (λ c. search rules) (λ c κs. tt) (λ c. search rules)

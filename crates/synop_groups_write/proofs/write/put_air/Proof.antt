@@ -4,19 +4,19 @@ use borrow.Author.Rules.{rules}
 use mir.Syntax.{w32}
 use mir.ValLaws.{to_z-of_z}
 use Rattle.text.proofs.Writes.{write-none}
-use Rattle.synop_groups.specs.Shows.{showAir}
+use Rattle.synop_groups.specs.Shows.{show_air}
 use Rattle.synop_groups_write.proofs.write.put_air.Statement.{statement}
 use Rattle.synop_groups_write.proofs.write.put_air.Tie as tie
 
-pub put-air-spec : {M : Type 1} → statement M
-put-air-spec =
+pub put_air_spec : {M : Type 1} → statement M
+put_air_spec =
     tie.close
     (tie.spec
     (λ c. search rules) (λ c. search rules) (λ c κs. tt)
-    (λ c. unfold showAir in rw c.enum_told.given.1 (write-none _ _))
+    (λ c. unfold show_air in rw c.enum_told.given.1 (write-none _ _))
     (λ c. search rules)
     (λ c.
     let d = c.before.before.before.before.before in
     let back = to_z-of_z w32 d.temperature.given.0.0 (search rules) in
-    unfold showAir in
+    unfold show_air in
     rw d.temperature.given.1 (rw back at c.before.before.put-signed.ensures)))

@@ -2,19 +2,19 @@
 -- Assumes nothing.
 use borrow.Author.Rules.{rules}
 use Rattle.text.proofs.Writes.{write-none}
-use Rattle.synop_groups.specs.Shows.{showClouds}
+use Rattle.synop_groups.specs.Shows.{show_clouds}
 use Rattle.synop_groups_write.proofs.write.put_clouds.Statement.{statement}
 use Rattle.synop_groups_write.proofs.write.put_clouds.Tie as tie
 
-pub put-clouds-spec : {M : Type 1} → statement M
-put-clouds-spec =
+pub put_clouds_spec : {M : Type 1} → statement M
+put_clouds_spec =
     tie.close
     (tie.spec
     (λ c κs. tt) (λ c κs. tt)
-    (λ c. unfold showClouds in rw (← c.before.is-blank.ensures, c.if1.true) (write-none _ _))
+    (λ c. unfold show_clouds in rw (← c.before.is-blank.ensures, c.if1.true) (write-none _ _))
     (λ c. search rules)
     (λ c.
     let d = c.before.before.before.before in
     let e = d.before in
-    unfold showClouds in
+    unfold show_clouds in
     rw (← e.is-blank.ensures, d.if1.false) c.before.before.put-clouds-group.ensures))

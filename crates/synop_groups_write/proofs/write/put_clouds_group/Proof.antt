@@ -3,12 +3,12 @@
 use borrow.Author.Rules.{rules}
 use Rattle.figures.proofs.Puts.{then}
 use Rattle.text.proofs.Writes.{write-group}
-use Rattle.synop_groups.specs.Shows.{cloudsText}
+use Rattle.synop_groups.specs.Shows.{clouds_text}
 use Rattle.synop_groups_write.proofs.write.put_clouds_group.Statement.{statement}
 use Rattle.synop_groups_write.proofs.write.put_clouds_group.Tie as tie
 
-pub put-clouds-group-spec : {M : Type 1} → statement M
-put-clouds-group-spec =
+pub put_clouds_group_spec : {M : Type 1} → statement M
+put_clouds_group_spec =
     tie.close
     (tie.spec
     (λ c κs. tt) (λ c κs. tt) (λ c κs. tt) (λ c κs. tt) (λ c κs. tt) (λ c κs. tt) (λ c. search rules)
@@ -19,6 +19,6 @@ put-clouds-group-spec =
     let second = third.before.before.before.before in
     let first = second.before.before.before.before in
     let opened = first.before.before.before.before in
-    unfold cloudsText in
+    unfold clouds_text in
     write-group opened.open-group.ensures
     (then (then (then (then first.put_byte.ensures second.put-part.ensures) third.put-part2.ensures) fourth.put-part3.ensures) fifth.put-part4.ensures)))

@@ -6,8 +6,8 @@ use Rattle.text.proofs.Writes.{write-group}
 use Rattle.synop_groups_write.proofs.write.put_coded.Statement.{statement}
 use Rattle.synop_groups_write.proofs.write.put_coded.Tie as tie
 
-pub put-coded-spec : {M : Type 1} → statement M
-put-coded-spec =
+pub put_coded_spec : {M : Type 1} → statement M
+put_coded_spec =
     tie.close
     (tie.spec
     (λ c κs. tt) (λ c κs. tt) (λ c κs. tt) (λ c. search rules)

@@ -6,8 +6,8 @@ use Rattle.text.proofs.Writes.{write-group}
 use Rattle.synop_groups_write.proofs.write.put_fall.Statement.{statement}
 use Rattle.synop_groups_write.proofs.write.put_fall.Tie as tie
 
-pub put-fall-spec : {M : Type 1} → statement M
-put-fall-spec =
+pub put_fall_spec : {M : Type 1} → statement M
+put_fall_spec =
     tie.close
     (tie.spec
     (λ c κs. tt) (λ c κs. tt) (λ c κs. tt) (λ c κs. tt) (λ c κs. tt) (λ c κs. tt) (λ c. search rules)

@@ -3,12 +3,12 @@
 use borrow.Author.Rules.{rules}
 use Rattle.figures.proofs.Puts.{then}
 use Rattle.text.proofs.Writes.{write-group}
-use Rattle.synop_groups.specs.Shows.{showIndicators}
+use Rattle.synop_groups.specs.Shows.{show_indicators}
 use Rattle.synop_groups_write.proofs.write.put_indicators.Statement.{statement}
 use Rattle.synop_groups_write.proofs.write.put_indicators.Tie as tie
 
-pub put-indicators-spec : {M : Type 1} → statement M
-put-indicators-spec =
+pub put_indicators_spec : {M : Type 1} → statement M
+put_indicators_spec =
     tie.close
     (tie.spec
     (λ c κs. tt) (λ c κs. tt) (λ c κs. tt) (λ c κs. tt) (λ c κs. tt) (λ c κs. tt) (λ c κs. tt) (λ c. search rules)
@@ -18,7 +18,7 @@ put-indicators-spec =
     let second = third.before.before.before.before.before in
     let first = second.before.before.before.before in
     let opened = first.before.before.before.before in
-    unfold showIndicators in
+    unfold show_indicators in
     rw (third.before.base-field.ensures, fourth.before.sight-field.ensures)
     at (write-group opened.open-group.ensures
     (then (then (then first.put-part.ensures second.put-part2.ensures) third.put-field.ensures) fourth.put-field2.ensures))))

@@ -3,12 +3,12 @@
 use borrow.Author.Rules.{rules}
 use Rattle.figures.proofs.Puts.{then}
 use Rattle.text.proofs.Writes.{write-group}
-use Rattle.synop_groups.specs.Shows.{showLayer}
+use Rattle.synop_groups.specs.Shows.{show_layer}
 use Rattle.synop_groups_write.proofs.write.put_layer.Statement.{statement}
 use Rattle.synop_groups_write.proofs.write.put_layer.Tie as tie
 
-pub put-layer-spec : {M : Type 1} → statement M
-put-layer-spec =
+pub put_layer_spec : {M : Type 1} → statement M
+put_layer_spec =
     tie.close
     (tie.spec
     (λ c κs. tt) (λ c κs. tt) (λ c κs. tt) (λ c κs. tt) (λ c κs. tt) (λ c κs. tt) (λ c. search rules)
@@ -18,7 +18,7 @@ put-layer-spec =
     let second = third.before.before.before.before in
     let first = second.before.before.before.before in
     let opened = first.before.before.before.before in
-    unfold showLayer in
+    unfold show_layer in
     rw fourth.before.height-field.ensures
     at (write-group opened.open-group.ensures
     (then (then (then first.put_byte.ensures second.put-part.ensures) third.put-part2.ensures) fourth.put-field.ensures))))

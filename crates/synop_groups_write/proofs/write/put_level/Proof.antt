@@ -1,19 +1,19 @@
 -- `synop_groups_write::write::put_level` meets its contract, case by case.
 -- Assumes nothing.
 use borrow.Author.Rules.{rules}
-use Rattle.figures.specs.Figures.{numberText}
+use Rattle.figures.specs.Figures.{number_text}
 use Rattle.text.proofs.Writes.{write-none}
-use Rattle.synop_groups.specs.Shows.{showLevel}
+use Rattle.synop_groups.specs.Shows.{show_level}
 use Rattle.synop_groups_write.proofs.write.put_level.Statement.{statement}
 use Rattle.synop_groups_write.proofs.write.put_level.Tie as tie
 
-pub put-level-spec : {M : Type 1} → statement M
-put-level-spec =
+pub put_level_spec : {M : Type 1} → statement M
+put_level_spec =
     tie.close
     (tie.spec
     (λ c. search rules) (λ c. search rules) (λ c. search rules) (λ c κs. tt) (λ c. search rules) (λ c κs. tt)
-    (λ c. unfold showLevel in rw c.enum_told.given.1 (write-none _ _))
+    (λ c. unfold show_level in rw c.enum_told.given.1 (write-none _ _))
     (λ c. search rules)
-    (λ c. unfold showLevel numberText in rw c.before.before.before.before.before.before.is.given.1 c.before.before.put-coded.ensures)
+    (λ c. unfold show_level number_text in rw c.before.before.before.before.before.before.is.given.1 c.before.before.put-coded.ensures)
     (λ c. search rules)
-    (λ c. unfold showLevel numberText in rw c.before.before.before.before.before.is2.given.1 c.before.before.put_two.ensures))
+    (λ c. unfold show_level number_text in rw c.before.before.before.before.before.is2.given.1 c.before.before.put_two.ensures))

@@ -1,15 +1,15 @@
 -- `synop_groups_write::write::put_longitude` meets its contract: the parts are put one after the other.
 -- Assumes nothing.
 use borrow.Author.Rules.{rules}
-use Rattle.figures.specs.Figures.{numberText}
+use Rattle.figures.specs.Figures.{number_text}
 use Rattle.figures.proofs.Puts.{then}
 use Rattle.text.proofs.Writes.{write-group}
-use Rattle.synop_groups.specs.Shows.{showLongitude}
+use Rattle.synop_groups.specs.Shows.{show_longitude}
 use Rattle.synop_groups_write.proofs.write.put_longitude.Statement.{statement}
 use Rattle.synop_groups_write.proofs.write.put_longitude.Tie as tie
 
-pub put-longitude-spec : {M : Type 1} → statement M
-put-longitude-spec =
+pub put_longitude_spec : {M : Type 1} → statement M
+put_longitude_spec =
     tie.close
     (tie.spec
     (λ c κs. tt) (λ c κs. tt) (λ c κs. tt) (λ c κs. tt) (λ c κs. tt) (λ c κs. tt) (λ c κs. tt) (λ c. search rules)
@@ -17,6 +17,6 @@ put-longitude-spec =
     let second = c.before.before in
     let first = second.before.before.before.before.before in
     let opened = first.before.before.before.before in
-    unfold showLongitude numberText in
+    unfold show_longitude number_text in
     rw (opened.before.before.quadrant.ensures, opened.before.before.before.before.is-minus.ensures, opened.before.before.before.is-minus2.ensures, second.before.magnitude-of.ensures)
     at (write-group opened.open-group.ensures (then first.put-number.ensures second.put-number2.ensures))))

@@ -3,23 +3,23 @@
 use borrow.Author.Rules.{rules}
 use mir.Syntax.{w32}
 use mir.ValLaws.{to_z-of_z}
-use Rattle.figures.specs.Figures.{numberText}
+use Rattle.figures.specs.Figures.{number_text}
 use Rattle.text.proofs.Writes.{write-none}
-use Rattle.synop_groups.specs.Shows.{showMoisture}
+use Rattle.synop_groups.specs.Shows.{show_moisture}
 use Rattle.synop_groups_write.proofs.write.put_moisture.Statement.{statement}
 use Rattle.synop_groups_write.proofs.write.put_moisture.Tie as tie
 
-pub put-moisture-spec : {M : Type 1} → statement M
-put-moisture-spec =
+pub put_moisture_spec : {M : Type 1} → statement M
+put_moisture_spec =
     tie.close
     (tie.spec
     (λ c. search rules) (λ c. search rules) (λ c κs. tt) (λ c. search rules) (λ c. search rules) (λ c κs. tt)
-    (λ c. unfold showMoisture in rw c.enum_told.given.1 (write-none _ _))
+    (λ c. unfold show_moisture in rw c.enum_told.given.1 (write-none _ _))
     (λ c. search rules)
     (λ c.
     let d = c.before.before.before.before.before in
     let back = to_z-of_z w32 d.is.given.0.0 (search rules) in
-    unfold showMoisture in
+    unfold show_moisture in
     rw d.is.given.1 (rw back at c.before.before.put-signed.ensures))
     (λ c. search rules)
-    (λ c. unfold showMoisture numberText in rw c.before.before.before.before.before.before.is2.given.1 c.before.before.put-coded.ensures))
+    (λ c. unfold show_moisture number_text in rw c.before.before.before.before.before.before.is2.given.1 c.before.before.put-coded.ensures))

@@ -1,17 +1,17 @@
 -- `synop_groups_write::write::put_pressure` meets its contract, case by case.
 -- Assumes nothing.
 use borrow.Author.Rules.{rules}
-use Rattle.figures.specs.Figures.{numberText}
+use Rattle.figures.specs.Figures.{number_text}
 use Rattle.text.proofs.Writes.{write-none}
-use Rattle.synop_groups.specs.Shows.{showPressure}
+use Rattle.synop_groups.specs.Shows.{show_pressure}
 use Rattle.synop_groups_write.proofs.write.put_pressure.Statement.{statement}
 use Rattle.synop_groups_write.proofs.write.put_pressure.Tie as tie
 
-pub put-pressure-spec : {M : Type 1} → statement M
-put-pressure-spec =
+pub put_pressure_spec : {M : Type 1} → statement M
+put_pressure_spec =
     tie.close
     (tie.spec
     (λ c. search rules) (λ c. search rules) (λ c. search rules) (λ c κs. tt)
-    (λ c. unfold showPressure in rw c.enum_told.given.1 (write-none _ _))
+    (λ c. unfold show_pressure in rw c.enum_told.given.1 (write-none _ _))
     (λ c. search rules)
-    (λ c. unfold showPressure numberText in rw c.before.before.before.before.before.before.station.given.1 c.before.before.put-coded.ensures))
+    (λ c. unfold show_pressure number_text in rw c.before.before.before.before.before.before.station.given.1 c.before.before.put-coded.ensures))

@@ -2,18 +2,18 @@
 -- Assumes nothing.
 use borrow.Author.Rules.{rules}
 use Rattle.text.proofs.Writes.{write-group}
-use Rattle.synop_groups.specs.Shows.{showSign}
+use Rattle.synop_groups.specs.Shows.{show_sign}
 use Rattle.synop_groups_write.proofs.write.put_sign.Statement.{statement}
 use Rattle.synop_groups_write.proofs.write.put_sign.Tie as tie
 
-pub put-sign-spec : {M : Type 1} → statement M
-put-sign-spec =
+pub put_sign_spec : {M : Type 1} → statement M
+put_sign_spec =
     tie.close
     (tie.spec
     (λ c κs. tt) (λ c. search rules) (λ c κs. tt) (λ c κs. tt) (λ c. search rules)
     (λ c.
     let first = c.before.before in
     let opened = first.before.before.before.before.before.before in
-    unfold showSign in
+    unfold show_sign in
     rw first.before.name-part.ensures
     at (write-group opened.open-group.ensures first.put-text.ensures)))

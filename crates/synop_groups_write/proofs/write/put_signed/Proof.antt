@@ -3,13 +3,13 @@
 use borrow.Author.Rules.{rules}
 use mir.Syntax.{w32}
 use mir.ValLaws.{to_z-of_z}
-use Rattle.figures.specs.Figures.{numberText}
+use Rattle.figures.specs.Figures.{number_text}
 use Rattle.synop_groups_write.proofs.Writings.{sign-figure}
 use Rattle.synop_groups_write.proofs.write.put_signed.Statement.{statement}
 use Rattle.synop_groups_write.proofs.write.put_signed.Tie as tie
 
-pub put-signed-spec : {M : Type 1} → statement M
-put-signed-spec =
+pub put_signed_spec : {M : Type 1} → statement M
+put_signed_spec =
     tie.close
     (tie.spec
     (λ c κs. tt) (λ c κs. tt) (λ c κs. tt) (λ c. search rules)
@@ -18,5 +18,5 @@ put-signed-spec =
     let d2 = d1.before in
     let d3 = d2.before.before.before in
     let back = to_z-of_z w32 d3.args.t (search rules) in
-    unfold numberText in
+    unfold number_text in
     rw (d2.sign-figure.ensures, d1.magnitude.ensures, back, sign-figure) at c.before.before.put_two.ensures))

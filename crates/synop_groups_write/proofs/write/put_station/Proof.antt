@@ -2,13 +2,13 @@
 -- Assumes nothing.
 use borrow.Author.Rules.{rules}
 use Rattle.text.proofs.Writes.{write-group}
-use Rattle.synop_groups.specs.Shows.{showStation}
+use Rattle.synop_groups.specs.Shows.{show_station}
 use Rattle.synop_groups_write.proofs.write.put_station.Statement.{statement}
 use Rattle.synop_groups_write.proofs.write.put_station.Tie as tie
 
-pub put-station-spec : {M : Type 1} → statement M
-put-station-spec =
+pub put_station_spec : {M : Type 1} → statement M
+put_station_spec =
     tie.close
     (tie.spec
     (λ c κs. tt) (λ c κs. tt) (λ c. search rules)
-    (λ c. unfold showStation in write-group c.before.before.before.before.before.before.open-group.ensures c.before.before.put-part.ensures))
+    (λ c. unfold show_station in write-group c.before.before.before.before.before.before.open-group.ensures c.before.before.put-part.ensures))

@@ -3,22 +3,22 @@
 use borrow.Author.Rules.{rules}
 use mir.Syntax.{w32}
 use mir.ValLaws.{to_z-of_z}
-use Rattle.figures.specs.Figures.{numberText}
+use Rattle.figures.specs.Figures.{number_text}
 use Rattle.text.proofs.Writes.{write-none}
-use Rattle.synop_groups.specs.Shows.{showTendency}
+use Rattle.synop_groups.specs.Shows.{show_tendency}
 use Rattle.synop_groups_write.proofs.write.put_tendency.Statement.{statement}
 use Rattle.synop_groups_write.proofs.write.put_tendency.Tie as tie
 
-pub put-tendency-spec : {M : Type 1} → statement M
-put-tendency-spec =
+pub put_tendency_spec : {M : Type 1} → statement M
+put_tendency_spec =
     tie.close
     (tie.spec
     (λ c. search rules) (λ c. search rules) (λ c κs. tt) (λ c κs. tt)
-    (λ c. unfold showTendency in rw c.enum_told.given.1 (write-none _ _))
+    (λ c. unfold show_tendency in rw c.enum_told.given.1 (write-none _ _))
     (λ c. search rules)
     (λ c.
     let d = c.before.before.before in
     let e = d.before.before.before in
     let back = to_z-of_z w32 e.is.given.0.1.0 (search rules) in
-    unfold showTendency numberText in
+    unfold show_tendency number_text in
     rw e.is.given.1 (rw (d.magnitude.ensures, back) at c.before.before.put_two.ensures)))

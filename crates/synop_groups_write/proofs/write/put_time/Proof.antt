@@ -3,12 +3,12 @@
 use borrow.Author.Rules.{rules}
 use Rattle.figures.proofs.Puts.{then}
 use Rattle.text.proofs.Writes.{write-group}
-use Rattle.synop_groups.specs.Shows.{showTime}
+use Rattle.synop_groups.specs.Shows.{show_time}
 use Rattle.synop_groups_write.proofs.write.put_time.Statement.{statement}
 use Rattle.synop_groups_write.proofs.write.put_time.Tie as tie
 
-pub put-time-spec : {M : Type 1} → statement M
-put-time-spec =
+pub put_time_spec : {M : Type 1} → statement M
+put_time_spec =
     tie.close
     (tie.spec
     (λ c κs. tt) (λ c κs. tt) (λ c κs. tt) (λ c κs. tt) (λ c. search rules)
@@ -17,6 +17,6 @@ put-time-spec =
     let second = third.before.before.before.before in
     let first = second.before.before.before.before in
     let opened = first.before.before.before.before in
-    unfold showTime in
+    unfold show_time in
     write-group opened.open-group.ensures
     (then (then first.put-part.ensures second.put-part2.ensures) third.put-part3.ensures)))

@@ -6,8 +6,8 @@ use Rattle.text.proofs.Writes.{write-group}
 use Rattle.synop_groups_write.proofs.write.put_two.Statement.{statement}
 use Rattle.synop_groups_write.proofs.write.put_two.Tie as tie
 
-pub put-two-spec : {M : Type 1} → statement M
-put-two-spec =
+pub put_two_spec : {M : Type 1} → statement M
+put_two_spec =
     tie.close
     (tie.spec
     (λ c κs. tt) (λ c κs. tt) (λ c κs. tt) (λ c κs. tt) (λ c. search rules)

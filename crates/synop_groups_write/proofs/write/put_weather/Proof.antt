@@ -2,19 +2,19 @@
 -- Assumes nothing.
 use borrow.Author.Rules.{rules}
 use Rattle.text.proofs.Writes.{write-none}
-use Rattle.synop_groups.specs.Shows.{showWeather}
+use Rattle.synop_groups.specs.Shows.{show_weather}
 use Rattle.synop_groups_write.proofs.Writings.{group-if}
 use Rattle.synop_groups_write.proofs.write.put_weather.Statement.{statement}
 use Rattle.synop_groups_write.proofs.write.put_weather.Tie as tie
 
-pub put-weather-spec : {M : Type 1} → statement M
-put-weather-spec =
+pub put_weather_spec : {M : Type 1} → statement M
+put_weather_spec =
     tie.close
     (tie.spec
     (λ c κs. tt) (λ c κs. tt) (λ c. search rules)
     (λ c.
     let d = c.before.before.before.before in
     let e = d.before in
-    unfold showWeather in
+    unfold show_weather in
     rw (group-if, ← e.is-blank.ensures, d.if1.true) c.before.before.put-weather-group.ensures)
-    (λ c. unfold showWeather in rw (group-if, ← c.before.is-blank.ensures, c.if1.false) (write-none _ _)))
+    (λ c. unfold show_weather in rw (group-if, ← c.before.is-blank.ensures, c.if1.false) (write-none _ _)))

@@ -3,12 +3,12 @@
 use borrow.Author.Rules.{rules}
 use Rattle.figures.proofs.Puts.{then}
 use Rattle.text.proofs.Writes.{write-group}
-use Rattle.synop_groups.specs.Shows.{weatherText}
+use Rattle.synop_groups.specs.Shows.{weather_text}
 use Rattle.synop_groups_write.proofs.write.put_weather_group.Statement.{statement}
 use Rattle.synop_groups_write.proofs.write.put_weather_group.Tie as tie
 
-pub put-weather-group-spec : {M : Type 1} → statement M
-put-weather-group-spec =
+pub put_weather_group_spec : {M : Type 1} → statement M
+put_weather_group_spec =
     tie.close
     (tie.spec
     (λ c κs. tt) (λ c κs. tt) (λ c κs. tt) (λ c κs. tt) (λ c κs. tt) (λ c. search rules)
@@ -18,6 +18,6 @@ put-weather-group-spec =
     let second = third.before.before.before.before in
     let first = second.before.before.before.before in
     let opened = first.before.before.before.before in
-    unfold weatherText in
+    unfold weather_text in
     write-group opened.open-group.ensures
     (then (then (then first.put_byte.ensures second.put-part.ensures) third.put-part2.ensures) fourth.put-part3.ensures)))

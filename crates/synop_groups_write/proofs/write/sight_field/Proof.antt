@@ -4,8 +4,8 @@ use borrow.Author.Rules.{rules}
 use Rattle.synop_groups_write.proofs.write.sight_field.Statement.{statement}
 use Rattle.synop_groups_write.proofs.write.sight_field.Tie as tie
 
-pub sight-field-spec : {M : Type 1} → statement M
-sight-field-spec =
+pub sight_field_spec : {M : Type 1} → statement M
+sight_field_spec =
     tie.close
     (tie.spec
     (λ c. search rules) (λ c. search rules) (λ c κs. tt) (λ c κs. tt) (λ c. search rules) (λ c κs. tt) (λ c κs. tt) (λ c. search rules)

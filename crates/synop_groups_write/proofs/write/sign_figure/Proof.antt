@@ -6,8 +6,8 @@ use mir.ValLaws.{to_z-of_z}
 use Rattle.synop_groups_write.proofs.write.sign_figure.Statement.{statement}
 use Rattle.synop_groups_write.proofs.write.sign_figure.Tie as tie
 
-pub sign-figure-spec : {M : Type 1} → statement M
-sign-figure-spec =
+pub sign_figure_spec : {M : Type 1} → statement M
+sign_figure_spec =
     tie.close
     (tie.spec
     (λ c κs. tt)

@@ -4,8 +4,8 @@ use borrow.Author.Rules.{rules}
 use Rattle.synop_groups_write.proofs.write.speed_field.Statement.{statement}
 use Rattle.synop_groups_write.proofs.write.speed_field.Tie as tie
 
-pub speed-field-spec : {M : Type 1} → statement M
-speed-field-spec =
+pub speed_field_spec : {M : Type 1} → statement M
+speed_field_spec =
     tie.close
     (tie.spec
     (λ c. search rules) (λ c. search rules) (λ c κs. tt) (λ c. search rules) (λ c. search rules)

@@ -4,8 +4,8 @@ use borrow.Author.Tests.{le-leb, lt-leb}
 use Rattle.synop_groups_write.proofs.write.speed_figure.Statement.{statement}
 use Rattle.synop_groups_write.proofs.write.speed_figure.Tie as tie
 
-pub speed-figure-spec : {M : Type 1} → statement M
-speed-figure-spec =
+pub speed_figure_spec : {M : Type 1} → statement M
+speed_figure_spec =
     tie.close
     (tie.spec
     (λ c. rw (le-leb _ _ c.if1.true))

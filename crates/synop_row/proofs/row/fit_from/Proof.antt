@@ -5,8 +5,8 @@ use native.Mathlib.Omega.{arith}
 use borrow.Author.Rules.{rules}
 use mathlib.Core.Path.{◌≡◌, refl, sym, ◌∙◌}
 use lib.ListN.{drop}
-use Rattle.places.specs.Seek.{fitFrom}
-use Rattle.places.specs.Engine.{standsOf}
+use Rattle.places.specs.Seek.{fit_from}
+use Rattle.places.specs.Engine.{stands_of}
 use Rattle.places.proofs.Fits.{fit-here, fit_next, fit-end}
 use Rattle.synop_row.specs.Row.{row}
 use Rattle.synop_row.proofs.Tests.{row-length}
@@ -14,13 +14,13 @@ use Rattle.synop_row.proofs.row.fit_from.Statement.{statement}
 use Rattle.synop_row.proofs.row.fit_from.Tie as tie
 
 abbrev Inv : tie.invariant-loop
-Inv rules all place count g i₀ k₀ i k = fitFrom all place count (drop place (standsOf (row rules) g)) ≡ fitFrom all i k (drop i (standsOf (row rules) g))
+Inv rules all place count g i₀ k₀ i k = fit_from all place count (drop place (stands_of (row rules) g)) ≡ fit_from all i k (drop i (stands_of (row rules) g))
 
 abbrev μ : tie.decreases-loop
 μ rules all place count g i₀ k₀ i k = 10 - i
 
-pub fit-from-spec : {M : Type 1} → statement M
-fit-from-spec =
+pub fit_from_spec : {M : Type 1} → statement M
+fit_from_spec =
     tie.close
     (tie.spec Inv μ
     (λ c. refl)

@@ -4,8 +4,8 @@ use borrow.Author.Rules.{rules}
 use Rattle.synop_row.proofs.row.is_rain_due.Statement.{statement}
 use Rattle.synop_row.proofs.row.is_rain_due.Tie as tie
 
-pub is-rain-due-spec : {M : Type 1} → statement M
-is-rain-due-spec =
+pub is_rain_due_spec : {M : Type 1} → statement M
+is_rain_due_spec =
     tie.close
     (tie.spec
     (λ c. search rules) (λ c. search rules) (λ c. search rules) (λ c. rw c.before.rain.given.1))

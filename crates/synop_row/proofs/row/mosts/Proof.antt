@@ -5,5 +5,5 @@ use Rattle.synop_row.specs.Row.{row}
 use Rattle.synop_row.proofs.row.mosts.Statement.{statement}
 use Rattle.synop_row.proofs.row.mosts.Tie as tie
 
-pub mosts-spec : {M : Type 1} → statement M
-mosts-spec = tie.close (tie.spec (λ c n. unfold row in refl))
+pub mosts_spec : {M : Type 1} → statement M
+mosts_spec = tie.close (tie.spec (λ c n. unfold row in refl))

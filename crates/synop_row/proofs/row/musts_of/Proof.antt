@@ -5,8 +5,8 @@ use Rattle.synop_row.specs.Row.{row}
 use Rattle.synop_row.proofs.row.musts_of.Statement.{statement}
 use Rattle.synop_row.proofs.row.musts_of.Tie as tie
 
-pub musts-of-spec : {M : Type 1} → statement M
-musts-of-spec =
+pub musts_of_spec : {M : Type 1} → statement M
+musts_of_spec =
     tie.close
     (tie.spec
     (λ c. unfold row in refl))

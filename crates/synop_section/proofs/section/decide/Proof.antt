@@ -3,23 +3,23 @@
 use borrow.Author.Rules.{rules}
 use mathlib.Core.Path.{sym, ◌∙◌}
 use native.Mathlib.Omega.{arith}
-use Rattle.shapes.specs.Pattern.{hasAny}
+use Rattle.shapes.specs.Pattern.{has_any}
 use Rattle.places.proofs.Loop.{turn-past, turn-halts, turn-found}
-use Rattle.synop_row.specs.Row.{row, stopWords}
+use Rattle.synop_row.specs.Row.{row, stop_words}
 use Rattle.synop_row.proofs.Tests.{row-length}
 use Rattle.synop_section.proofs.section.decide.Statement.{statement}
 use Rattle.synop_section.proofs.section.decide.Tie as tie
 
-pub decide-spec : {M : Type 1} → statement M
-decide-spec =
+pub decide_spec : {M : Type 1} → statement M
+decide_spec =
     tie.close
     (tie.spec
-    (λ c. let n = c.before.before.args.needs in turn-past (row n) (hasAny stopWords) _ _ _ (rw (row-length n) c.if1.true))
+    (λ c. let n = c.before.before.args.needs in turn-past (row n) (has_any stop_words) _ _ _ (rw (row-length n) c.if1.true))
     (λ c κs. search rules)
     (λ c.
     let n = c.before.before.before.before.args.needs in
-    turn-halts (row n) (hasAny stopWords) _ _ _ (rw (row-length n) (omega (arith, c.before.before.if1.false))) (sym c.before.is-stop-word.ensures ∙ c.if2.true))
+    turn-halts (row n) (has_any stop_words) _ _ _ (rw (row-length n) (omega (arith, c.before.before.if1.false))) (sym c.before.is-stop-word.ensures ∙ c.if2.true))
     (λ c κs. search rules) (λ c κs. search rules)
     (λ c.
     let n = c.before.before.before.before.before.before.args.needs in
-    turn-found (row n) (hasAny stopWords) _ _ _ (rw (row-length n) (omega (arith, c.before.before.before.before.if1.false))) (sym c.before.before.before.is-stop-word.ensures ∙ c.before.before.if2.false) c.before.find.ensures c.turn_by.ensures))
+    turn-found (row n) (has_any stop_words) _ _ _ (rw (row-length n) (omega (arith, c.before.before.before.before.if1.false))) (sym c.before.before.before.is-stop-word.ensures ∙ c.before.before.if2.false) c.before.find.ensures c.turn_by.ensures))

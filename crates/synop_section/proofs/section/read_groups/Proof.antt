@@ -8,15 +8,15 @@ use mathlib.Core.List.{List, [], ◌∷◌}
 use lib.ListN.{length}
 use types.Run.{miss}
 use Rattle.text.proofs.Groups.{Follows, when-group, when-end, from_end}
-use Rattle.shapes.specs.Pattern.{hasAny}
+use Rattle.shapes.specs.Pattern.{has_any}
 use Rattle.places.specs.Engine.{Good}
 use Rattle.places.proofs.Loop.{turn-room}
 use Rattle.record.specs.declared.surface.Surface.{Surface}
 use Rattle.record.specs.declared.surface.Synop.{Synop}
 use Rattle.synop_groups.specs.declared.kinds.Said.{Said}
-use Rattle.synop_row.specs.Row.{row, stopWords, withSaid}
+use Rattle.synop_row.specs.Row.{row, stop_words, with_said}
 use Rattle.section3.proofs.Going.{reading}
-use Rattle.synop_section.specs.Answer.{firstPart}
+use Rattle.synop_section.specs.Answer.{first_part}
 use Rattle.synop_section.specs.Section.{later}
 use Rattle.synop_section.proofs.SectionSteps.{done-over, done-halt, done-fault, done-bad, goes_on, row-few, row-endless, said-reads, added-among}
 use Rattle.synop_section.proofs.section.read_groups.Statement.{statement}
@@ -24,7 +24,7 @@ use Rattle.synop_section.proofs.section.read_groups.Tie as tie
 
 abbrev Inv : tie.invariant-loop
 Inv text from rules surface₀ here₀ standing₀ at₀ surface here standing at = (takes : Surface → Synop)
-    → reading (firstPart rules takes) (later text 1) text 0 0 surface₀ from ≡ reading (firstPart rules takes) (later text 1) text here standing surface at
+    → reading (first_part rules takes) (later text 1) text 0 0 surface₀ from ≡ reading (first_part rules takes) (later text 1) text here standing surface at
 
 abbrev μ : tie.decreases-loop
 μ text from rules surface₀ here₀ standing₀ at₀ surface here standing at = length text - at
@@ -42,12 +42,12 @@ module _ (c : tie.After-said-at Inv μ) where
   less : length c.before.before.before.before.before.before.before.before.before.before.before.before.before.args.text.now - c.before.before.before.before.before.before.before.start.given.0.1.0 < length c.before.before.before.before.before.before.before.before.before.before.before.before.before.args.text.now - c.before.before.before.before.before.before.before.before.before.before.before.loop.at
   less = omega (arith, follows c.before.before.before.before.before.before)
 
-  again : {y : Said} {s : Surface} → c.Said-at.result ≡ y → withSaid y c.before.before.before.before.before.before.before.before.before.before.before.loop.surface ≡ Good s
+  again : {y : Said} {s : Surface} → c.Said-at.result ≡ y → with_said y c.before.before.before.before.before.before.before.before.before.before.before.loop.surface ≡ Good s
       → Inv c.before.before.before.before.before.before.before.before.before.before.before.before.before.args.text.now c.before.before.before.before.before.before.before.before.before.before.before.before.before.args.from c.before.before.before.before.before.before.before.before.before.before.before.before.before.args.needs c.before.before.before.before.before.before.before.before.before.before.before.before.before.args.earlier 0 0 c.before.before.before.before.before.before.before.before.before.before.before.before.before.args.from s c.before.before.turn2.given.0.0 (c.before.before.turn2.given.0.1.0 + 1) c.before.before.before.before.before.before.before.start.given.0.1.0
   again tells put = goes_on _ _ _ _ _ _ _ _ c.before.before.before.before.before.before.before.before.before.before.before.loop.invariant (follows c.before.before.before.before.before.before) c.before.before.before.before.before.part.ensures c.before.before.before.before.decide.ensures c.before.before.turn2.given.1 (said-reads _ _ _ _ _ c.Said-at.ensures tells put) (row-endless _ _)
 
-pub read-groups-spec : {M : Type 1} → statement M
-read-groups-spec =
+pub read_groups_spec : {M : Type 1} → statement M
+read_groups_spec =
     tie.close
     (tie.spec Inv μ
     (λ c takes. refl)
@@ -58,18 +58,18 @@ read-groups-spec =
     (λ c. search rules) (λ c κs. search rules)
     (λ c. done-fault _ _ _ _ _ _ _ _ c.before.before.before.before.before.before.before.before.before.before.before.loop.invariant (follows c.before.before.before.before.before.before) c.before.before.before.before.before.part.ensures c.before.before.before.before.decide.ensures c.refuse-section.ensures c.before.before.turn.given.1)
     (λ c. search rules) (λ c κs. search rules)
-    (λ c. omega (arith, turn-room (row _) (hasAny stopWords) _ _ _ 1 (row-few _) c.before.before.before.before.decide.ensures c.before.before.turn2.given.1))
+    (λ c. omega (arith, turn-room (row _) (has_any stop_words) _ _ _ 1 (row-few _) c.before.before.before.before.decide.ensures c.before.before.turn2.given.1))
     (λ c. search rules) (λ c κs. search rules)
-    (λ c. done-bad _ _ _ _ _ _ _ _ c.before.before.before.before.before.before.before.before.before.before.before.before.before.before.before.loop.invariant (follows c.before.before.before.before.before.before.before.before.before.before) c.before.before.before.before.before.before.before.before.before.part.ensures c.before.before.before.before.before.before.before.before.decide.ensures c.before.before.before.before.before.before.turn2.given.1 c.refuse-section2.ensures (said-reads _ _ _ _ _ c.before.before.before.before.Said-at.ensures c.before.before.said.given.1 (unfold withSaid in refl)))
-    (λ c. search rules) (λ c. less c.before.before.before) (λ c. again c.before.before.before c.before.said2.given.1 (unfold withSaid in refl))
-    (λ c. search rules) (λ c. less c.before.before.before) (λ c. again c.before.before.before c.before.said3.given.1 (unfold withSaid in refl))
-    (λ c. search rules) (λ c. less c.before.before.before) (λ c. again c.before.before.before c.before.said4.given.1 (unfold withSaid in refl))
-    (λ c. search rules) (λ c. less c.before.before.before) (λ c. again c.before.before.before c.before.said5.given.1 (unfold withSaid in refl))
-    (λ c. search rules) (λ c. less c.before.before.before) (λ c. again c.before.before.before c.before.said6.given.1 (unfold withSaid in refl))
-    (λ c. search rules) (λ c. less c.before.before.before) (λ c. again c.before.before.before c.before.said7.given.1 (unfold withSaid in refl))
-    (λ c. search rules) (λ c. less c.before.before.before) (λ c. again c.before.before.before c.before.said8.given.1 (unfold withSaid in refl))
-    (λ c. search rules) (λ c. less c.before.before.before) (λ c. again c.before.before.before c.before.said9.given.1 (unfold withSaid in refl))
-    (λ c. search rules) (λ c. less c.before.before.before) (λ c. again c.before.before.before c.before.said10.given.1 (unfold withSaid in refl))
+    (λ c. done-bad _ _ _ _ _ _ _ _ c.before.before.before.before.before.before.before.before.before.before.before.before.before.before.before.loop.invariant (follows c.before.before.before.before.before.before.before.before.before.before) c.before.before.before.before.before.before.before.before.before.part.ensures c.before.before.before.before.before.before.before.before.decide.ensures c.before.before.before.before.before.before.turn2.given.1 c.refuse-section2.ensures (said-reads _ _ _ _ _ c.before.before.before.before.Said-at.ensures c.before.before.said.given.1 (unfold with_said in refl)))
+    (λ c. search rules) (λ c. less c.before.before.before) (λ c. again c.before.before.before c.before.said2.given.1 (unfold with_said in refl))
+    (λ c. search rules) (λ c. less c.before.before.before) (λ c. again c.before.before.before c.before.said3.given.1 (unfold with_said in refl))
+    (λ c. search rules) (λ c. less c.before.before.before) (λ c. again c.before.before.before c.before.said4.given.1 (unfold with_said in refl))
+    (λ c. search rules) (λ c. less c.before.before.before) (λ c. again c.before.before.before c.before.said5.given.1 (unfold with_said in refl))
+    (λ c. search rules) (λ c. less c.before.before.before) (λ c. again c.before.before.before c.before.said6.given.1 (unfold with_said in refl))
+    (λ c. search rules) (λ c. less c.before.before.before) (λ c. again c.before.before.before c.before.said7.given.1 (unfold with_said in refl))
+    (λ c. search rules) (λ c. less c.before.before.before) (λ c. again c.before.before.before c.before.said8.given.1 (unfold with_said in refl))
+    (λ c. search rules) (λ c. less c.before.before.before) (λ c. again c.before.before.before c.before.said9.given.1 (unfold with_said in refl))
+    (λ c. search rules) (λ c. less c.before.before.before) (λ c. again c.before.before.before c.before.said10.given.1 (unfold with_said in refl))
     (λ c κs. search rules) (λ c. less c.before.before) (λ c. again c.before.before refl (rw c.with-said.ensures (added-among handed (miss handed 0 tt) _ c.before.match3.keys11 _)))
     (λ c κs. search rules) (λ c κs. search rules)
     (λ c. done-over _ _ _ _ _ _ _ _ c.before.before.before.loop.invariant c.end-section3.ensures c.before.finish2.ensures (from_end _ _ c.before.before.loop-test.false)))

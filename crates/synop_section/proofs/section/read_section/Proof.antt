@@ -6,8 +6,8 @@ use Rattle.synop_section.proofs.SectionSteps.{answered-end, answered-third}
 use Rattle.synop_section.proofs.section.read_section.Statement.{statement}
 use Rattle.synop_section.proofs.section.read_section.Tie as tie
 
-pub read-section-spec : {M : Type 1} → statement M
-read-section-spec =
+pub read_section_spec : {M : Type 1} → statement M
+read_section_spec =
     tie.close
     (tie.spec
     (λ c κs. search rules) (λ c κs. search rules) (λ c. search rules) (λ c κs. search rules) (λ c. search rules) (λ c κs. search rules) (λ c κs. search rules)

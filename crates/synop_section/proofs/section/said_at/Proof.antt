@@ -7,8 +7,8 @@ use Rattle.synop_section.proofs.SectionSteps.{says_at, says_nothing}
 use Rattle.synop_section.proofs.section.said_at.Statement.{statement}
 use Rattle.synop_section.proofs.section.said_at.Tie as tie
 
-pub said-at-spec : {M : Type 1} → statement M
-said-at-spec =
+pub said_at_spec : {M : Type 1} → statement M
+said_at_spec =
     tie.close
     (tie.spec
     (λ c κs. search rules) (λ c κs. search rules) (λ c κs. search rules) (λ c κs. search rules) (λ c κs. search rules)

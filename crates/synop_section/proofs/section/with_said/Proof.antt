@@ -10,21 +10,21 @@ use Rattle.record.specs.declared.surface.Surface.{Surface}
 use Rattle.synop_groups.specs.declared.kinds.Said.{Said}
 use Rattle.synop_groups.specs.declared.kinds.Said.TheVariants as said
 use Rattle.synop_groups.specs.contracts.kinds.Said as says
-use Rattle.synop_row.specs.Row.{withSaid}
-use Rattle.synop_section.specs.Section.{saidOnto}
+use Rattle.synop_row.specs.Row.{with_said}
+use Rattle.synop_section.specs.Section.{said_onto}
 use Rattle.synop_section.proofs.section.with_said.Statement.{statement}
 use Rattle.synop_section.proofs.section.with_said.Tie as tie
 
 -- by what the group was found to say
-by : (s : Surface) {x y : Said} → x ≡ y → saidOnto y s ≡ saidOnto x s
+by : (s : Surface) {x y : Said} → x ≡ y → said_onto y s ≡ said_onto x s
 by s q = rw q
 
 -- a refusal, what names the time and place, and a layer of section 3 leave the surface as it is
 abbrev elsewhere : List ℕ
 elsewhere = 0 ∷ 1 ∷ 2 ∷ 3 ∷ 16 ∷ []
 
-others : (x : Said) → OneOf elsewhere (tag_of says.the_type x) → (s : Surface) → s ≡ saidOnto x s
-unfolding withSaid
+others : (x : Said) → OneOf elsewhere (tag_of says.the_type x) → (s : Surface) → s ≡ said_onto x s
+unfolding with_said
 others (said.Refused f) told s = refl
 others (said.Time t) told s = refl
 others (said.Station n) told s = refl
@@ -43,22 +43,22 @@ others (said.Clouds c) told s = absurd (miss elsewhere 14 tt told)
 others (said.Clock c) told s = absurd (miss elsewhere 15 tt told)
 others (said.Layer l) told s = refl
 
-pub with-said-spec : {M : Type 1} → statement M
-with-said-spec =
+pub with_said_spec : {M : Type 1} → statement M
+with_said_spec =
     tie.close
     (tie.spec
     (λ c. search rules) (λ c. search rules) (λ c. search rules) (λ c. search rules) (λ c. search rules) (λ c. search rules)
     (λ c. search rules) (λ c. search rules) (λ c. search rules) (λ c. search rules) (λ c. search rules) (λ c. search rules)
-    (λ c. unfold withSaid in by c.before.before.before.args.surface c.before.said.given.1)
-    (λ c. unfold withSaid in by c.before.before.before.args.surface c.before.said2.given.1)
-    (λ c. unfold withSaid in by c.before.before.before.before.args.surface c.before.before.said3.given.1)
-    (λ c. unfold withSaid in by c.before.before.before.args.surface c.before.said4.given.1)
-    (λ c. unfold withSaid in by c.before.before.before.args.surface c.before.said5.given.1)
-    (λ c. unfold withSaid in by c.before.before.before.args.surface c.before.said6.given.1)
-    (λ c. unfold withSaid in by c.before.before.before.args.surface c.before.said7.given.1)
-    (λ c. unfold withSaid in by c.before.before.before.args.surface c.before.said8.given.1)
-    (λ c. unfold withSaid in by c.before.before.before.args.surface c.before.said9.given.1)
-    (λ c. unfold withSaid in by c.before.before.before.args.surface c.before.said10.given.1)
-    (λ c. unfold withSaid in by c.before.before.before.args.surface c.before.said11.given.1)
-    (λ c. unfold withSaid in by c.before.before.before.args.surface c.before.said12.given.1)
+    (λ c. unfold with_said in by c.before.before.before.args.surface c.before.said.given.1)
+    (λ c. unfold with_said in by c.before.before.before.args.surface c.before.said2.given.1)
+    (λ c. unfold with_said in by c.before.before.before.before.args.surface c.before.before.said3.given.1)
+    (λ c. unfold with_said in by c.before.before.before.args.surface c.before.said4.given.1)
+    (λ c. unfold with_said in by c.before.before.before.args.surface c.before.said5.given.1)
+    (λ c. unfold with_said in by c.before.before.before.args.surface c.before.said6.given.1)
+    (λ c. unfold with_said in by c.before.before.before.args.surface c.before.said7.given.1)
+    (λ c. unfold with_said in by c.before.before.before.args.surface c.before.said8.given.1)
+    (λ c. unfold with_said in by c.before.before.before.args.surface c.before.said9.given.1)
+    (λ c. unfold with_said in by c.before.before.before.args.surface c.before.said10.given.1)
+    (λ c. unfold with_said in by c.before.before.before.args.surface c.before.said11.given.1)
+    (λ c. unfold with_said in by c.before.before.before.args.surface c.before.said12.given.1)
     (λ c. others c.before.args.said c.match.keys13 c.before.args.surface))

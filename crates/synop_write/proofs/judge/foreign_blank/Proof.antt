@@ -1,12 +1,12 @@
 -- `synop_write::judge::foreign_blank` meets its contract, part by part.
 -- Assumes nothing.
-use Rattle.synop.specs.Write.{foreignBlank}
+use Rattle.synop.specs.Write.{foreign_blank}
 use Rattle.synop_write.proofs.judge.foreign_blank.Statement.{statement}
 use Rattle.synop_write.proofs.judge.foreign_blank.Tie as tie
 
-pub foreign-blank-spec : {M : Type 1} → statement M
-foreign-blank-spec =
+pub foreign_blank_spec : {M : Type 1} → statement M
+foreign_blank_spec =
     tie.close
     (tie.spec
     (λ c κs. tt) (λ c κs. tt) (λ c κs. tt)
-    (λ c. unfold foreignBlank in rw (c.before.before.site-suits.ensures, c.before.is-blank.ensures, c.is-blank2.ensures)))
+    (λ c. unfold foreign_blank in rw (c.before.before.site-suits.ensures, c.before.is-blank.ensures, c.is-blank2.ensures)))

@@ -1,14 +1,14 @@
 -- `synop_write::judge::judge` meets its contract, part by part.
 -- Assumes nothing.
-use Rattle.synop.specs.Write.{judgeOf}
+use Rattle.synop.specs.Write.{judge_of}
 use Rattle.synop_write.proofs.judge.judge.Statement.{statement}
 use Rattle.synop_write.proofs.judge.judge.Tie as tie
 
-pub judge-spec : {M : Type 1} → statement M
-judge-spec =
+pub judge_spec : {M : Type 1} → statement M
+judge_spec =
     tie.close
     (tie.spec
     (λ c κs. tt) (λ c κs. tt) (λ c κs. tt) (λ c κs. tt) (λ c κs. tt)
     (λ c.
-    unfold judgeOf in
+    unfold judge_of in
     rw (c.and-then2.ensures, c.before.judge-foreign.ensures, c.before.before.and_then.ensures, c.before.before.before.judge-rest.ensures, c.before.before.before.before.judge-site.ensures)))

@@ -3,8 +3,8 @@
 use Rattle.synop_write.proofs.judge.judge_foreign.Statement.{statement}
 use Rattle.synop_write.proofs.judge.judge_foreign.Tie as tie
 
-pub judge-foreign-spec : {M : Type 1} → statement M
-judge-foreign-spec =
+pub judge_foreign_spec : {M : Type 1} → statement M
+judge_foreign_spec =
     tie.close
     (tie.spec
     (λ c κs. tt)

@@ -3,8 +3,8 @@
 use Rattle.synop_write.proofs.judge.site_suits.Statement.{statement}
 use Rattle.synop_write.proofs.judge.site_suits.Tie as tie
 
-pub site-suits-spec : {M : Type 1} → statement M
-site-suits-spec =
+pub site_suits_spec : {M : Type 1} → statement M
+site_suits_spec =
     tie.close
     (tie.spec
     (λ c κs. tt) (λ c κs. tt) (λ c κs. tt)

@@ -5,8 +5,8 @@ use Rattle.text.proofs.Writes.{write-groups}
 use Rattle.synop_write.proofs.write.put_land.Statement.{statement}
 use Rattle.synop_write.proofs.write.put_land.Tie as tie
 
-pub put-land-spec : {M : Type 1} → statement M
-put-land-spec =
+pub put_land_spec : {M : Type 1} → statement M
+put_land_spec =
     tie.close
     (tie.spec
     (λ c. search rules) (λ c κs. tt) (λ c κs. tt) (λ c κs. tt) (λ c. search rules)

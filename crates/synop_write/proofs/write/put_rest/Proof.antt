@@ -5,8 +5,8 @@ use Rattle.text.proofs.Writes.{write-groups}
 use Rattle.synop_write.proofs.write.put_rest.Statement.{statement}
 use Rattle.synop_write.proofs.write.put_rest.Tie as tie
 
-pub put-rest-spec : {M : Type 1} → statement M
-put-rest-spec =
+pub put_rest_spec : {M : Type 1} → statement M
+put_rest_spec =
     tie.close
     (tie.spec
     (λ c. search rules) (λ c κs. tt) (λ c κs. tt) (λ c κs. tt) (λ c. search rules)

@@ -30,8 +30,8 @@ all c =
     (write-groups _ _ to8.before.before.put-clouds.ensures
     (rw (append-nil _) c.before.before.put-clock.ensures)))))))))
 
-pub put-section-spec : {M : Type 1} → statement M
-put-section-spec =
+pub put_section_spec : {M : Type 1} → statement M
+put_section_spec =
     tie.close
     (tie.spec
     (λ c κs. tt) (λ c κs. tt) (λ c κs. tt) (λ c κs. tt) (λ c κs. tt) (λ c κs. tt) (λ c κs. tt) (λ c κs. tt) (λ c κs. tt) (λ c κs. tt)

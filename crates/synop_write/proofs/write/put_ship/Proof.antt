@@ -5,8 +5,8 @@ use Rattle.text.proofs.Writes.{write-groups}
 use Rattle.synop_write.proofs.write.put_ship.Statement.{statement}
 use Rattle.synop_write.proofs.write.put_ship.Tie as tie
 
-pub put-ship-spec : {M : Type 1} → statement M
-put-ship-spec =
+pub put_ship_spec : {M : Type 1} → statement M
+put_ship_spec =
     tie.close
     (tie.spec
     (λ c. search rules) (λ c κs. tt) (λ c κs. tt) (λ c κs. tt) (λ c κs. tt) (λ c κs. tt) (λ c. search rules)

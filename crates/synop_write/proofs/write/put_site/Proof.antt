@@ -1,15 +1,15 @@
 -- `synop_write::write::put_site` meets its contract, by the kind.
 -- Assumes nothing.
 use borrow.Author.Rules.{rules}
-use Rattle.synop.specs.Write.{siteGroups}
+use Rattle.synop.specs.Write.{site_groups}
 use Rattle.synop_write.proofs.write.put_site.Statement.{statement}
 use Rattle.synop_write.proofs.write.put_site.Tie as tie
 
-pub put-site-spec : {M : Type 1} → statement M
-put-site-spec =
+pub put_site_spec : {M : Type 1} → statement M
+put_site_spec =
     tie.close
     (tie.spec
     (λ c κs. tt) (λ c κs. tt) (λ c. search rules)
-    (λ c. unfold siteGroups in rw c.before.before.before.before.if1.true c.before.before.put-ship.ensures)
+    (λ c. unfold site_groups in rw c.before.before.before.before.if1.true c.before.before.put-ship.ensures)
     (λ c. search rules)
-    (λ c. unfold siteGroups in rw c.before.before.before.before.if1.false c.before.before.put-land.ensures))
+    (λ c. unfold site_groups in rw c.before.before.before.before.if1.false c.before.before.put-land.ensures))

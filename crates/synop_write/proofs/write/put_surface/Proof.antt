@@ -2,16 +2,16 @@
 -- Assumes nothing.
 use borrow.Author.Rules.{rules}
 use Rattle.text.proofs.Writes.{write-groups}
-use Rattle.synop.specs.Write.{surfaceGroups}
+use Rattle.synop.specs.Write.{surface_groups}
 use Rattle.synop_write.proofs.write.put_surface.Statement.{statement}
 use Rattle.synop_write.proofs.write.put_surface.Tie as tie
 
-pub put-surface-spec : {M : Type 1} → statement M
-put-surface-spec =
+pub put_surface_spec : {M : Type 1} → statement M
+put_surface_spec =
     tie.close
     (tie.spec
     (λ c κs. tt) (λ c κs. tt) (λ c κs. tt) (λ c κs. tt) (λ c. search rules)
     (λ c.
-    unfold surfaceGroups in
+    unfold surface_groups in
     write-groups _ _ c.before.before.before.before.before.before.before.before.before.before.put-indicators.ensures
     (write-groups _ _ c.before.before.before.before.before.before.put-wind.ensures (rw c.before.before.before.before.before.before.before.before.before.before.before.before.needs-of.ensures at c.before.before.put-section.ensures))))

@@ -3,7 +3,7 @@
 use borrow.Author.Rules.{rules}
 use mathlib.Core.Path.{sym, ◌∙◌}
 use Rattle.places.proofs.Delivered.{not-delivered}
-use Rattle.synop.specs.Write.{canonicalOf, written_of, bufferOf}
+use Rattle.synop.specs.Write.{canonical_of, written_of, buffer_of}
 use Rattle.synop_write.proofs.write.write.Statement.{statement}
 use Rattle.synop_write.proofs.write.write.Tie as tie
 
@@ -16,4 +16,4 @@ write_spec =
     (λ c. search rules) (λ c. search rules) (λ c. search rules)
     (λ c.
     let d = c.before.before.before.before.before in
-    unfold written_of bufferOf in not-delivered (canonicalOf d.args.r) d.args.out.now (sym c.before.before.before.judge.ensures ∙ c.before.verdict.given.1)))
+    unfold written_of buffer_of in not-delivered (canonical_of d.args.r) d.args.out.now (sym c.before.before.before.judge.ensures ∙ c.before.verdict.given.1)))

@@ -10,8 +10,8 @@ returns c = rw (← c.before.has-pattern.ensures, c.if1.true)
 returns-2 : tie.Need-returns-2
 returns-2 c = rw (← c.before.has-pattern.ensures, c.if1.false)
 
-pub correction-of-spec : {M : Type 1} → statement M
-correction-of-spec =
+pub correction_of_spec : {M : Type 1} → statement M
+correction_of_spec =
     tie.close
     (tie.spec
     (λ c. search rules) (λ c κs. search rules) returns returns-2)

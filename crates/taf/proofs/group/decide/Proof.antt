@@ -3,19 +3,19 @@
 use borrow.Author.Rules.{rules}
 use mathlib.Core.Path.{sym, ◌∙◌}
 use native.Mathlib.Omega.{arith}
-use Rattle.shapes.specs.Pattern.{hasAny}
+use Rattle.shapes.specs.Pattern.{has_any}
 use Rattle.places.proofs.Loop.{turn-past, turn-halts, turn-found}
-use Rattle.taf_row.specs.Row.{row, changeWords}
+use Rattle.taf_row.specs.Row.{row, change_words}
 use Rattle.taf_row.proofs.Rows.{row-length}
 use Rattle.taf.proofs.group.decide.Statement.{statement}
 use Rattle.taf.proofs.group.decide.Tie as tie
 
-pub decide-spec : {M : Type 1} → statement M
-decide-spec =
+pub decide_spec : {M : Type 1} → statement M
+decide_spec =
     tie.close
     (tie.spec
-    (λ c. turn-past (row _ _) (hasAny (changeWords _)) _ _ _ (rw (row-length _ _) c.if1.true))
+    (λ c. turn-past (row _ _) (has_any (change_words _)) _ _ _ (rw (row-length _ _) c.if1.true))
     (λ c κs. search rules)
-    (λ c. turn-halts (row _ _) (hasAny (changeWords _)) _ _ _ (rw (row-length _ _) (omega (arith, c.before.before.if1.false))) (sym c.before.is-change-word.ensures ∙ c.if2.true))
+    (λ c. turn-halts (row _ _) (has_any (change_words _)) _ _ _ (rw (row-length _ _) (omega (arith, c.before.before.if1.false))) (sym c.before.is-change-word.ensures ∙ c.if2.true))
     (λ c κs. search rules) (λ c κs. search rules)
-    (λ c. turn-found (row _ _) (hasAny (changeWords _)) _ _ _ (rw (row-length _ _) (omega (arith, c.before.before.before.before.if1.false))) (sym c.before.before.before.is-change-word.ensures ∙ c.before.before.if2.false) c.before.find.ensures c.turn_by.ensures))
+    (λ c. turn-found (row _ _) (has_any (change_words _)) _ _ _ (rw (row-length _ _) (omega (arith, c.before.before.before.before.if1.false))) (sym c.before.before.before.is-change-word.ensures ∙ c.before.before.if2.false) c.before.find.ensures c.turn_by.ensures))

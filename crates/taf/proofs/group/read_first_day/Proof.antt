@@ -2,28 +2,28 @@
 -- Assumes nothing.
 use borrow.Author.Rules.{rules}
 use Rattle.aerodrome_groups.proofs.Readings.{no-figure}
-use Rattle.taf_row.specs.Row.{readPeriod}
-use Rattle.elements.specs.Answers.{asPeriod}
+use Rattle.taf_row.specs.Row.{read_period}
+use Rattle.elements.specs.Answers.{as_period}
 use Rattle.taf.proofs.group.read_first_day.Statement.{statement}
 use Rattle.taf.proofs.group.read_first_day.Tie as tie
 
 returns : tie.Need-returns
-returns c = unfold readPeriod in no-figure asPeriod _ c.before.field.ensures c.match.keys2
+returns c = unfold read_period in no-figure as_period _ c.before.field.ensures c.match.keys2
 
 returns-2 : tie.Need-returns-2
-returns-2 c = unfold readPeriod in rw (← c.before.before.before.before.before.field.ensures, c.before.before.before.day.given.1) (no-figure asPeriod _ c.before.field2.ensures c.match2.keys2)
+returns-2 c = unfold read_period in rw (← c.before.before.before.before.before.field.ensures, c.before.before.before.day.given.1) (no-figure as_period _ c.before.field2.ensures c.match2.keys2)
 
 returns-3 : tie.Need-returns-3
-returns-3 c = unfold readPeriod in rw (← c.before.before.before.before.before.before.before.before.before.field.ensures, c.before.before.before.before.before.before.before.day.given.1, ← c.before.before.before.before.before.field2.ensures, c.before.before.before.hour.given.1) (no-figure asPeriod _ c.before.field3.ensures c.match3.keys2)
+returns-3 c = unfold read_period in rw (← c.before.before.before.before.before.before.before.before.before.field.ensures, c.before.before.before.before.before.before.before.day.given.1, ← c.before.before.before.before.before.field2.ensures, c.before.before.before.hour.given.1) (no-figure as_period _ c.before.field3.ensures c.match3.keys2)
 
 returns-4 : tie.Need-returns-4
-returns-4 c = unfold readPeriod in rw (← c.before.before.before.before.before.before.before.before.before.before.before.before.before.before.before.field.ensures, c.before.before.before.before.before.before.before.before.before.before.before.before.before.day.given.1, ← c.before.before.before.before.before.before.before.before.before.before.before.field2.ensures, c.before.before.before.before.before.before.before.before.before.hour.given.1, ← c.before.before.before.before.before.before.before.field3.ensures, c.before.before.before.before.before.end.given.1, ← c.before.before.before.is-end-hour.ensures, c.before.before.if1.true, c.before.hour-of.ensures, c.hour-alone.ensures)
+returns-4 c = unfold read_period in rw (← c.before.before.before.before.before.before.before.before.before.before.before.before.before.before.before.field.ensures, c.before.before.before.before.before.before.before.before.before.before.before.before.before.day.given.1, ← c.before.before.before.before.before.before.before.before.before.before.before.field2.ensures, c.before.before.before.before.before.before.before.before.before.hour.given.1, ← c.before.before.before.before.before.before.before.field3.ensures, c.before.before.before.before.before.end.given.1, ← c.before.before.before.is-end-hour.ensures, c.before.before.if1.true, c.before.hour-of.ensures, c.hour-alone.ensures)
 
 returns-5 : tie.Need-returns-5
-returns-5 c = unfold readPeriod in rw (← c.before.before.before.before.before.before.before.before.before.before.before.before.before.field.ensures, c.before.before.before.before.before.before.before.before.before.before.before.day.given.1, ← c.before.before.before.before.before.before.before.before.before.field2.ensures, c.before.before.before.before.before.before.before.hour.given.1, ← c.before.before.before.before.before.field3.ensures, c.before.before.before.end.given.1, ← c.before.is-end-hour.ensures, c.if1.false)
+returns-5 c = unfold read_period in rw (← c.before.before.before.before.before.before.before.before.before.before.before.before.before.field.ensures, c.before.before.before.before.before.before.before.before.before.before.before.day.given.1, ← c.before.before.before.before.before.before.before.before.before.field2.ensures, c.before.before.before.before.before.before.before.hour.given.1, ← c.before.before.before.before.before.field3.ensures, c.before.before.before.end.given.1, ← c.before.is-end-hour.ensures, c.if1.false)
 
-pub read-first-day-spec : {M : Type 1} → statement M
-read-first-day-spec =
+pub read_first_day_spec : {M : Type 1} → statement M
+read_first_day_spec =
     tie.close
     (tie.spec
     (λ c κs. search rules) (λ c. search rules) returns (λ c κs. search rules) (λ c. search rules) returns-2 (λ c κs. search rules) (λ c. search rules) returns-3 (λ c κs. search rules) (λ c κs. search rules) (λ c κs. search rules) returns-4 returns-5)

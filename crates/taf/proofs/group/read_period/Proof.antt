@@ -4,8 +4,8 @@ use borrow.Author.Rules.{rules}
 use Rattle.taf.proofs.group.read_period.Statement.{statement}
 use Rattle.taf.proofs.group.read_period.Tie as tie
 
-pub read-period-spec : {M : Type 1} → statement M
-read-period-spec =
+pub read_period_spec : {M : Type 1} → statement M
+read_period_spec =
     tie.close
     (tie.spec
     (λ c. search rules) (λ c κs. search rules) (λ c. search rules) (λ c κs. search rules) (λ c. search rules) (λ c κs. search rules)

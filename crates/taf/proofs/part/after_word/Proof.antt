@@ -8,8 +8,8 @@ use Rattle.taf.proofs.Turns.{meets-lacking, meets-full, meets-good, meets-bad}
 use Rattle.taf.proofs.part.after_word.Statement.{statement}
 use Rattle.taf.proofs.part.after_word.Tie as tie
 
-pub after-word-spec : {M : Type 1} → statement M
-after-word-spec =
+pub after_word_spec : {M : Type 1} → statement M
+after_word_spec =
     tie.close
     (tie.spec
     (λ c κs. search rules)

@@ -4,8 +4,8 @@ use borrow.Author.Rules.{rules}
 use Rattle.taf.proofs.part.end_part.Statement.{statement}
 use Rattle.taf.proofs.part.end_part.Tie as tie
 
-pub end-part-spec : {M : Type 1} → statement M
-end-part-spec =
+pub end_part_spec : {M : Type 1} → statement M
+end_part_spec =
     tie.close
     (tie.spec
     (λ c κs. search rules) (λ c κs. search rules) (λ c κs. search rules)

@@ -4,8 +4,8 @@ use borrow.Author.Rules.{rules}
 use Rattle.taf.proofs.part.refuse_part.Statement.{statement}
 use Rattle.taf.proofs.part.refuse_part.Tie as tie
 
-pub refuse-part-spec : {M : Type 1} → statement M
-refuse-part-spec =
+pub refuse_part_spec : {M : Type 1} → statement M
+refuse_part_spec =
     tie.close
     (tie.spec
     (λ c κs. search rules)

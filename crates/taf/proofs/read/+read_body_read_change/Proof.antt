@@ -48,8 +48,8 @@ module _ (t : ℕ) where
   abbrev change-calls : read-change-lts.Claims
   change-calls = (begin-part.Asked, begin-part.Learnt, body_below, read-body.Post)
 
-pub +read-body-read-change-spec : {M : Type 1} → statement M
-+read-body-read-change-spec =
+pub +read_body_read_change_spec : {M : Type 1} → statement M
++read_body_read_change_spec =
     close μ-read-body μ-read-change
     (λ t. read-body-lts.spec (body-calls t) (body_at t) read-body.Post
     (λ c κs. search rules) (λ c. omega (arith, c.before.before.requires.1)) (λ c κs. search rules) (λ c κs. search rules) (λ c. search rules)

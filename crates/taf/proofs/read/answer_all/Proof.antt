@@ -4,8 +4,8 @@ use borrow.Author.Rules.{rules}
 use Rattle.taf.proofs.read.answer_all.Statement.{statement}
 use Rattle.taf.proofs.read.answer_all.Tie as tie
 
-pub answer-all-spec : {M : Type 1} → statement M
-answer-all-spec =
+pub answer_all_spec : {M : Type 1} → statement M
+answer_all_spec =
     tie.close
     (tie.spec
     (λ c. search rules) (λ c κs. search rules) (λ c. search rules) (λ c κs. search rules)

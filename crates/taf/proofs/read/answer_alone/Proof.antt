@@ -4,8 +4,8 @@ use borrow.Author.Rules.{rules}
 use Rattle.taf.proofs.read.answer_alone.Statement.{statement}
 use Rattle.taf.proofs.read.answer_alone.Tie as tie
 
-pub answer-alone-spec : {M : Type 1} → statement M
-answer-alone-spec =
+pub answer_alone_spec : {M : Type 1} → statement M
+answer_alone_spec =
     tie.close
     (tie.spec
     (λ c. search rules) (λ c κs. search rules) (λ c κs. search rules) (λ c. search rules) (λ c κs. search rules)

@@ -4,8 +4,8 @@ use borrow.Author.Rules.{rules}
 use Rattle.taf.proofs.read.read_from.Statement.{statement}
 use Rattle.taf.proofs.read.read_from.Tie as tie
 
-pub read-from-spec : {M : Type 1} → statement M
-read-from-spec =
+pub read_from_spec : {M : Type 1} → statement M
+read_from_spec =
     tie.close
     (tie.spec
     (λ c κs. search rules) (λ c. c.read-from-in.ensures))

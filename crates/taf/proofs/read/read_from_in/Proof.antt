@@ -7,8 +7,8 @@ use Rattle.taf.proofs.Turns.{main-ends, main-goes}
 use Rattle.taf.proofs.read.read_from_in.Statement.{statement}
 use Rattle.taf.proofs.read.read_from_in.Tie as tie
 
-pub read-from-in-spec : {M : Type 1} → statement M
-read-from-in-spec =
+pub read_from_in_spec : {M : Type 1} → statement M
+read_from_in_spec =
     tie.close
     (tie.spec
     (λ c κs. search rules) (λ c κs. search rules) (λ c. search rules) (λ c κs. search rules) (λ c. search rules) (λ c κs. omega arith) (λ c κs. search rules)

@@ -10,8 +10,8 @@ returns-4 c = rw c.before.opening.given.1
 returns-5 : tie.Need-returns-5
 returns-5 c = rw c.before.opening2.given.1
 
-pub after-probable-spec : {M : Type 1} → statement M
-after-probable-spec =
+pub after_probable_spec : {M : Type 1} → statement M
+after_probable_spec =
     tie.close
     (tie.spec
     (λ c. search rules) (λ c. search rules) (λ c. search rules) (λ c. search rules) (λ c. search rules) (λ c. search rules) (λ c. search rules)

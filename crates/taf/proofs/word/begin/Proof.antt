@@ -4,8 +4,8 @@ use borrow.Author.Rules.{rules}
 use Rattle.taf.proofs.word.begin.Statement.{statement}
 use Rattle.taf.proofs.word.begin.Tie as tie
 
-pub begin-spec : {M : Type 1} → statement M
-begin-spec =
+pub begin_spec : {M : Type 1} → statement M
+begin_spec =
     tie.close
     (tie.spec
     (λ c κs. search rules) (λ c κs. search rules)

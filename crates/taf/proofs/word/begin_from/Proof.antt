@@ -4,8 +4,8 @@ use borrow.Author.Rules.{rules}
 use Rattle.taf.proofs.word.begin_from.Statement.{statement}
 use Rattle.taf.proofs.word.begin_from.Tie as tie
 
-pub begin-from-spec : {M : Type 1} → statement M
-begin-from-spec =
+pub begin_from_spec : {M : Type 1} → statement M
+begin_from_spec =
     tie.close
     (tie.spec
     (λ c κs. search rules)

@@ -20,8 +20,8 @@ returns-2 c = let a = c.before.before.before.before.before.before.before.before.
 returns-3 : tie.Need-returns-3
 returns-3 c = let a = c.before.before.before.before.before.before.before.before.args in begins-other a.text.now a.opening a.at (follows c.before.before.before) c.before.before.part.ensures (sym c.before.does-join.ensures ∙ c.if1.false)
 
-pub begin-part-spec : {M : Type 1} → statement M
-begin-part-spec =
+pub begin_part_spec : {M : Type 1} → statement M
+begin_part_spec =
     tie.close
     (tie.spec
     (λ c κs. search rules) (λ c. search rules) (λ c. search rules) returns (λ c κs. search rules) (λ c κs. search rules) (λ c κs. search rules) returns-2 returns-3)

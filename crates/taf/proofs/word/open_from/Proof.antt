@@ -4,8 +4,8 @@ use borrow.Author.Rules.{rules}
 use Rattle.taf.proofs.word.open_from.Statement.{statement}
 use Rattle.taf.proofs.word.open_from.Tie as tie
 
-pub open-from-spec : {M : Type 1} → statement M
-open-from-spec =
+pub open_from_spec : {M : Type 1} → statement M
+open_from_spec =
     tie.close
     (tie.spec
     (λ c. search rules) (λ c κs. search rules) (λ c. search rules) (λ c κs. search rules)

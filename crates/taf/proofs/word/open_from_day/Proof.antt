@@ -20,8 +20,8 @@ returns-4 c = rw (c.begin-from.ensures, ← c.before.before.before.before.before
 returns-5 : tie.Need-returns-5
 returns-5 c = rw (← c.before.before.before.before.before.before.before.before.before.before.before.before.field.ensures, c.before.before.before.before.before.before.before.before.before.before.day.given.1, ← c.before.before.before.before.before.before.before.before.field2.ensures, c.before.before.before.before.before.before.hour.given.1, ← c.before.before.before.before.field3.ensures, c.before.before.minute.given.1, c.if1.false)
 
-pub open-from-day-spec : {M : Type 1} → statement M
-open-from-day-spec =
+pub open_from_day_spec : {M : Type 1} → statement M
+open_from_day_spec =
     tie.close
     (tie.spec
     (λ c κs. search rules) (λ c. search rules) returns (λ c κs. search rules) (λ c. search rules) returns-2 (λ c κs. search rules) (λ c. search rules) returns-3 (λ c κs. search rules) returns-4 returns-5)

@@ -17,8 +17,8 @@ returns-3 c = rw (c.begin-from.ensures, ← c.before.before.before.before.before
 returns-4 : tie.Need-returns-4
 returns-4 c = rw (← c.before.before.before.before.before.before.before.before.field.ensures, c.before.before.before.before.before.before.hour.given.1, ← c.before.before.before.before.field2.ensures, c.before.before.minute.given.1, c.if1.false)
 
-pub open-from-hour-spec : {M : Type 1} → statement M
-open-from-hour-spec =
+pub open_from_hour_spec : {M : Type 1} → statement M
+open_from_hour_spec =
     tie.close
     (tie.spec
     (λ c κs. search rules) (λ c. search rules) returns (λ c κs. search rules) (λ c. search rules) returns-2 (λ c κs. search rules) returns-3 returns-4)

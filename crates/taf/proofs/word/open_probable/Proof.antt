@@ -14,8 +14,8 @@ returns-2 c = rw (c.begin.ensures, ← c.before.before.before.before.before.fiel
 returns-3 : tie.Need-returns-3
 returns-3 c = rw (← c.before.before.before.before.field.ensures, c.before.before.chance.given.1, c.if1.false)
 
-pub open-probable-spec : {M : Type 1} → statement M
-open-probable-spec =
+pub open_probable_spec : {M : Type 1} → statement M
+open_probable_spec =
     tie.close
     (tie.spec
     (λ c κs. search rules) (λ c. search rules) returns (λ c κs. search rules) returns-2 returns-3)

@@ -6,8 +6,8 @@ use borrow.Author.Rules.{rules}
 use mathlib.Core.Path.{◌≡◌, refl, sym, ◌∙◌}
 use lib.ListN.{drop}
 use Rattle.text.proofs.Groups.{whole_part}
-use Rattle.places.specs.Seek.{fitFrom}
-use Rattle.places.specs.Engine.{standsOf}
+use Rattle.places.specs.Seek.{fit_from}
+use Rattle.places.specs.Engine.{stands_of}
 use Rattle.places.proofs.Fits.{fit-here, fit_next, fit-end}
 use Rattle.taf_row.specs.Row.{row}
 use Rattle.taf_row.proofs.Rows.{row-length}
@@ -15,13 +15,13 @@ use Rattle.taf_row.proofs.row.fit_from.Statement.{statement}
 use Rattle.taf_row.proofs.row.fit_from.Tie as tie
 
 abbrev Inv : tie.invariant-loop
-Inv edition part all place count g group i₀ k₀ i k = fitFrom all place count (drop place (standsOf (row edition part) g)) ≡ fitFrom all i k (drop i (standsOf (row edition part) g))
+Inv edition part all place count g group i₀ k₀ i k = fit_from all place count (drop place (stands_of (row edition part) g)) ≡ fit_from all i k (drop i (stands_of (row edition part) g))
 
 abbrev μ : tie.decreases-loop
 μ edition part all place count g group i₀ k₀ i k = 12 - i
 
-pub fit-from-spec : {M : Type 1} → statement M
-fit-from-spec =
+pub fit_from_spec : {M : Type 1} → statement M
+fit_from_spec =
     tie.close
     (tie.spec Inv μ
     (λ c κs. search rules) (λ c. refl)

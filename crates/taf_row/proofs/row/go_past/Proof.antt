@@ -11,8 +11,8 @@ returns c e w = past_end e w _ true c.if1.true
 returns-2 : tie.Need-returns-2
 returns-2 c e w = past_end e w _ false c.if1.false
 
-pub go-past-spec : {M : Type 1} → statement M
-go-past-spec =
+pub go_past_spec : {M : Type 1} → statement M
+go_past_spec =
     tie.close
     (tie.spec
     returns returns-2)

@@ -10,8 +10,8 @@ returns c =
     let a = c.before.before.before.before.before.before.before.before.args in
     change-word a.edition a.g.now c.before.before.before.before.before.has-pattern.ensures c.before.before.before.has-pattern2.ensures c.before.has-pattern3.ensures c.is-from.ensures
 
-pub is-change-word-spec : {M : Type 1} → statement M
-is-change-word-spec =
+pub is_change_word_spec : {M : Type 1} → statement M
+is_change_word_spec =
     tie.close
     (tie.spec
     (λ c. search rules) (λ c κs. search rules) (λ c. search rules) (λ c κs. search rules) (λ c. search rules) (λ c κs. search rules)

@@ -7,8 +7,8 @@ use Rattle.taf_row.proofs.row.is_correction.Tie as tie
 returns : tie.Need-returns
 returns c = rw (c.before.before.has-pattern.ensures, c.has-pattern2.ensures)
 
-pub is-correction-spec : {M : Type 1} → statement M
-is-correction-spec =
+pub is_correction_spec : {M : Type 1} → statement M
+is_correction_spec =
     tie.close
     (tie.spec
     (λ c. search rules) (λ c κs. search rules) (λ c. search rules) (λ c κs. search rules) returns)

@@ -4,8 +4,8 @@ use borrow.Author.Rules.{rules}
 use Rattle.taf_row.proofs.row.is_end_hour.Statement.{statement}
 use Rattle.taf_row.proofs.row.is_end_hour.Tie as tie
 
-pub is-end-hour-spec : {M : Type 1} → statement M
-is-end-hour-spec =
+pub is_end_hour_spec : {M : Type 1} → statement M
+is_end_hour_spec =
     tie.close
     (tie.spec
     (λ c. search rules) (λ c. search rules) (λ c. search rules)

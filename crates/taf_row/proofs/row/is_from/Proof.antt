@@ -4,8 +4,8 @@ use borrow.Author.Rules.{rules}
 use Rattle.taf_row.proofs.row.is_from.Statement.{statement}
 use Rattle.taf_row.proofs.row.is_from.Tie as tie
 
-pub is-from-spec : {M : Type 1} → statement M
-is-from-spec =
+pub is_from_spec : {M : Type 1} → statement M
+is_from_spec =
     tie.close
     (tie.spec
     (λ c. search rules) (λ c. search rules) (λ c κs. search rules) (λ c. search rules) (λ c. search rules) (λ c κs. search rules)

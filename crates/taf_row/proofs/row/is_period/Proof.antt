@@ -4,8 +4,8 @@ use borrow.Author.Rules.{rules}
 use Rattle.taf_row.proofs.row.is_period.Statement.{statement}
 use Rattle.taf_row.proofs.row.is_period.Tie as tie
 
-pub is-period-spec : {M : Type 1} → statement M
-is-period-spec =
+pub is_period_spec : {M : Type 1} → statement M
+is_period_spec =
     tie.close
     (tie.spec
     (λ c. search rules) (λ c. search rules) (λ c κs. search rules) (λ c. search rules) (λ c. search rules) (λ c κs. search rules) (λ c. search rules) (λ c. search rules) (λ c κs. search rules)

@@ -8,8 +8,8 @@ use Rattle.taf_row.proofs.row.mosts.Tie as tie
 returns : tie.Need-returns
 returns c = mosts-by c.before.before.before.before.args.part c.before.before.before.is-main.ensures c.before.before.one-if.ensures c.before.is-changing.ensures c.one-if2.ensures
 
-pub mosts-spec : {M : Type 1} → statement M
-mosts-spec =
+pub mosts_spec : {M : Type 1} → statement M
+mosts_spec =
     tie.close
     (tie.spec
     (λ c κs. search rules) (λ c κs. search rules) (λ c κs. search rules) (λ c κs. search rules) returns)

@@ -8,8 +8,8 @@ use Rattle.taf_row.proofs.row.musts.Tie as tie
 returns : tie.Need-returns
 returns c = musts-by c.before.before.before.args.part c.before.before.is-main.ensures c.before.is-changing.ensures c.is_whole.ensures
 
-pub musts-spec : {M : Type 1} → statement M
-musts-spec =
+pub musts_spec : {M : Type 1} → statement M
+musts_spec =
     tie.close
     (tie.spec
     (λ c κs. search rules) (λ c κs. search rules) (λ c κs. search rules) returns)

@@ -9,8 +9,8 @@ returns c = rw c.if1.true
 returns-2 : tie.Need-returns-2
 returns-2 c = rw c.if1.false
 
-pub one-if-spec : {M : Type 1} → statement M
-one-if-spec =
+pub one_if_spec : {M : Type 1} → statement M
+one_if_spec =
     tie.close
     (tie.spec
     returns returns-2)

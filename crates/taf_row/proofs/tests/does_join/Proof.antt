@@ -7,8 +7,8 @@ use Rattle.taf_row.proofs.tests.does_join.Tie as tie
 returns : tie.Need-returns
 returns c = rw (c.before.before.is-probable.ensures, c.has-pattern.ensures)
 
-pub does-join-spec : {M : Type 1} → statement M
-does-join-spec =
+pub does_join_spec : {M : Type 1} → statement M
+does_join_spec =
     tie.close
     (tie.spec
     (λ c κs. search rules) (λ c. search rules) (λ c κs. search rules) returns)

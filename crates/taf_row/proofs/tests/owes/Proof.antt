@@ -10,8 +10,8 @@ returns c =
     let a = c.before.before.before.before.before.before.args in
     owes-by a.part a.place a.count a.r c.before.before.before.before.before.musts.ensures c.before.before.before.is-owed.ensures c.before.before.is-main.ensures c.has-element.ensures
 
-pub owes-spec : {M : Type 1} → statement M
-owes-spec =
+pub owes_spec : {M : Type 1} → statement M
+owes_spec =
     tie.close
     (tie.spec
     (λ c κs. search rules) (λ c. search rules) (λ c κs. search rules) (λ c κs. search rules) (λ c κs. search rules) returns)

@@ -1,16 +1,16 @@
 -- `taf_times::moments::end_day` meets its contract: at midnight the day before.
 -- Assumes nothing.
 use borrow.Author.Rules.{rules}
-use Rattle.taf_times.specs.Moments.{endDay}
+use Rattle.taf_times.specs.Moments.{end_day}
 use Rattle.taf_times.proofs.moments.end_day.Statement.{statement}
 use Rattle.taf_times.proofs.moments.end_day.Tie as tie
 
-pub end-day-spec : {M : Type 1} → statement M
-end-day-spec =
+pub end_day_spec : {M : Type 1} → statement M
+end_day_spec =
     tie.close
     (tie.spec
     (λ c κs. search rules)
     (λ c κs. search rules)
     (λ c κs. search rules)
-    (λ c. unfold endDay in rw (c.day-before.ensures, c.before.before.before.day-in.ensures, ← c.before.before.is-midnight.ensures, c.before.if1.true))
-    (λ c. unfold endDay in rw (c.before.before.day-in.ensures, ← c.before.is-midnight.ensures, c.if1.false)))
+    (λ c. unfold end_day in rw (c.day-before.ensures, c.before.before.before.day-in.ensures, ← c.before.before.is-midnight.ensures, c.before.if1.true))
+    (λ c. unfold end_day in rw (c.before.before.day-in.ensures, ← c.before.is-midnight.ensures, c.if1.false)))

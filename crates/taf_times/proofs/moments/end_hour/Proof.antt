@@ -2,14 +2,14 @@
 -- Assumes nothing.
 use borrow.Author.Rules.{rules}
 use native.Mathlib.Omega.{arith}
-use Rattle.taf_times.specs.Moments.{endHour}
+use Rattle.taf_times.specs.Moments.{end_hour}
 use Rattle.taf_times.proofs.moments.end_hour.Statement.{statement}
 use Rattle.taf_times.proofs.moments.end_hour.Tie as tie
 
-pub end-hour-spec : {M : Type 1} → statement M
-end-hour-spec =
+pub end_hour_spec : {M : Type 1} → statement M
+end_hour_spec =
     tie.close
     (tie.spec
     (λ c κs. search rules)
-    (λ c. (unfold endHour in rw (← c.before.is-midnight.ensures, c.if1.true), omega arith))
-    (λ c. (unfold endHour in rw (← c.before.is-midnight.ensures, c.if1.false), omega arith)))
+    (λ c. (unfold end_hour in rw (← c.before.is-midnight.ensures, c.if1.true), omega arith))
+    (λ c. (unfold end_hour in rw (← c.before.is-midnight.ensures, c.if1.false), omega arith)))

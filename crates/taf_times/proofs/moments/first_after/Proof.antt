@@ -2,16 +2,16 @@
 -- Assumes nothing.
 use borrow.Author.Rules.{rules}
 use native.Mathlib.Omega.{arith}
-use Rattle.taf_times.specs.Moments.{firstAfter}
+use Rattle.taf_times.specs.Moments.{first_after}
 use Rattle.taf_times.proofs.Arithmetic.{below, at_least}
 use Rattle.taf_times.proofs.moments.first_after.Statement.{statement}
 use Rattle.taf_times.proofs.moments.first_after.Tie as tie
 
-pub first-after-spec : {M : Type 1} → statement M
-first-after-spec =
+pub first_after_spec : {M : Type 1} → statement M
+first_after_spec =
     tie.close
     (tie.spec
     (λ c κs. search rules)
     (λ c. search rules)
-    (λ c. (unfold firstAfter in rw (← c.before.moment.ensures) (below _ _ _ _ c.if1.true), omega (arith, c.before.moment.ensures)))
-    (λ c. (unfold firstAfter in rw (← c.before.moment.ensures) (at_least _ _ _ _ c.if1.false), omega (arith, c.before.moment.ensures))))
+    (λ c. (unfold first_after in rw (← c.before.moment.ensures) (below _ _ _ _ c.if1.true), omega (arith, c.before.moment.ensures)))
+    (λ c. (unfold first_after in rw (← c.before.moment.ensures) (at_least _ _ _ _ c.if1.false), omega (arith, c.before.moment.ensures))))

@@ -2,16 +2,16 @@
 -- Assumes nothing.
 use borrow.Author.Rules.{rules}
 use native.Mathlib.Omega.{arith}
-use Rattle.taf_times.specs.Moments.{firstFrom}
+use Rattle.taf_times.specs.Moments.{first_from}
 use Rattle.taf_times.proofs.Arithmetic.{at_most, above}
 use Rattle.taf_times.proofs.moments.first_from.Statement.{statement}
 use Rattle.taf_times.proofs.moments.first_from.Tie as tie
 
-pub first-from-spec : {M : Type 1} → statement M
-first-from-spec =
+pub first_from_spec : {M : Type 1} → statement M
+first_from_spec =
     tie.close
     (tie.spec
     (λ c κs. search rules)
     (λ c. search rules)
-    (λ c. (unfold firstFrom in rw (← c.before.moment.ensures) (at_most _ _ _ _ c.if1.true), omega (arith, c.before.moment.ensures)))
-    (λ c. (unfold firstFrom in rw (← c.before.moment.ensures) (above _ _ _ _ c.if1.false), omega (arith, c.before.moment.ensures))))
+    (λ c. (unfold first_from in rw (← c.before.moment.ensures) (at_most _ _ _ _ c.if1.true), omega (arith, c.before.moment.ensures)))
+    (λ c. (unfold first_from in rw (← c.before.moment.ensures) (above _ _ _ _ c.if1.false), omega (arith, c.before.moment.ensures))))

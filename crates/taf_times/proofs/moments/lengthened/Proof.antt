@@ -6,8 +6,8 @@ use Rattle.taf_times.proofs.Arithmetic.{at_most, above}
 use Rattle.taf_times.proofs.moments.lengthened.Statement.{statement}
 use Rattle.taf_times.proofs.moments.lengthened.Tie as tie
 
-pub lengthened-spec : {M : Type 1} → statement M
-lengthened-spec =
+pub lengthened_spec : {M : Type 1} → statement M
+lengthened_spec =
     tie.close
     (tie.spec
     (λ c. search rules)

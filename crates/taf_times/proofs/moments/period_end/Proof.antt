@@ -3,18 +3,18 @@
 use borrow.Author.Rules.{rules}
 use mathlib.Core.Path.{◌≡◌, refl, sym, ◌∙◌}
 use native.Mathlib.Omega.{arith}
-use Rattle.taf_times.specs.Moments.{periodEnd}
+use Rattle.taf_times.specs.Moments.{period_end}
 use Rattle.taf_times.proofs.Arithmetic.{at_most, above}
 use Rattle.taf_times.proofs.moments.period_end.Statement.{statement}
 use Rattle.taf_times.proofs.moments.period_end.Tie as tie
 
-pub period-end-spec : {M : Type 1} → statement M
-period-end-spec =
+pub period_end_spec : {M : Type 1} → statement M
+period_end_spec =
     tie.close
     (tie.spec
     (λ c κs. search rules)
     (λ c. search rules)
     (λ c. search rules)
     (λ c κs. search rules)
-    (λ c. (unfold periodEnd in c.first-after.ensures.0 ∙ at_most _ _ _ _ c.before.if1.true, omega (arith, c.first-after.ensures.1)))
-    (λ c. (unfold periodEnd in c.first-after2.ensures.0 ∙ above _ _ _ _ c.before.if1.false, omega (arith, c.first-after2.ensures.1))))
+    (λ c. (unfold period_end in c.first-after.ensures.0 ∙ at_most _ _ _ _ c.before.if1.true, omega (arith, c.first-after.ensures.1)))
+    (λ c. (unfold period_end in c.first-after2.ensures.0 ∙ above _ _ _ _ c.before.if1.false, omega (arith, c.first-after2.ensures.1))))

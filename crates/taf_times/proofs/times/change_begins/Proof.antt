@@ -5,8 +5,8 @@ use native.Mathlib.Omega.{arith}
 use Rattle.taf_times.proofs.times.change_begins.Statement.{statement}
 use Rattle.taf_times.proofs.times.change_begins.Tie as tie
 
-pub change-begins-spec : {M : Type 1} → statement M
-change-begins-spec =
+pub change_begins_spec : {M : Type 1} → statement M
+change_begins_spec =
     tie.close
     (tie.spec
     (λ c. search rules)

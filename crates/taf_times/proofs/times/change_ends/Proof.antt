@@ -4,8 +4,8 @@ use borrow.Author.Rules.{rules}
 use Rattle.taf_times.proofs.times.change_ends.Statement.{statement}
 use Rattle.taf_times.proofs.times.change_ends.Tie as tie
 
-pub change-ends-spec : {M : Type 1} → statement M
-change-ends-spec =
+pub change_ends_spec : {M : Type 1} → statement M
+change_ends_spec =
     tie.close
     (tie.spec
     (λ c. search rules)

@@ -1,15 +1,15 @@
 -- `taf_times::times::change_span` meets its contract: under FM to the end of the report, else to its own.
 -- Assumes nothing.
 use borrow.Author.Rules.{rules}
-use Rattle.taf_times.specs.Times.{changeSpan}
+use Rattle.taf_times.specs.Times.{change_span}
 use Rattle.taf_times.proofs.times.change_span.Statement.{statement}
 use Rattle.taf_times.proofs.times.change_span.Tie as tie
 
-pub change-span-spec : {M : Type 1} → statement M
-change-span-spec =
+pub change_span_spec : {M : Type 1} → statement M
+change_span_spec =
     tie.close
     (tie.spec
     (λ c κs. search rules)
     (λ c κs. search rules)
-    (λ c. unfold changeSpan in rw (c.if1.true, c.before.change-begins.ensures.0))
-    (λ c. unfold changeSpan in rw (c.before.if1.false, c.change-ends.ensures, c.before.before.change-begins.ensures.0)))
+    (λ c. unfold change_span in rw (c.if1.true, c.before.change-begins.ensures.0))
+    (λ c. unfold change_span in rw (c.before.if1.false, c.change-ends.ensures, c.before.before.change-begins.ensures.0)))

@@ -6,8 +6,8 @@ use Rattle.taf_times.specs.Times.{dated}
 use Rattle.taf_times.proofs.times.dated.Statement.{statement}
 use Rattle.taf_times.proofs.times.dated.Tie as tie
 
-pub dated-spec : {M : Type 1} → statement M
-dated-spec =
+pub dated_spec : {M : Type 1} → statement M
+dated_spec =
     tie.close
     (tie.spec
     (λ c κs. search rules)

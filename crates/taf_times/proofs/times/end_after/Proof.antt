@@ -4,8 +4,8 @@ use borrow.Author.Rules.{rules}
 use Rattle.taf_times.proofs.times.end_after.Statement.{statement}
 use Rattle.taf_times.proofs.times.end_after.Tie as tie
 
-pub end-after-spec : {M : Type 1} → statement M
-end-after-spec =
+pub end_after_spec : {M : Type 1} → statement M
+end_after_spec =
     tie.close
     (tie.spec
     (λ c κs. search rules)

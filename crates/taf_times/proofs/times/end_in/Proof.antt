@@ -4,8 +4,8 @@ use borrow.Author.Rules.{rules}
 use Rattle.taf_times.proofs.times.end_in.Statement.{statement}
 use Rattle.taf_times.proofs.times.end_in.Tie as tie
 
-pub end-in-spec : {M : Type 1} → statement M
-end-in-spec =
+pub end_in_spec : {M : Type 1} → statement M
+end_in_spec =
     tie.close
     (tie.spec
     (λ c. search rules)

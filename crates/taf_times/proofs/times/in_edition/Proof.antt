@@ -4,8 +4,8 @@ use borrow.Author.Rules.{rules}
 use Rattle.taf_times.proofs.times.in_edition.Statement.{statement}
 use Rattle.taf_times.proofs.times.in_edition.Tie as tie
 
-pub in-edition-spec : {M : Type 1} → statement M
-in-edition-spec =
+pub in_edition_spec : {M : Type 1} → statement M
+in_edition_spec =
     tie.close
     (tie.spec
     (λ c. search rules)

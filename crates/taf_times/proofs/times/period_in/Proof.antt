@@ -1,14 +1,14 @@
 -- `taf_times::times::period_in` meets its contract: part by part.
 -- Assumes nothing.
 use borrow.Author.Rules.{rules}
-use Rattle.taf_times.specs.Times.{periodIn}
+use Rattle.taf_times.specs.Times.{period_in}
 use Rattle.taf_times.proofs.times.period_in.Statement.{statement}
 use Rattle.taf_times.proofs.times.period_in.Tie as tie
 
-pub period-in-spec : {M : Type 1} → statement M
-period-in-spec =
+pub period_in_spec : {M : Type 1} → statement M
+period_in_spec =
     tie.close
     (tie.spec
     (λ c κs. search rules)
     (λ c κs. search rules)
-    (λ c. unfold periodIn in rw (c.end-in.ensures, c.before.begin-at.ensures)))
+    (λ c. unfold period_in in rw (c.end-in.ensures, c.before.begin-at.ensures)))

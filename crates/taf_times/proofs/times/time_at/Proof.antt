@@ -4,8 +4,8 @@ use borrow.Author.Rules.{rules}
 use Rattle.taf_times.proofs.times.time_at.Statement.{statement}
 use Rattle.taf_times.proofs.times.time_at.Tie as tie
 
-pub time-at-spec : {M : Type 1} → statement M
-time-at-spec =
+pub time_at_spec : {M : Type 1} → statement M
+time_at_spec =
     tie.close
     (tie.spec
     (λ c κs. search rules)

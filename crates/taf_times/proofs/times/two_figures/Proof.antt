@@ -6,8 +6,8 @@ use Rattle.taf_times.proofs.Arithmetic.{at_most, above}
 use Rattle.taf_times.proofs.times.two_figures.Statement.{statement}
 use Rattle.taf_times.proofs.times.two_figures.Tie as tie
 
-pub two-figures-spec : {M : Type 1} → statement M
-two-figures-spec =
+pub two_figures_spec : {M : Type 1} → statement M
+two_figures_spec =
     tie.close
     (tie.spec
     (λ c. search rules)

@@ -4,8 +4,8 @@ use borrow.Author.Rules.{rules}
 use Rattle.taf_write.proofs.judge.from_fits.Statement.{statement}
 use Rattle.taf_write.proofs.judge.from_fits.Tie as tie
 
-pub from-fits-spec : {M : Type 1} → statement M
-from-fits-spec =
+pub from_fits_spec : {M : Type 1} → statement M
+from_fits_spec =
     tie.close
     (tie.spec
     (λ c. search rules) (λ c κs. tt) (λ c. search rules) (λ c κs. tt) (λ c κs. tt) (λ c κs. tt)

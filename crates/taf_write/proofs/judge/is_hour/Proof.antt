@@ -3,8 +3,8 @@
 use Rattle.taf_write.proofs.judge.is_hour.Statement.{statement}
 use Rattle.taf_write.proofs.judge.is_hour.Tie as tie
 
-pub is-hour-spec : {M : Type 1} → statement M
-is-hour-spec =
+pub is_hour_spec : {M : Type 1} → statement M
+is_hour_spec =
     tie.close
     (tie.spec
     (λ c κs. tt) (λ c κs. tt) (λ c κs. tt)

@@ -3,8 +3,8 @@
 use Rattle.taf_write.proofs.judge.is_hour_alone.Statement.{statement}
 use Rattle.taf_write.proofs.judge.is_hour_alone.Tie as tie
 
-pub is-hour-alone-spec : {M : Type 1} → statement M
-is-hour-alone-spec =
+pub is_hour_alone_spec : {M : Type 1} → statement M
+is_hour_alone_spec =
     tie.close
     (tie.spec
     (λ c κs. tt) (λ c κs. tt) (λ c κs. tt)

@@ -6,12 +6,12 @@ use native.Mathlib.Omega.{arith}
 use lib.ListN.{length, take, drop}
 use borrow.Author.Rules.{rules}
 use Rattle.elements.proofs.Lists.{each_next, each-stop, each-end}
-use Rattle.taf.specs.Write.{judgeChange, judgeEach}
+use Rattle.taf.specs.Write.{judge_change, judge_each}
 use Rattle.taf_write.proofs.judge.judge_each.Statement.{statement}
 use Rattle.taf_write.proofs.judge.judge_each.Tie as tie
 
 abbrev Inv : tie.invariant-loop
-Inv edition count items i₀ i = (i ≤ count) × (judgeEach edition (take count items) ≡ judgeEach edition (drop i (take count items)))
+Inv edition count items i₀ i = (i ≤ count) × (judge_each edition (take count items) ≡ judge_each edition (drop i (take count items)))
 
 abbrev μ : tie.decreases-loop
 μ edition count items i₀ i = count - i
@@ -22,8 +22,8 @@ slots c =
     let sixteen : length c.args.t2 ≡ 16 = search rules in
     omega (arith, c.requires)
 
-pub judge-each-spec : {M : Type 1} → statement M
-judge-each-spec =
+pub judge_each_spec : {M : Type 1} → statement M
+judge_each_spec =
     tie.close
     (tie.spec Inv μ
     (λ c. (search rules, refl))
@@ -31,15 +31,15 @@ judge-each-spec =
     (λ c.
     let d = c.before.before.before.before.before.before in
     let a = d.before.args in
-    each-stop (judgeChange a.edition) (judgeEach a.edition) refl (λ x xs. refl) a.t2 a.count (slots d.before) d.loop.i d.loop.invariant.1 _ (omega arith) (sym c.before.before.before.judge-change.ensures ∙ c.before.judged.given.1))
+    each-stop (judge_change a.edition) (judge_each a.edition) refl (λ x xs. refl) a.t2 a.count (slots d.before) d.loop.i d.loop.invariant.1 _ (omega arith) (sym c.before.before.before.judge-change.ensures ∙ c.before.judged.given.1))
     (λ c. search rules) (λ c. search rules) (λ c. search rules)
     (λ c.
     let d = c.before.before.before.before.before in
     let a = d.before.args in (
       search rules,
-      each_next (judgeChange a.edition) (judgeEach a.edition) refl (λ x xs. refl) a.t2 a.count (slots d.before) d.loop.i d.loop.invariant.1 _ (omega arith) (sym c.before.before.judge-change.ensures ∙ c.enum_told.given.1),
+      each_next (judge_change a.edition) (judge_each a.edition) refl (λ x xs. refl) a.t2 a.count (slots d.before) d.loop.i d.loop.invariant.1 _ (omega arith) (sym c.before.before.judge-change.ensures ∙ c.enum_told.given.1),
     ))
     (λ c.
     let d = c.before in
     let a = d.before.args in
-    each-end (judgeChange a.edition) (judgeEach a.edition) refl (λ x xs. refl) a.t2 a.count (slots d.before) d.loop.i d.loop.invariant.1 (omega arith)))
+    each-end (judge_change a.edition) (judge_each a.edition) refl (λ x xs. refl) a.t2 a.count (slots d.before) d.loop.i d.loop.invariant.1 (omega arith)))

@@ -3,8 +3,8 @@
 use Rattle.taf_write.proofs.judge.judge_forecast.Statement.{statement}
 use Rattle.taf_write.proofs.judge.judge_forecast.Tie as tie
 
-pub judge-forecast-spec : {M : Type 1} → statement M
-judge-forecast-spec =
+pub judge_forecast_spec : {M : Type 1} → statement M
+judge_forecast_spec =
     tie.close
     (tie.spec
     (λ c κs. tt) (λ c κs. tt) (λ c κs. tt)

@@ -3,8 +3,8 @@
 use Rattle.taf_write.proofs.judge.judge_rest.Statement.{statement}
 use Rattle.taf_write.proofs.judge.judge_rest.Tie as tie
 
-pub judge-rest-spec : {M : Type 1} → statement M
-judge-rest-spec =
+pub judge_rest_spec : {M : Type 1} → statement M
+judge_rest_spec =
     tie.close
     (tie.spec
     (λ c κs. tt) (λ c κs. tt) (λ c κs. tt) (λ c κs. tt) (λ c κs. tt)

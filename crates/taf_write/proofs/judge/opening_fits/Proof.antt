@@ -4,8 +4,8 @@ use borrow.Author.Rules.{rules}
 use Rattle.taf_write.proofs.judge.opening_fits.Statement.{statement}
 use Rattle.taf_write.proofs.judge.opening_fits.Tie as tie
 
-pub opening-fits-spec : {M : Type 1} → statement M
-opening-fits-spec =
+pub opening_fits_spec : {M : Type 1} → statement M
+opening_fits_spec =
     tie.close
     (tie.spec
     (λ c κs. tt) (λ c κs. tt) (λ c. search rules) (λ c. search rules) (λ c. search rules) (λ c. search rules) (λ c. search rules) (λ c. search rules) (λ c κs. tt) (λ c κs. tt)

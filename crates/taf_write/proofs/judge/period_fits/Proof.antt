@@ -5,8 +5,8 @@ use Rattle.taf_write.proofs.Writing.{either_end, from-midnight}
 use Rattle.taf_write.proofs.judge.period_fits.Statement.{statement}
 use Rattle.taf_write.proofs.judge.period_fits.Tie as tie
 
-pub period-fits-spec : {M : Type 1} → statement M
-period-fits-spec =
+pub period_fits_spec : {M : Type 1} → statement M
+period_fits_spec =
     tie.close
     (tie.spec
     (λ c. search rules) (λ c κs. tt) (λ c κs. tt) (λ c. search rules) (λ c κs. tt) (λ c κs. tt) (λ c κs. tt) (λ c. search rules) (λ c κs. tt) (λ c κs. tt)

@@ -3,8 +3,8 @@
 use Rattle.taf_write.proofs.write.leg_of.Statement.{statement}
 use Rattle.taf_write.proofs.write.leg_of.Tie as tie
 
-pub leg-of-spec : {M : Type 1} → statement M
-leg-of-spec =
+pub leg_of_spec : {M : Type 1} → statement M
+leg_of_spec =
     tie.close
     (tie.spec
     (λ c κs. tt) (λ c κs. tt)

@@ -6,8 +6,8 @@ use Rattle.text.proofs.Writes.{write-group}
 use Rattle.taf_write.proofs.write.put_chance.Statement.{statement}
 use Rattle.taf_write.proofs.write.put_chance.Tie as tie
 
-pub put-chance-spec : {M : Type 1} → statement M
-put-chance-spec =
+pub put_chance_spec : {M : Type 1} → statement M
+put_chance_spec =
     tie.close
     (tie.spec
     (λ c κs. tt) (λ c. search rules) (λ c κs. tt) (λ c κs. tt) (λ c. search rules)

@@ -5,8 +5,8 @@ use Rattle.text.proofs.Writes.{write-groups}
 use Rattle.taf_write.proofs.write.put_chances.Statement.{statement}
 use Rattle.taf_write.proofs.write.put_chances.Tie as tie
 
-pub put-chances-spec : {M : Type 1} → statement M
-put-chances-spec =
+pub put_chances_spec : {M : Type 1} → statement M
+put_chances_spec =
     tie.close
     (tie.spec
     (λ c κs. tt) (λ c. search rules) (λ c κs. tt) (λ c. search rules)

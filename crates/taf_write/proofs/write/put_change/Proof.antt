@@ -2,13 +2,13 @@
 -- Assumes nothing.
 use borrow.Author.Rules.{rules}
 use Rattle.text.proofs.Writes.{write-groups}
-use Rattle.taf.specs.Write.{showChange}
+use Rattle.taf.specs.Write.{show_change}
 use Rattle.taf_write.proofs.write.put_change.Statement.{statement}
 use Rattle.taf_write.proofs.write.put_change.Tie as tie
 
-pub put-change-spec : {M : Type 1} → statement M
-put-change-spec =
+pub put_change_spec : {M : Type 1} → statement M
+put_change_spec =
     tie.close
     (tie.spec
     (λ c κs. tt) (λ c κs. tt) (λ c κs. tt) (λ c κs. tt) (λ c. search rules)
-    (λ c. unfold showChange in rw (c.before.before.before.before.part_of.ensures, c.before.before.before.leg-of.ensures) at (write-groups _ _ c.before.before.before.before.before.before.before.before.put-opening.ensures c.before.before.put-part.ensures)))
+    (λ c. unfold show_change in rw (c.before.before.before.before.part_of.ensures, c.before.before.before.leg-of.ensures) at (write-groups _ _ c.before.before.before.before.before.before.before.before.put-opening.ensures c.before.before.put-part.ensures)))

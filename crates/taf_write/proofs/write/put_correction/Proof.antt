@@ -5,8 +5,8 @@ use Rattle.text.proofs.Writes.{write-none}
 use Rattle.taf_write.proofs.write.put_correction.Statement.{statement}
 use Rattle.taf_write.proofs.write.put_correction.Tie as tie
 
-pub put-correction-spec : {M : Type 1} → statement M
-put-correction-spec =
+pub put_correction_spec : {M : Type 1} → statement M
+put_correction_spec =
     tie.close
     (tie.spec
     (λ c. search rules) (λ c. search rules) (λ c. search rules) (λ c κs. tt) (λ c. search rules) (λ c. search rules) (λ c κs. tt)

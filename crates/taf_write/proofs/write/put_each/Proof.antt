@@ -10,12 +10,12 @@ use Rattle.figures.proofs.Puts.{put-none, length-put}
 use Rattle.text.specs.Groups.{written}
 use Rattle.record.proofs.Counted.{take-most}
 use Rattle.places.proofs.Delivered.{one_more}
-use Rattle.taf.specs.Write.{showChange, showEach}
+use Rattle.taf.specs.Write.{show_change, show_each}
 use Rattle.taf_write.proofs.write.put_each.Statement.{statement}
 use Rattle.taf_write.proofs.write.put_each.Tie as tie
 
 abbrev Inv : tie.invariant-loop
-Inv out₀ at edition count items end next₀ i₀ out next i = (i ≤ end) × (end ≡ min count 16) × Put out₀ at (written at (showEach edition (take i items))) next out
+Inv out₀ at edition count items end next₀ i₀ out next i = (i ≤ end) × (end ≡ min count 16) × Put out₀ at (written at (show_each edition (take i items))) next out
 
 abbrev μ : tie.decreases-loop
 μ out₀ at edition count items end next₀ i₀ out next i = end - i
@@ -24,8 +24,8 @@ abbrev μ : tie.decreases-loop
 sixteen : (c : tie.Start Inv μ) → length c.args.t4 ≡ 16
 sixteen c = search rules
 
-pub put-each-spec : {M : Type 1} → statement M
-put-each-spec =
+pub put_each_spec : {M : Type 1} → statement M
+put_each_spec =
     tie.close
     (tie.spec Inv μ
     (λ c κs. tt)
@@ -35,7 +35,7 @@ put-each-spec =
     let d = c.before.before.before.before.before.before.before.before.before in (
       omega arith,
       c.before.before.before.before.before.before.before.at-most-sixteen.ensures,
-      one_more (showChange d.args.edition) (showEach d.args.edition) refl (λ x xs. refl) d.args.t4 c.before.before.before.before.before.before.loop.i _ (omega (arith, sixteen d)) c.before.before.before.before.before.before.loop.invariant.2 c.before.before.put-change.ensures,
+      one_more (show_change d.args.edition) (show_each d.args.edition) refl (λ x xs. refl) d.args.t4 c.before.before.before.before.before.before.loop.i _ (omega (arith, sixteen d)) c.before.before.before.before.before.before.loop.invariant.2 c.before.before.put-change.ensures,
     ))
     (λ c. length-put c.before.loop.invariant.2)
     (λ c.

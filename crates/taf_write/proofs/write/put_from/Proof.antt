@@ -4,8 +4,8 @@ use borrow.Author.Rules.{rules}
 use Rattle.taf_write.proofs.write.put_from.Statement.{statement}
 use Rattle.taf_write.proofs.write.put_from.Tie as tie
 
-pub put-from-spec : {M : Type 1} → statement M
-put-from-spec =
+pub put_from_spec : {M : Type 1} → statement M
+put_from_spec =
     tie.close
     (tie.spec
     (λ c. search rules) (λ c κs. tt) (λ c. search rules) (λ c κs. tt)

@@ -6,8 +6,8 @@ use Rattle.text.proofs.Writes.{write-group}
 use Rattle.taf_write.proofs.write.put_from_day.Statement.{statement}
 use Rattle.taf_write.proofs.write.put_from_day.Tie as tie
 
-pub put-from-day-spec : {M : Type 1} → statement M
-put-from-day-spec =
+pub put_from_day_spec : {M : Type 1} → statement M
+put_from_day_spec =
     tie.close
     (tie.spec
     (λ c κs. tt) (λ c. search rules) (λ c κs. tt) (λ c κs. tt) (λ c κs. tt) (λ c κs. tt) (λ c. search rules)

@@ -6,8 +6,8 @@ use Rattle.text.proofs.Writes.{write-group}
 use Rattle.taf_write.proofs.write.put_from_hour.Statement.{statement}
 use Rattle.taf_write.proofs.write.put_from_hour.Tie as tie
 
-pub put-from-hour-spec : {M : Type 1} → statement M
-put-from-hour-spec =
+pub put_from_hour_spec : {M : Type 1} → statement M
+put_from_hour_spec =
     tie.close
     (tie.spec
     (λ c κs. tt) (λ c. search rules) (λ c κs. tt) (λ c κs. tt) (λ c κs. tt) (λ c. search rules)

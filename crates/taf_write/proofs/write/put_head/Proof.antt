@@ -6,8 +6,8 @@ use Rattle.taf_write.proofs.Writing.{under-change, under-from}
 use Rattle.taf_write.proofs.write.put_head.Statement.{statement}
 use Rattle.taf_write.proofs.write.put_head.Tie as tie
 
-pub put-head-spec : {M : Type 1} → statement M
-put-head-spec =
+pub put_head_spec : {M : Type 1} → statement M
+put_head_spec =
     tie.close
     (tie.spec
     (λ c. search rules) (λ c κs. tt) (λ c. search rules) (λ c κs. tt) (λ c κs. tt) (λ c. search rules) (λ c. search rules)

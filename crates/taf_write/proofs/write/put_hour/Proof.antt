@@ -5,8 +5,8 @@ use Rattle.figures.proofs.Puts.{then}
 use Rattle.taf_write.proofs.write.put_hour.Statement.{statement}
 use Rattle.taf_write.proofs.write.put_hour.Tie as tie
 
-pub put-hour-spec : {M : Type 1} → statement M
-put-hour-spec =
+pub put_hour_spec : {M : Type 1} → statement M
+put_hour_spec =
     tie.close
     (tie.spec
     (λ c κs. tt) (λ c κs. tt) (λ c. search rules)

@@ -17,8 +17,8 @@ all c =
     (write-groups _ _ c.before.before.before.before.before.before.before.before.before.before.before.before.before.before.before.before.before.put-time.ensures
     (write-groups _ _ c.before.before.before.before.before.before.before.before.before.before.before.before.put_if.ensures (write-groups _ _ (rw c.before.before.before.before.before.before.before.before.own-form.ensures at c.before.before.before.before.before.before.before.put-valid.ensures) (rw (append-nil _) c.before.before.put-if2.ensures))))))
 
-pub put-main-spec : {M : Type 1} → statement M
-put-main-spec =
+pub put_main_spec : {M : Type 1} → statement M
+put_main_spec =
     tie.close
     (tie.spec
     (λ c. search rules) (λ c κs. tt) (λ c κs. tt) (λ c κs. tt) (λ c κs. tt) (λ c. search rules) (λ c κs. tt) (λ c κs. tt) (λ c κs. tt)

@@ -3,13 +3,13 @@
 use borrow.Author.Rules.{rules}
 use Rattle.figures.proofs.Puts.{then}
 use Rattle.text.proofs.Writes.{write-group}
-use Rattle.taf_row.specs.Row.{showPeriod}
+use Rattle.taf_row.specs.Row.{show_period}
 use Rattle.taf_write.proofs.write.put_no_day.Statement.{statement}
 use Rattle.taf_write.proofs.write.put_no_day.Tie as tie
 
-pub put-no-day-spec : {M : Type 1} → statement M
-put-no-day-spec =
+pub put_no_day_spec : {M : Type 1} → statement M
+put_no_day_spec =
     tie.close
     (tie.spec
     (λ c κs. tt) (λ c κs. tt) (λ c κs. tt) (λ c. search rules)
-    (λ c. unfold showPeriod in write-group c.before.before.before.before.before.before.before.before.before.before.open-group.ensures (then c.before.before.before.before.before.before.put-hour-alone.ensures c.before.before.put-hour-alone2.ensures)))
+    (λ c. unfold show_period in write-group c.before.before.before.before.before.before.before.before.before.before.open-group.ensures (then c.before.before.before.before.before.before.put-hour-alone.ensures c.before.before.put-hour-alone2.ensures)))

@@ -5,8 +5,8 @@ use Rattle.text.proofs.Writes.{write-none}
 use Rattle.taf_write.proofs.write.put_opening.Statement.{statement}
 use Rattle.taf_write.proofs.write.put_opening.Tie as tie
 
-pub put-opening-spec : {M : Type 1} → statement M
-put-opening-spec =
+pub put_opening_spec : {M : Type 1} → statement M
+put_opening_spec =
     tie.close
     (tie.spec
     (λ c. search rules) (λ c. search rules) (λ c. search rules) (λ c κs. tt) (λ c. search rules) (λ c. search rules) (λ c κs. tt) (λ c. search rules)

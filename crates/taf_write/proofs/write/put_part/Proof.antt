@@ -2,14 +2,14 @@
 -- Assumes nothing.
 use borrow.Author.Rules.{rules}
 use mathlib.Core.Bool.{false, not}
-use Rattle.taf_row.specs.Row.{isMain, is_whole}
+use Rattle.taf_row.specs.Row.{is_main, is_whole}
 use Rattle.taf_write.proofs.Writing.{put-parts}
 use Rattle.taf_write.proofs.write.put_part.Statement.{statement}
 use Rattle.taf_write.proofs.write.put_part.Tie as tie
 
-pub put-part-spec : {M : Type 1} → statement M
-put-part-spec =
+pub put_part_spec : {M : Type 1} → statement M
+put_part_spec =
     tie.close
     (tie.spec
     (λ c κs. tt) (λ c κs. tt) (λ c. search rules)
-    (λ c. let a = c.before.before.before.before.before.before.before.before.before.before.args in put-parts a.edition a.w a.r c.before.before.before.before.before.before.put-head.ensures (c.before.before.put-body.ensures (is_whole a.w) (not (isMain a.w)) false false)))
+    (λ c. let a = c.before.before.before.before.before.before.before.before.before.before.args in put-parts a.edition a.w a.r c.before.before.before.before.before.before.put-head.ensures (c.before.before.put-body.ensures (is_whole a.w) (not (is_main a.w)) false false)))

@@ -4,8 +4,8 @@ use borrow.Author.Rules.{rules}
 use Rattle.taf_write.proofs.write.put_period.Statement.{statement}
 use Rattle.taf_write.proofs.write.put_period.Tie as tie
 
-pub put-period-spec : {M : Type 1} → statement M
-put-period-spec =
+pub put_period_spec : {M : Type 1} → statement M
+put_period_spec =
     tie.close
     (tie.spec
     (λ c. search rules) (λ c κs. tt) (λ c. search rules) (λ c κs. tt) (λ c. search rules) (λ c κs. tt)

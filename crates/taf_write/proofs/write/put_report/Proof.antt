@@ -7,8 +7,8 @@ use Rattle.taf.specs.Write.{groups_of}
 use Rattle.taf_write.proofs.write.put_report.Statement.{statement}
 use Rattle.taf_write.proofs.write.put_report.Tie as tie
 
-pub put-report-spec : {M : Type 1} → statement M
-put-report-spec =
+pub put_report_spec : {M : Type 1} → statement M
+put_report_spec =
     tie.close
     (tie.spec
     (λ c κs. tt) (λ c κs. tt) (λ c κs. tt) (λ c. search rules)

@@ -5,8 +5,8 @@ use Rattle.text.proofs.Writes.{write-none}
 use Rattle.taf_write.proofs.write.put_valid.Statement.{statement}
 use Rattle.taf_write.proofs.write.put_valid.Tie as tie
 
-pub put-valid-spec : {M : Type 1} → statement M
-put-valid-spec =
+pub put_valid_spec : {M : Type 1} → statement M
+put_valid_spec =
     tie.close
     (tie.spec
     (λ c κs. tt)

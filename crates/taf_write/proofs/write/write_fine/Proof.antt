@@ -16,7 +16,7 @@ use Rattle.record.specs.declared.aerodrome.Change.{Change}
 use Rattle.record.specs.contracts.aerodrome.Change.{the_type}
 use Rattle.record.specs.Arrays.{BodyArrays, TafArrays}
 use Rattle.body.proofs.Arrays.{body-arrays, each_owned}
-use Rattle.taf.specs.Write.{groups_of, canonicalOf}
+use Rattle.taf.specs.Write.{groups_of, canonical_of}
 use Rattle.taf_laws.proofs.Canonical.{groups-sizes, length-canonical}
 use Rattle.taf_write.proofs.write.write_fine.Statement.{statement}
 use Rattle.taf_write.proofs.write.write_fine.Tie as tie
@@ -36,11 +36,11 @@ arrays c =
 -- the report as it is made over the array, which has room for the longest
 report : (c : tie.Start) {end : ℕ} {e : List ℕ} → Put (replicate 2048 0) 0 (written 0 (groups_of c.args.t) ++ (61 ∷ [])) end e
     → (end ≤ length e) × (take end e ≡ join (groups_of c.args.t))
-unfolding canonicalOf
+unfolding canonical_of
 report c = made {n = 2048} (groups_of c.args.t) (groups-sizes c.args.t (arrays c) c.requires) (omega (arith, length-canonical c.args.t (arrays c) c.requires))
 
-pub write-fine-spec : {M : Type 1} → statement M
-write-fine-spec =
+pub write_fine_spec : {M : Type 1} → statement M
+write_fine_spec =
     tie.close
     (tie.spec
     (λ c. search rules) (λ c κs. tt)
@@ -49,4 +49,4 @@ write-fine-spec =
     (λ c κs. tt) (λ c. search rules)
     (λ c.
     let d = c.before.before.before.before.before.before.before.before.before in
-    unfold canonicalOf in delivered d.args.out.now refl (report d c.before.before.before.before.before.before.put-report.ensures).1 c.before.before.deliver.ensures))
+    unfold canonical_of in delivered d.args.out.now refl (report d c.before.before.before.before.before.before.put-report.ensures).1 c.before.before.deliver.ensures))

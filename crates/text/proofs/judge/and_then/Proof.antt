@@ -4,8 +4,8 @@ use borrow.Author.Rules.{rules}
 use Rattle.text.proofs.judge.and_then.Statement.{statement}
 use Rattle.text.proofs.judge.and_then.Tie as tie
 
-pub and-then-spec : {M : Type 1} → statement M
-and-then-spec =
+pub and_then_spec : {M : Type 1} → statement M
+and_then_spec =
     tie.close
     (tie.spec
     (λ c. search rules) (λ c. search rules) (λ c. search rules)

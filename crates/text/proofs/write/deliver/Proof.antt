@@ -5,8 +5,8 @@ use Rattle.text.proofs.Writes.{no_room, with-room}
 use Rattle.text.proofs.write.deliver.Statement.{statement}
 use Rattle.text.proofs.write.deliver.Tie as tie
 
-pub deliver-spec : {M : Type 1} → statement M
-deliver-spec =
+pub deliver_spec : {M : Type 1} → statement M
+deliver_spec =
     tie.close
     (tie.spec
     (λ c. let d = c.before.before.before in no_room d.args.text.now d.args.out.now c.if1.true)

@@ -5,8 +5,8 @@ use Rattle.text.proofs.Writes.{open-first, open-later}
 use Rattle.text.proofs.write.open_group.Statement.{statement}
 use Rattle.text.proofs.write.open_group.Tie as tie
 
-pub open-group-spec : {M : Type 1} → statement M
-open-group-spec =
+pub open_group_spec : {M : Type 1} → statement M
+open_group_spec =
     tie.close
     (tie.spec
     (λ c κs. search rules)

@@ -5,8 +5,8 @@ use Rattle.text.proofs.Writes.{write-group}
 use Rattle.text.proofs.write.put_group.Statement.{statement}
 use Rattle.text.proofs.write.put_group.Tie as tie
 
-pub put-group-spec : {M : Type 1} → statement M
-put-group-spec =
+pub put_group_spec : {M : Type 1} → statement M
+put_group_spec =
     tie.close
     (tie.spec
     (λ c κs. tt) (λ c κs. tt) (λ c. search rules)

@@ -6,8 +6,8 @@ use Rattle.text.proofs.Writes.{write-none}
 use Rattle.text.proofs.write.put_if.Statement.{statement}
 use Rattle.text.proofs.write.put_if.Tie as tie
 
-pub put-if-spec : {M : Type 1} → statement M
-put-if-spec =
+pub put_if_spec : {M : Type 1} → statement M
+put_if_spec =
     tie.close
     (tie.spec
     (λ c κs. search rules) (λ c. search rules)

@@ -3,7 +3,7 @@
 use borrow.Author.Rules.{rules}
 use mathlib.Core.Path.{sym, ◌∙◌}
 use native.Mathlib.Omega.{arith}
-use Rattle.shapes.specs.Pattern.{hasAny}
+use Rattle.shapes.specs.Pattern.{has_any}
 use Rattle.places.proofs.Loop.{turn-past, turn-halts, turn-found}
 use Rattle.metar_row.specs.Row.{words}
 use Rattle.trend_row.specs.Row.{row}
@@ -11,12 +11,12 @@ use Rattle.trend_row.proofs.Rows.{row-length}
 use Rattle.trend.proofs.group.decide.Statement.{statement}
 use Rattle.trend.proofs.group.decide.Tie as tie
 
-pub decide-spec : {M : Type 1} → statement M
-decide-spec =
+pub decide_spec : {M : Type 1} → statement M
+decide_spec =
     tie.close
     (tie.spec
-    (λ c. turn-past (row _) (hasAny words) _ _ _ (rw (row-length _) c.if1.true))
+    (λ c. turn-past (row _) (has_any words) _ _ _ (rw (row-length _) c.if1.true))
     (λ c κs. search rules)
-    (λ c. turn-halts (row _) (hasAny words) _ _ _ (rw (row-length _) (omega (arith, c.before.before.if1.false))) (sym c.before.is_IsWord.ensures ∙ c.if2.true))
+    (λ c. turn-halts (row _) (has_any words) _ _ _ (rw (row-length _) (omega (arith, c.before.before.if1.false))) (sym c.before.is_Is_word.ensures ∙ c.if2.true))
     (λ c κs. search rules) (λ c κs. search rules)
-    (λ c. turn-found (row _) (hasAny words) _ _ _ (rw (row-length _) (omega (arith, c.before.before.before.before.if1.false))) (sym c.before.before.before.is_IsWord.ensures ∙ c.before.before.if2.false) c.before.find.ensures c.turn_by.ensures))
+    (λ c. turn-found (row _) (has_any words) _ _ _ (rw (row-length _) (omega (arith, c.before.before.before.before.if1.false))) (sym c.before.before.before.is_Is_word.ensures ∙ c.before.before.if2.false) c.before.find.ensures c.turn_by.ensures))

@@ -9,8 +9,8 @@ use Rattle.trend.proofs.Steps.{says-from, says-until, says-moment, says-body, sa
 use Rattle.trend.proofs.group.say_at.Statement.{statement}
 use Rattle.trend.proofs.group.say_at.Tie as tie
 
-pub say-at-spec : {M : Type 1} → statement M
-say-at-spec =
+pub say_at_spec : {M : Type 1} → statement M
+say_at_spec =
     tie.close
     (tie.spec
     (λ c κs. search rules) (λ c κs. search rules) (λ c κs. search rules) (λ c κs. search rules)

@@ -4,5 +4,5 @@ use borrow.Author.Rules.{rules}
 use Rattle.trend.proofs.part.end_part.Statement.{statement}
 use Rattle.trend.proofs.part.end_part.Tie as tie
 
-pub end-part-spec : {M : Type 1} → statement M
-end-part-spec = tie.close (tie.spec (λ c κs. search rules) (λ c κs. search rules) (λ c. rw (c.end-verdict.ensures, c.before.lacks.ensures)))
+pub end_part_spec : {M : Type 1} → statement M
+end_part_spec = tie.close (tie.spec (λ c κs. search rules) (λ c κs. search rules) (λ c. rw (c.end-verdict.ensures, c.before.lacks.ensures)))

@@ -5,8 +5,8 @@ use mathlib.Core.Path.{refl}
 use Rattle.trend.proofs.part.leave_part.Statement.{statement}
 use Rattle.trend.proofs.part.leave_part.Tie as tie
 
-pub leave-part-spec : {M : Type 1} → statement M
-leave-part-spec =
+pub leave_part_spec : {M : Type 1} → statement M
+leave_part_spec =
     tie.close
     (tie.spec
     (λ c κs. search rules) (λ c κs. search rules) (λ c κs. search rules)

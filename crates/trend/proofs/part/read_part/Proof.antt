@@ -10,10 +10,10 @@ use Rattle.text.specs.Groups.{part_of}
 use Rattle.record.specs.declared.aerodrome.TrendChange.{TrendChange}
 use Rattle.elements.specs.declared.kinds.Said.{Said}
 use Rattle.body.specs.declared.kinds.Saying.{Saying}
-use Rattle.trend.specs.Said.{changeSaid}
+use Rattle.trend.specs.Said.{change_said}
 use Rattle.body.proofs.Parts.{starts, group-ahead, reads_on}
 use Rattle.trend_row.specs.Row.{row}
-use Rattle.trend.specs.Read.{partIn, parts}
+use Rattle.trend.specs.Read.{part_in, parts}
 use Rattle.trend.proofs.Steps.{row-endless, others}
 use Rattle.trend.proofs.Turns.{Reached, part-over, part-word, part-fault}
 use Rattle.trend.proofs.part.read_part.Statement.{statement}
@@ -34,22 +34,22 @@ module _ (c : tie.After-struct-known Inv μ) where
   group = c.before.before.met3.given.0.0
 
   ahead : (c.before.before.before.before.before.loop.from < group.end) × (group.end ≤ length text) × (group.count < 4)
-  ahead = group-ahead c.before.before.before.before.before.loop.invariant changeSaid _ c.before.before.before.before.meet.ensures (refl, refl) c.before.before.met3.given.1
+  ahead = group-ahead c.before.before.before.before.before.loop.invariant change_said _ c.before.before.before.before.meet.ensures (refl, refl) c.before.before.met3.given.1
 
   less : length text - group.end < length text - c.before.before.before.before.before.loop.from
   less = omega (arith, ahead)
 
   -- the change with it is read on from behind it
-  on : {x : Said} {change : TrendChange} → group.said ≡ x → change ≡ changeSaid group.count (part_of text group.start group.end) x c.before.before.before.before.before.loop.change
+  on : {x : Said} {change : TrendChange} → group.said ≡ x → change ≡ change_said group.count (part_of text group.start group.end) x c.before.before.before.before.before.loop.change
       → Reached text c.before.before.before.before.before.before.before.is-change.result c.before.before.before.before.before.before.before.before.before.args.word c.before.before.before.before.before.before.before.before.before.args.n c.before.before.before.before.before.before.before.before.before.args.at group.place (group.count + 1) change group.end
-  on tells put = reads_on c.before.before.before.before.before.loop.invariant changeSaid _ c.before.before.before.before.meet.ensures (refl, refl) c.before.before.met3.given.1 (row-endless c.before.before.before.before.before.before.before.is-change.result group.place) tells put
+  on tells put = reads_on c.before.before.before.before.before.loop.invariant change_said _ c.before.before.before.before.meet.ensures (refl, refl) c.before.before.met3.given.1 (row-endless c.before.before.before.before.before.before.before.is-change.result group.place) tells put
 
-pub read-part-spec : {M : Type 1} → statement M
-read-part-spec =
+pub read_part_spec : {M : Type 1} → statement M
+read_part_spec =
     tie.close
     (tie.spec Inv μ
     (λ c κs. search rules) (λ c κs. search rules)
-    (λ c. let a = c.before.before.before.args in rw c.start_of_lem.ensures (starts parts a.text.now (partIn a.word) (3 - a.n) 0 _ a.at (λ x. (ap row (sym c.before.is-change.ensures), refl))))
+    (λ c. let a = c.before.before.before.args in rw c.start_of_lem.ensures (starts parts a.text.now (part_in a.word) (3 - a.n) 0 _ a.at (λ x. (ap row (sym c.before.is-change.ensures), refl))))
     (λ c κs. search rules) (λ c. search rules) (λ c κs. search rules)
     (λ c. part-over _ c.before.before.before.before.loop.invariant c.before.before.before.meet.ensures c.before.enum_told.given.1 c.end-part.ensures)
     (λ c. search rules) (λ c κs. search rules) (λ c κs. search rules)
@@ -58,5 +58,5 @@ read-part-spec =
     (λ c. part-fault _ c.before.before.before.before.before.loop.invariant c.before.before.before.before.meet.ensures c.before.before.met2.given.1 (rw c.refuse-part.ensures))
     (λ c. search rules)
     (λ c. omega (arith, ahead c))
-    (λ c. search rules) (λ c. less c.before.before.before) (λ c. on c.before.before.before c.before.said.given.1 (unfold changeSaid in refl))
+    (λ c. search rules) (λ c. less c.before.before.before) (λ c. on c.before.before.before c.before.said.given.1 (unfold change_said in refl))
     (λ c κs. search rules) (λ c. less c.before.before) (λ c. on c.before.before refl (rw c.put.ensures (others _ _ _ _ c.before.match2.keys2))))

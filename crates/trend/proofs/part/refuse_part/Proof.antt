@@ -4,5 +4,5 @@ use borrow.Author.Rules.{rules}
 use Rattle.trend.proofs.part.refuse_part.Statement.{statement}
 use Rattle.trend.proofs.part.refuse_part.Tie as tie
 
-pub refuse-part-spec : {M : Type 1} → statement M
-refuse-part-spec = tie.close (tie.spec (λ c κs. search rules) (λ c. rw c.refuse.ensures))
+pub refuse_part_spec : {M : Type 1} → statement M
+refuse_part_spec = tie.close (tie.spec (λ c κs. search rules) (λ c. rw c.refuse.ensures))

@@ -4,8 +4,8 @@ use borrow.Author.Rules.{rules}
 use Rattle.trend.proofs.word.meet_change.Statement.{statement}
 use Rattle.trend.proofs.word.meet_change.Tie as tie
 
-pub meet-change-spec : {M : Type 1} → statement M
-meet-change-spec =
+pub meet_change_spec : {M : Type 1} → statement M
+meet_change_spec =
     tie.close
     (tie.spec
     (λ c κs. search rules) (λ c. rw (c.refuse.ensures, c.before.if1.true))

@@ -6,8 +6,8 @@ use borrow.Author.Tests.{lt-ltb, le-ltb}
 use Rattle.trend.proofs.word.meet_nosig.Statement.{statement}
 use Rattle.trend.proofs.word.meet_nosig.Tie as tie
 
-pub meet-nosig-spec : {M : Type 1} → statement M
-meet-nosig-spec =
+pub meet_nosig_spec : {M : Type 1} → statement M
+meet_nosig_spec =
     tie.close
     (tie.spec
     (λ c κs. search rules) (λ c. rw (c.refuse.ensures, c.before.if1.true))

@@ -6,8 +6,8 @@ use Rattle.trend.proofs.Turns.{meets-lacking, meets-stop, meets-nosig, meets-cha
 use Rattle.trend.proofs.word.meet_word.Statement.{statement}
 use Rattle.trend.proofs.word.meet_word.Tie as tie
 
-pub meet-word-spec : {M : Type 1} → statement M
-meet-word-spec =
+pub meet_word_spec : {M : Type 1} → statement M
+meet_word_spec =
     tie.close
     (tie.spec
     (λ c κs. search rules)

@@ -4,8 +4,8 @@ use borrow.Author.Rules.{rules}
 use Rattle.trend_row.proofs.times.hours_fit.Statement.{statement}
 use Rattle.trend_row.proofs.times.hours_fit.Tie as tie
 
-pub hours-fit-spec : {M : Type 1} → statement M
-hours-fit-spec =
+pub hours_fit_spec : {M : Type 1} → statement M
+hours_fit_spec =
     tie.close
     (tie.spec
     (λ c. search rules) (λ c. search rules) (λ c κs. search rules) (λ c. search rules) (λ c κs. search rules) (λ c. search rules) (λ c κs. search rules) (λ c κs. search rules) (λ c. search rules) (λ c κs. search rules)

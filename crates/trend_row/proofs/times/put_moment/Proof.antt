@@ -6,8 +6,8 @@ use Rattle.text.proofs.Writes.{write-group}
 use Rattle.trend_row.proofs.times.put_moment.Statement.{statement}
 use Rattle.trend_row.proofs.times.put_moment.Tie as tie
 
-pub put-moment-spec : {M : Type 1} → statement M
-put-moment-spec =
+pub put_moment_spec : {M : Type 1} → statement M
+put_moment_spec =
     tie.close
     (tie.spec
     (λ c κs. tt) (λ c κs. tt) (λ c κs. tt) (λ c κs. tt) (λ c. search rules)

@@ -5,8 +5,8 @@ use Rattle.text.proofs.Writes.{write-none, write-groups}
 use Rattle.trend_row.proofs.times.put_times.Statement.{statement}
 use Rattle.trend_row.proofs.times.put_times.Tie as tie
 
-pub put-times-spec : {M : Type 1} → statement M
-put-times-spec =
+pub put_times_spec : {M : Type 1} → statement M
+put_times_spec =
     tie.close
     (tie.spec
     (λ c. search rules) (λ c. search rules) (λ c. search rules) (λ c κs. tt) (λ c. search rules) (λ c. search rules) (λ c κs. tt) (λ c. search rules) (λ c. search rules)

@@ -4,8 +4,8 @@ use borrow.Author.Rules.{rules}
 use Rattle.trend_row.proofs.times.with_time.Statement.{statement}
 use Rattle.trend_row.proofs.times.with_time.Tie as tie
 
-pub with-time-spec : {M : Type 1} → statement M
-with-time-spec =
+pub with_time_spec : {M : Type 1} → statement M
+with_time_spec =
     tie.close
     (tie.spec
     (λ c. search rules) (λ c. search rules) (λ c. search rules) (λ c. search rules) (λ c. search rules) (λ c. search rules) (λ c. search rules) (λ c. search rules)

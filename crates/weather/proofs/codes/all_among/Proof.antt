@@ -5,19 +5,19 @@ use Prim.Native.Nat.{◌≤◌, ◌-◌}
 use native.Mathlib.Omega.{arith}
 use lib.ListN.{length, drop}
 use borrow.Author.Rules.{rules}
-use Rattle.elements.specs.Weather.{codes_of, among, allAmong}
+use Rattle.elements.specs.Weather.{codes_of, among, all_among}
 use Rattle.weather.proofs.Letters.{all-next, all-stop, all_end}
 use Rattle.weather.proofs.codes.all_among.Statement.{statement}
 use Rattle.weather.proofs.codes.all_among.Tie as tie
 
 abbrev Inv : tie.invariant-loop
-Inv codes s i₀ i = (i ≤ length s) × (allAmong (λ c. among c (codes_of codes)) (codes_of (drop i s)) ≡ allAmong (λ c. among c (codes_of codes)) (codes_of s))
+Inv codes s i₀ i = (i ≤ length s) × (all_among (λ c. among c (codes_of codes)) (codes_of (drop i s)) ≡ all_among (λ c. among c (codes_of codes)) (codes_of s))
 
 abbrev μ : tie.decreases-loop
 μ codes s i₀ i = length s - i
 
-pub all-among-spec : {M : Type 1} → statement M
-all-among-spec =
+pub all_among_spec : {M : Type 1} → statement M
+all_among_spec =
     tie.close
     (tie.spec Inv μ
     (λ c. (omega arith, refl))

@@ -16,8 +16,8 @@ Inv s i₀ i = (i ≤ length s) × (differ (codes_of (drop i s)) ≡ differ (cod
 abbrev μ : tie.decreases-loop
 μ s i₀ i = length s - i
 
-pub all-differ-spec : {M : Type 1} → statement M
-all-differ-spec =
+pub all_differ_spec : {M : Type 1} → statement M
+all_differ_spec =
     tie.close
     (tie.spec Inv μ
     (λ c. (omega arith, refl))

@@ -5,8 +5,8 @@ use Rattle.weather.proofs.Letters.{code-count}
 use Rattle.weather.proofs.codes.are_precipitations.Statement.{statement}
 use Rattle.weather.proofs.codes.are_precipitations.Tie as tie
 
-pub are-precipitations-spec : {M : Type 1} → statement M
-are-precipitations-spec =
+pub are_precipitations_spec : {M : Type 1} → statement M
+are_precipitations_spec =
     tie.close
     (tie.spec
     (λ c. search rules) (λ c κs. tt) (λ c κs. tt)

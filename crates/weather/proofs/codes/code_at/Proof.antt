@@ -5,8 +5,8 @@ use Rattle.weather.proofs.Letters.{code-there, code-past}
 use Rattle.weather.proofs.codes.code_at.Statement.{statement}
 use Rattle.weather.proofs.codes.code_at.Tie as tie
 
-pub code-at-spec : {M : Type 1} → statement M
-code-at-spec =
+pub code_at_spec : {M : Type 1} → statement M
+code_at_spec =
     tie.close
     (tie.spec
     (λ c. search rules) (λ c. search rules) (λ c. search rules) (λ c. search rules)

@@ -3,8 +3,8 @@
 use Rattle.weather.proofs.codes.falls_as.Statement.{statement}
 use Rattle.weather.proofs.codes.falls_as.Tie as tie
 
-pub falls-as-spec : {M : Type 1} → statement M
-falls-as-spec =
+pub falls_as_spec : {M : Type 1} → statement M
+falls_as_spec =
     tie.close
     (tie.spec
     (λ c κs. tt) (λ c κs. tt)

@@ -4,8 +4,8 @@ use borrow.Author.Rules.{rules}
 use Rattle.weather.proofs.codes.intensity_fits.Statement.{statement}
 use Rattle.weather.proofs.codes.intensity_fits.Tie as tie
 
-pub intensity-fits-spec : {M : Type 1} → statement M
-intensity-fits-spec =
+pub intensity_fits_spec : {M : Type 1} → statement M
+intensity_fits_spec =
     tie.close
     (tie.spec
     (λ c. search rules) (λ c κs. tt) (λ c. search rules) (λ c κs. tt) (λ c κs. tt) (λ c. search rules) (λ c κs. tt) (λ c κs. tt) (λ c. search rules)

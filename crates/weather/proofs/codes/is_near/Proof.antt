@@ -5,8 +5,8 @@ use Rattle.weather.proofs.Letters.{code-count}
 use Rattle.weather.proofs.codes.is_near.Statement.{statement}
 use Rattle.weather.proofs.codes.is_near.Tie as tie
 
-pub is-near-spec : {M : Type 1} → statement M
-is-near-spec =
+pub is_near_spec : {M : Type 1} → statement M
+is_near_spec =
     tie.close
     (tie.spec
     (λ c. search rules) (λ c. search rules) (λ c κs. tt) (λ c. search rules) (λ c. search rules) (λ c κs. tt) (λ c. search rules) (λ c κs. tt)

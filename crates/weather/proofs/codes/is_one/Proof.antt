@@ -17,8 +17,8 @@ Inv codes a b i₀ i = (i ≤ length codes) × (among (a ∷ b ∷ []) (codes_of
 abbrev μ : tie.decreases-loop
 μ codes a b i₀ i = length codes - i
 
-pub is-one-spec : {M : Type 1} → statement M
-is-one-spec =
+pub is_one_spec : {M : Type 1} → statement M
+is_one_spec =
     tie.close
     (tie.spec Inv μ
     (λ c. (omega arith, refl))

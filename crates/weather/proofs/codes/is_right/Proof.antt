@@ -5,8 +5,8 @@ use Rattle.weather.proofs.Letters.{code-count}
 use Rattle.weather.proofs.codes.is_right.Statement.{statement}
 use Rattle.weather.proofs.codes.is_right.Tie as tie
 
-pub is-right-spec : {M : Type 1} → statement M
-is-right-spec =
+pub is_right_spec : {M : Type 1} → statement M
+is_right_spec =
     tie.close
     (tie.spec
     (λ c. search rules) (λ c. search rules) (λ c κs. tt) (λ c κs. tt) (λ c. search rules) (λ c. search rules) (λ c κs. tt) (λ c κs. tt)

@@ -5,8 +5,8 @@ use Rattle.weather.proofs.Letters.{code-count}
 use Rattle.weather.proofs.codes.is_single.Statement.{statement}
 use Rattle.weather.proofs.codes.is_single.Tie as tie
 
-pub is-single-spec : {M : Type 1} → statement M
-is-single-spec =
+pub is_single_spec : {M : Type 1} → statement M
+is_single_spec =
     tie.close
     (tie.spec
     (λ c κs. tt)

@@ -4,8 +4,8 @@ use borrow.Author.Rules.{rules}
 use Rattle.weather.proofs.codes.suit.Statement.{statement}
 use Rattle.weather.proofs.codes.suit.Tie as tie
 
-pub suit-spec : {M : Type 1} → statement M
-suit-spec =
+pub suit_spec : {M : Type 1} → statement M
+suit_spec =
     tie.close
     (tie.spec
     (λ c. search rules) (λ c κs. tt) (λ c. search rules) (λ c κs. tt)

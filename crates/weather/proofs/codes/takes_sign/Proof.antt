@@ -4,8 +4,8 @@ use borrow.Author.Rules.{rules}
 use Rattle.weather.proofs.codes.takes_sign.Statement.{statement}
 use Rattle.weather.proofs.codes.takes_sign.Tie as tie
 
-pub takes-sign-spec : {M : Type 1} → statement M
-takes-sign-spec =
+pub takes_sign_spec : {M : Type 1} → statement M
+takes_sign_spec =
     tie.close
     (tie.spec
     (λ c. search rules) (λ c κs. tt) (λ c. search rules) (λ c κs. tt) (λ c. search rules) (λ c κs. tt) (λ c. search rules) (λ c κs. tt)

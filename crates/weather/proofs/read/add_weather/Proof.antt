@@ -5,8 +5,8 @@ use borrow.Author.Rules.{rules}
 use Rattle.weather.proofs.read.add_weather.Statement.{statement}
 use Rattle.weather.proofs.read.add_weather.Tie as tie
 
-pub add-weather-spec : {M : Type 1} → statement M
-add-weather-spec =
+pub add_weather_spec : {M : Type 1} → statement M
+add_weather_spec =
     tie.close
     (tie.spec
     (λ c. search rules) (λ c. search rules) (λ c. search rules)

@@ -5,8 +5,8 @@ use Rattle.weather.proofs.Readings.{some-codes}
 use Rattle.weather.proofs.read.are_codes.Statement.{statement}
 use Rattle.weather.proofs.read.are_codes.Tie as tie
 
-pub are-codes-spec : {M : Type 1} → statement M
-are-codes-spec =
+pub are_codes_spec : {M : Type 1} → statement M
+are_codes_spec =
     tie.close
     (tie.spec
     (λ c. search rules) (λ c κs. tt)

@@ -4,8 +4,8 @@ use Rattle.weather.proofs.Readings.{signed-codes}
 use Rattle.weather.proofs.read.are_signed_codes.Statement.{statement}
 use Rattle.weather.proofs.read.are_signed_codes.Tie as tie
 
-pub are-signed-codes-spec : {M : Type 1} → statement M
-are-signed-codes-spec =
+pub are_signed_codes_spec : {M : Type 1} → statement M
+are_signed_codes_spec =
     tie.close
     (tie.spec
     (λ c κs. tt) (λ c κs. tt) (λ c κs. tt) (λ c κs. tt)

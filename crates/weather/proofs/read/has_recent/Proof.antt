@@ -4,8 +4,8 @@ use Rattle.weather.proofs.Readings.{recent-codes}
 use Rattle.weather.proofs.read.has_recent.Statement.{statement}
 use Rattle.weather.proofs.read.has_recent.Tie as tie
 
-pub has-recent-spec : {M : Type 1} → statement M
-has-recent-spec =
+pub has_recent_spec : {M : Type 1} → statement M
+has_recent_spec =
     tie.close
     (tie.spec
     (λ c κs. tt) (λ c κs. tt) (λ c κs. tt) (λ c κs. tt)

@@ -4,8 +4,8 @@ use borrow.Author.Rules.{rules}
 use Rattle.weather.proofs.read.has_unknown.Statement.{statement}
 use Rattle.weather.proofs.read.has_unknown.Tie as tie
 
-pub has-unknown-spec : {M : Type 1} → statement M
-has-unknown-spec =
+pub has_unknown_spec : {M : Type 1} → statement M
+has_unknown_spec =
     tie.close
     (tie.spec
     (λ c. search rules) (λ c. search rules) (λ c κs. tt) (λ c κs. tt) (λ c κs. tt) (λ c. search rules)

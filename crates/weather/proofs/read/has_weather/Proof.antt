@@ -1,13 +1,13 @@
 -- `weather::read::has_weather` meets its contract.
 -- Assumes nothing.
 use borrow.Author.Rules.{rules}
-use Rattle.elements.specs.Weather.{hasWeather}
+use Rattle.elements.specs.Weather.{has_weather}
 use Rattle.weather.proofs.read.has_weather.Statement.{statement}
 use Rattle.weather.proofs.read.has_weather.Tie as tie
 
-pub has-weather-spec : {M : Type 1} → statement M
-has-weather-spec =
+pub has_weather_spec : {M : Type 1} → statement M
+has_weather_spec =
     tie.close
     (tie.spec
     (λ c. search rules) (λ c κs. tt) (λ c κs. tt)
-    (λ c. unfold hasWeather in rw (c.before.has-pattern.ensures, c.are-signed-codes.ensures)))
+    (λ c. unfold has_weather in rw (c.before.has-pattern.ensures, c.are-signed-codes.ensures)))

@@ -1,13 +1,13 @@
 -- `weather::read::intensity_of` meets its contract, by the first two bytes.
 -- Assumes nothing.
 use borrow.Author.Tests.{eq-eqb, ne_eqb}
-use Rattle.weather.specs.Split.{intensityOf}
+use Rattle.weather.specs.Split.{intensity_of}
 use Rattle.weather.proofs.read.intensity_of.Statement.{statement}
 use Rattle.weather.proofs.read.intensity_of.Tie as tie
 
-pub intensity-of-spec : {M : Type 1} → statement M
-unfolding intensityOf
-intensity-of-spec =
+pub intensity_of_spec : {M : Type 1} → statement M
+unfolding intensity_of
+intensity_of_spec =
     tie.close
     (tie.spec
     (λ c κs. tt) (λ c κs. tt)

@@ -4,8 +4,8 @@ use borrow.Author.Rules.{rules}
 use Rattle.weather.proofs.read.is_unknown.Statement.{statement}
 use Rattle.weather.proofs.read.is_unknown.Tie as tie
 
-pub is-unknown-spec : {M : Type 1} → statement M
-is-unknown-spec =
+pub is_unknown_spec : {M : Type 1} → statement M
+is_unknown_spec =
     tie.close
     (tie.spec
     (λ c. search rules) (λ c. search rules) (λ c. search rules)

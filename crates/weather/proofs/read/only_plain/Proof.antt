@@ -4,8 +4,8 @@ use borrow.Author.Rules.{rules}
 use Rattle.weather.proofs.read.only_plain.Statement.{statement}
 use Rattle.weather.proofs.read.only_plain.Tie as tie
 
-pub only-plain-spec : {M : Type 1} → statement M
-only-plain-spec =
+pub only_plain_spec : {M : Type 1} → statement M
+only_plain_spec =
     tie.close
     (tie.spec
     (λ c. search rules) (λ c κs. tt) (λ c. search rules)

@@ -1,17 +1,17 @@
 -- `weather::read::read_recent` meets its contract.
 -- Assumes nothing.
 use lib.ListN.{drop}
-use Rattle.elements.specs.Weather.{saidWeather, onlyPlain}
+use Rattle.elements.specs.Weather.{said_weather, only_plain}
 use Rattle.weather.proofs.Readings.{reading-of, recent-is}
 use Rattle.weather.proofs.read.read_recent.Statement.{statement}
 use Rattle.weather.proofs.read.read_recent.Tie as tie
 
-pub read-recent-spec : {M : Type 1} → statement M
-read-recent-spec =
+pub read_recent_spec : {M : Type 1} → statement M
+read_recent_spec =
     tie.close
     (tie.spec
     (λ c κs. tt) (λ c κs. tt) (λ c κs. tt) (λ c κs. tt)
     (λ c.
-    let said = saidWeather (drop 2 c.before.before.before.before.before.args.g.now) in
+    let said = said_weather (drop 2 c.before.before.before.before.before.args.g.now) in
     rw (recent-is c.before.before.before.before.before.args.automatic c.before.before.before.before.before.args.g.now)
-    (rw (c.before.only-plain.ensures, c.before.before.say-weather.ensures, c.before.before.before.Rest-from.ensures, reading-of said, reading-of (onlyPlain said)) at c.unless-unknown.ensures)))
+    (rw (c.before.only-plain.ensures, c.before.before.say-weather.ensures, c.before.before.before.Rest-from.ensures, reading-of said, reading-of (only_plain said)) at c.unless-unknown.ensures)))

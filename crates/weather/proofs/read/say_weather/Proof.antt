@@ -4,8 +4,8 @@ use Rattle.weather.proofs.Readings.{said-is}
 use Rattle.weather.proofs.read.say_weather.Statement.{statement}
 use Rattle.weather.proofs.read.say_weather.Tie as tie
 
-pub say-weather-spec : {M : Type 1} → statement M
-say-weather-spec =
+pub say_weather_spec : {M : Type 1} → statement M
+say_weather_spec =
     tie.close
     (tie.spec
     (λ c κs. tt) (λ c κs. tt) (λ c κs. tt) (λ c κs. tt)

@@ -5,8 +5,8 @@ use Rattle.weather.proofs.Readings.{told-good, told-bad}
 use Rattle.weather.proofs.read.tell.Statement.{statement}
 use Rattle.weather.proofs.read.tell.Tie as tie
 
-pub tell-spec : {M : Type 1} → statement M
-tell-spec =
+pub tell_spec : {M : Type 1} → statement M
+tell_spec =
     tie.close
     (tie.spec
     (λ c κs. tt) (λ c κs. tt) (λ c κs. tt) (λ c κs. tt) (λ c κs. tt) (λ c κs. tt) (λ c κs. tt)

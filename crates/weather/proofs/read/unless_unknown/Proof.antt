@@ -4,8 +4,8 @@ use borrow.Author.Rules.{rules}
 use Rattle.weather.proofs.read.unless_unknown.Statement.{statement}
 use Rattle.weather.proofs.read.unless_unknown.Tie as tie
 
-pub unless-unknown-spec : {M : Type 1} → statement M
-unless-unknown-spec =
+pub unless_unknown_spec : {M : Type 1} → statement M
+unless_unknown_spec =
     tie.close
     (tie.spec
     (λ c. search rules) (λ c κs. tt) (λ c. search rules)

@@ -5,7 +5,7 @@ use lib.ListN.{replicate}
 use borrow.Author.Rules.{rules}
 use Rattle.figures.specs.Put.{Put}
 use Rattle.figures.proofs.Puts.{then}
-use Rattle.elements.specs.Weather.{codeText}
+use Rattle.elements.specs.Weather.{code_text}
 use Rattle.weather_write.proofs.Spelling.{spelt-within, spelt-length, spelt-codes}
 use Rattle.weather_write.proofs.judge.codes_fit.Statement.{statement}
 use Rattle.weather_write.proofs.judge.codes_fit.Tie as tie
@@ -13,15 +13,15 @@ use Rattle.weather_write.proofs.judge.codes_fit.Tie as tie
 -- the three codes are put one after the other
 spelling : (c : tie.After-letters6)
     → let a = c.before.before.before.before.before.before.before.before.before.args in
-    Put (replicate 6 0) 0 (codeText a.a ++ codeText a.b ++ codeText a.c) c.before.put-code3.result c.before.put-code3.new.0
+    Put (replicate 6 0) 0 (code_text a.a ++ code_text a.b ++ code_text a.c) c.before.put-code3.result c.before.put-code3.new.0
 spelling c =
     let third = c.before in
     let second = third.before.before.before in
     let first = second.before.before.before in
     then (then first.put-code.ensures second.put-code2.ensures) third.put-code3.ensures
 
-pub codes-fit-spec : {M : Type 1} → statement M
-codes-fit-spec =
+pub codes_fit_spec : {M : Type 1} → statement M
+codes_fit_spec =
     tie.close
     (tie.spec
     (λ c. search rules) (λ c κs. tt) (λ c. search rules) (λ c κs. tt) (λ c. search rules) (λ c κs. tt)

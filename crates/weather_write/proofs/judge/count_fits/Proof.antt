@@ -3,5 +3,5 @@
 use Rattle.weather_write.proofs.judge.count_fits.Statement.{statement}
 use Rattle.weather_write.proofs.judge.count_fits.Tie as tie
 
-pub count-fits-spec : {M : Type 1} → statement M
-count-fits-spec = tie.close (tie.spec (λ c κs. tt) (λ c. rw c.is-blank-from.ensures))
+pub count_fits_spec : {M : Type 1} → statement M
+count_fits_spec = tie.close (tie.spec (λ c κs. tt) (λ c. rw c.is-blank-from.ensures))

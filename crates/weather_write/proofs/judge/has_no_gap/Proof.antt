@@ -3,8 +3,8 @@
 use Rattle.weather_write.proofs.judge.has_no_gap.Statement.{statement}
 use Rattle.weather_write.proofs.judge.has_no_gap.Tie as tie
 
-pub has-no-gap-spec : {M : Type 1} → statement M
-has-no-gap-spec =
+pub has_no_gap_spec : {M : Type 1} → statement M
+has_no_gap_spec =
     tie.close
     (tie.spec
     (λ c κs. tt) (λ c κs. tt) (λ c κs. tt) (λ c κs. tt) (λ c κs. tt)

@@ -4,8 +4,8 @@ use borrow.Author.Rules.{rules}
 use Rattle.weather_write.proofs.judge.is_described.Statement.{statement}
 use Rattle.weather_write.proofs.judge.is_described.Tie as tie
 
-pub is-described-spec : {M : Type 1} → statement M
-is-described-spec =
+pub is_described_spec : {M : Type 1} → statement M
+is_described_spec =
     tie.close
     (tie.spec
     (λ c. search rules) (λ c. search rules) (λ c κs. tt) (λ c. search rules)

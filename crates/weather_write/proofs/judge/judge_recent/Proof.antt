@@ -1,12 +1,12 @@
 -- `weather_write::judge::judge_recent` meets its contract.
 -- Assumes nothing.
-use Rattle.elements.specs.Weather.{judgeRecent}
+use Rattle.elements.specs.Weather.{judge_recent}
 use Rattle.weather_write.proofs.judge.judge_recent.Statement.{statement}
 use Rattle.weather_write.proofs.judge.judge_recent.Tie as tie
 
-pub judge-recent-spec : {M : Type 1} → statement M
-judge-recent-spec =
+pub judge_recent_spec : {M : Type 1} → statement M
+judge_recent_spec =
     tie.close
     (tie.spec
     (λ c κs. tt) (λ c κs. tt) (λ c κs. tt) (λ c κs. tt)
-    (λ c. unfold judgeRecent in rw (c.judge.ensures, c.before.has-unknown.ensures, c.before.before.is_plain.ensures, c.before.before.before.phenomena-fit.ensures)))
+    (λ c. unfold judge_recent in rw (c.judge.ensures, c.before.has-unknown.ensures, c.before.before.is_plain.ensures, c.before.before.before.phenomena-fit.ensures)))

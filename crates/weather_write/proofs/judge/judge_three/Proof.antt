@@ -3,8 +3,8 @@
 use Rattle.weather_write.proofs.judge.judge_three.Statement.{statement}
 use Rattle.weather_write.proofs.judge.judge_three.Tie as tie
 
-pub judge-three-spec : {M : Type 1} → statement M
-judge-three-spec =
+pub judge_three_spec : {M : Type 1} → statement M
+judge_three_spec =
     tie.close
     (tie.spec
     (λ c κs. tt) (λ c κs. tt) (λ c κs. tt) (λ c κs. tt) (λ c κs. tt) (λ c κs. tt) (λ c κs. tt) (λ c κs. tt)

@@ -3,18 +3,18 @@
 use mathlib.Core.Path.{◌≡◌}
 use lib.ListN.{length, length-map}
 use borrow.Author.Rules.{rules}
-use Rattle.elements.specs.Weather.{judgeWeather, judgeWeathers}
+use Rattle.elements.specs.Weather.{judge_weather, judge_weathers}
 use Rattle.weather_write.proofs.Triples.{each-judged}
 use Rattle.weather_write.proofs.judge.judge_weathers.Statement.{statement}
 use Rattle.weather_write.proofs.judge.judge_weathers.Tie as tie
 
-pub judge-weathers-spec : {M : Type 1} → statement M
-unfolding judgeWeathers
-judge-weathers-spec =
+pub judge_weathers_spec : {M : Type 1} → statement M
+unfolding judge_weathers
+judge_weathers_spec =
     tie.close
     (tie.spec
     (λ c. search rules) (λ c κs. tt) (λ c. search rules) (λ c κs. tt) (λ c. search rules) (λ c κs. tt) (λ c κs. tt)
     (λ c.
     let a = c.before.before.before.before.before.before.before.before.args in
     let h : length a.ws.items ≡ 3 = simp length-map at c.before.before.before.before.before.before.before.before.well-formed.1.1.1.0.1.1.0.1.0.1 in
-    rw (c.judge-three.ensures, c.before.before.before.before.before.judge-weather.ensures, c.before.before.before.judge-weather2.ensures, c.before.judge-weather3.ensures, ← each-judged a.ws.items h (judgeWeather a.forecast a.automatic a.beside) a.ws.count)))
+    rw (c.judge-three.ensures, c.before.before.before.before.before.judge-weather.ensures, c.before.before.before.judge-weather2.ensures, c.before.judge-weather3.ensures, ← each-judged a.ws.items h (judge_weather a.forecast a.automatic a.beside) a.ws.count)))

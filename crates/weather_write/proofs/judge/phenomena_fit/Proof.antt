@@ -4,8 +4,8 @@ use borrow.Author.Rules.{rules}
 use Rattle.weather_write.proofs.judge.phenomena_fit.Statement.{statement}
 use Rattle.weather_write.proofs.judge.phenomena_fit.Tie as tie
 
-pub phenomena-fit-spec : {M : Type 1} → statement M
-phenomena-fit-spec =
+pub phenomena_fit_spec : {M : Type 1} → statement M
+phenomena_fit_spec =
     tie.close
     (tie.spec
     (λ c. search rules) (λ c. search rules) (λ c κs. tt) (λ c κs. tt) (λ c κs. tt) (λ c. search rules)

@@ -5,8 +5,8 @@ use Rattle.figures.proofs.Puts.{put-none, then}
 use Rattle.weather_write.proofs.write.put_code.Statement.{statement}
 use Rattle.weather_write.proofs.write.put_code.Tie as tie
 
-pub put-code-spec : {M : Type 1} → statement M
-put-code-spec =
+pub put_code_spec : {M : Type 1} → statement M
+put_code_spec =
     tie.close
     (tie.spec
     (λ c. search rules) (λ c. search rules) (λ c κs. tt) (λ c κs. tt)

@@ -5,12 +5,12 @@ use lib.ListN.{length, length-map}
 use borrow.Author.Rules.{rules}
 use Rattle.text.proofs.Writes.{write-groups}
 use Rattle.weather_write.proofs.Triples.{each-shown}
-use Rattle.weather_write.specs.Three.{shownAs}
+use Rattle.weather_write.specs.Three.{shown_as}
 use Rattle.weather_write.proofs.write.put_each.Statement.{statement}
 use Rattle.weather_write.proofs.write.put_each.Tie as tie
 
-pub put-each-spec : {M : Type 1} → statement M
-put-each-spec =
+pub put_each_spec : {M : Type 1} → statement M
+put_each_spec =
     tie.close
     (tie.spec
     (λ c. search rules) (λ c κs. tt) (λ c. search rules) (λ c κs. tt) (λ c. search rules) (λ c κs. tt) (λ c. search rules)
@@ -20,5 +20,5 @@ put-each-spec =
     let first = second.before.before.before.before.before in
     let a = first.before.before.before.before.before.args in
     let h : length a.ws.items ≡ 3 = simp length-map at first.before.before.before.before.before.well-formed.1.1.1.0.1.1.0.1.0.1 in
-    rw (each-shown a.ws.items h (shownAs a.recent) a.ws.count)
+    rw (each-shown a.ws.items h (shown_as a.recent) a.ws.count)
     at (write-groups _ _ (write-groups _ _ first.put-weather.ensures second.put-weather2.ensures) third.put-weather3.ensures)))

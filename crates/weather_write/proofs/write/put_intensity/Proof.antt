@@ -5,8 +5,8 @@ use Rattle.figures.proofs.Puts.{put-none}
 use Rattle.weather_write.proofs.write.put_intensity.Statement.{statement}
 use Rattle.weather_write.proofs.write.put_intensity.Tie as tie
 
-pub put-intensity-spec : {M : Type 1} → statement M
-put-intensity-spec =
+pub put_intensity_spec : {M : Type 1} → statement M
+put_intensity_spec =
     tie.close
     (tie.spec
     (λ c. search rules) (λ c. search rules) (λ c κs. tt) (λ c. search rules) (λ c κs. tt) (λ c. search rules) (λ c. search rules) (λ c κs. tt)

@@ -5,8 +5,8 @@ use Rattle.figures.proofs.Puts.{then}
 use Rattle.weather_write.proofs.write.put_phenomena.Statement.{statement}
 use Rattle.weather_write.proofs.write.put_phenomena.Tie as tie
 
-pub put-phenomena-spec : {M : Type 1} → statement M
-put-phenomena-spec =
+pub put_phenomena_spec : {M : Type 1} → statement M
+put_phenomena_spec =
     tie.close
     (tie.spec
     (λ c. search rules) (λ c. search rules) (λ c κs. tt) (λ c. search rules) (λ c κs. tt) (λ c κs. tt) (λ c κs. tt) (λ c κs. tt) (λ c κs. tt)

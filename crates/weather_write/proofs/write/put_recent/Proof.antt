@@ -5,8 +5,8 @@ use Rattle.figures.proofs.Puts.{put-none}
 use Rattle.weather_write.proofs.write.put_recent.Statement.{statement}
 use Rattle.weather_write.proofs.write.put_recent.Tie as tie
 
-pub put-recent-spec : {M : Type 1} → statement M
-put-recent-spec =
+pub put_recent_spec : {M : Type 1} → statement M
+put_recent_spec =
     tie.close
     (tie.spec
     (λ c. search rules) (λ c κs. tt) (λ c. search rules)

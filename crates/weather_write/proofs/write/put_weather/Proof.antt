@@ -8,8 +8,8 @@ use Rattle.weather_write.proofs.Triples.{shown-as}
 use Rattle.weather_write.proofs.write.put_weather.Statement.{statement}
 use Rattle.weather_write.proofs.write.put_weather.Tie as tie
 
-pub put-weather-spec : {M : Type 1} → statement M
-put-weather-spec =
+pub put_weather_spec : {M : Type 1} → statement M
+put_weather_spec =
     tie.close
     (tie.spec
     (λ c κs. tt) (λ c κs. tt) (λ c κs. tt) (λ c. search rules)

@@ -7,8 +7,8 @@ use Rattle.scales.proofs.DirectionLaws.{ddd-most}
 use Rattle.wind.proofs.directions.degrees_text.Statement.{statement}
 use Rattle.wind.proofs.directions.degrees_text.Tie as tie
 
-pub degrees-text-spec : {M : Type 1} → statement M
-degrees-text-spec =
+pub degrees_text_spec : {M : Type 1} → statement M
+degrees_text_spec =
     tie.close
     (tie.spec
     (λ c κs. tt) (λ c. search rules)

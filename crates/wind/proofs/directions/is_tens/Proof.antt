@@ -4,5 +4,5 @@ use Rattle.wind.proofs.Readings.{ddd-test}
 use Rattle.wind.proofs.directions.is_tens.Statement.{statement}
 use Rattle.wind.proofs.directions.is_tens.Tie as tie
 
-pub is-tens-spec : {M : Type 1} → statement M
-is-tens-spec = tie.close (tie.spec (λ c. ddd-test c.args.d))
+pub is_tens_spec : {M : Type 1} → statement M
+is_tens_spec = tie.close (tie.spec (λ c. ddd-test c.args.d))

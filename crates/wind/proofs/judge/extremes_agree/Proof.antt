@@ -4,8 +4,8 @@ use borrow.Author.Rules.{rules}
 use Rattle.wind.proofs.judge.extremes_agree.Statement.{statement}
 use Rattle.wind.proofs.judge.extremes_agree.Tie as tie
 
-pub extremes-agree-spec : {M : Type 1} → statement M
-extremes-agree-spec =
+pub extremes_agree_spec : {M : Type 1} → statement M
+extremes_agree_spec =
     tie.close
     (tie.spec
     (λ c. search rules) (λ c. search rules) (λ c κs. tt) (λ c κs. tt) (λ c. search rules)

@@ -3,8 +3,8 @@
 use Rattle.wind.proofs.judge.gust_fits.Statement.{statement}
 use Rattle.wind.proofs.judge.gust_fits.Tie as tie
 
-pub gust-fits-spec : {M : Type 1} → statement M
-gust-fits-spec =
+pub gust_fits_spec : {M : Type 1} → statement M
+gust_fits_spec =
     tie.close
     (tie.spec
     (λ c κs. tt) (λ c κs. tt)

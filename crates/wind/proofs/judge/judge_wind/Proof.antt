@@ -1,14 +1,14 @@
 -- `wind::judge::judge_wind` meets its contract, by what its parts are judged.
 -- Assumes nothing.
-use Rattle.elements.specs.Wind.{judgeWind}
+use Rattle.elements.specs.Wind.{judge_wind}
 use Rattle.wind.proofs.judge.judge_wind.Statement.{statement}
 use Rattle.wind.proofs.judge.judge_wind.Tie as tie
 
-pub judge-wind-spec : {M : Type 1} → statement M
-judge-wind-spec =
+pub judge_wind_spec : {M : Type 1} → statement M
+judge_wind_spec =
     tie.close
     (tie.spec
     (λ c κs. tt) (λ c κs. tt) (λ c κs. tt) (λ c κs. tt) (λ c κs. tt) (λ c κs. tt)
     (λ c.
-    unfold judgeWind in
+    unfold judge_wind in
     rw (c.judge.ensures, c.before.before.before.is-missing.ensures, c.before.before.wind-fits.ensures, c.before.wind-agrees.ensures, c.before.before.before.before.class-speed2.ensures, c.before.before.before.before.before.class-speed.ensures)))

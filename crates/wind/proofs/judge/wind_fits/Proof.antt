@@ -4,8 +4,8 @@ use borrow.Author.Rules.{rules}
 use Rattle.wind.proofs.judge.wind_fits.Statement.{statement}
 use Rattle.wind.proofs.judge.wind_fits.Tie as tie
 
-pub wind-fits-spec : {M : Type 1} → statement M
-wind-fits-spec =
+pub wind_fits_spec : {M : Type 1} → statement M
+wind_fits_spec =
     tie.close
     (tie.spec
     (λ c. search rules) (λ c κs. tt) (λ c κs. tt) (λ c. search rules) (λ c κs. tt) (λ c κs. tt) (λ c. search rules) (λ c κs. tt) (λ c κs. tt)

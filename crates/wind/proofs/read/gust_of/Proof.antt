@@ -4,8 +4,8 @@ use borrow.Author.Tests.{eq-eqb, ne_eqb}
 use Rattle.wind.proofs.read.gust_of.Statement.{statement}
 use Rattle.wind.proofs.read.gust_of.Tie as tie
 
-pub gust-of-spec : {M : Type 1} → statement M
-gust-of-spec =
+pub gust_of_spec : {M : Type 1} → statement M
+gust_of_spec =
     tie.close
     (tie.spec
     (λ c κs. tt)

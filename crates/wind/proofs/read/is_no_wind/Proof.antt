@@ -3,8 +3,8 @@
 use Rattle.wind.proofs.read.is_no_wind.Statement.{statement}
 use Rattle.wind.proofs.read.is_no_wind.Tie as tie
 
-pub is-no-wind-spec : {M : Type 1} → statement M
-is-no-wind-spec =
+pub is_no_wind_spec : {M : Type 1} → statement M
+is_no_wind_spec =
     tie.close
     (tie.spec
     (λ c κs. tt) (λ c κs. tt)

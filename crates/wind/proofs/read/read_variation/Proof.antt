@@ -3,16 +3,16 @@
 use mathlib.Core.Path.{sym, ap}
 use borrow.Author.Rules.{rules}
 use borrow.Author.Tests.{eq-eqb, ne_eqb}
-use Rattle.elements.specs.Wind.{readVariation}
-use Rattle.elements.specs.Answers.{asVariation}
+use Rattle.elements.specs.Wind.{read_variation}
+use Rattle.elements.specs.Answers.{as_variation}
 use Rattle.elements.proofs.Answers.{no-figure}
 use Rattle.wind.proofs.Readings.{both_used, not-both}
 use Rattle.wind.proofs.read.read_variation.Statement.{statement}
 use Rattle.wind.proofs.read.read_variation.Tie as tie
 
-pub read-variation-spec : {M : Type 1} → statement M
-unfolding readVariation
-read-variation-spec =
+pub read_variation_spec : {M : Type 1} → statement M
+unfolding read_variation
+read_variation_spec =
     tie.close
     (tie.spec
     (λ c κs. tt) (λ c. search rules)
@@ -37,4 +37,4 @@ read-variation-spec =
     let b = two.before.before.before in
     let a = b.before.before.before.before in
     rw (← a.before.before.field.ensures, a.a.given.1, ← b.before.before.field2.ensures, b.b.given.1)
-    (ap asVariation (sym (not-both a.a.given.0.0 b.b.given.0.0 two.before.is-tens.ensures two.is-tens2.ensures _ c.if1.false)))))
+    (ap as_variation (sym (not-both a.a.given.0.0 b.b.given.0.0 two.before.is-tens.ensures two.is-tens2.ensures _ c.if1.false)))))

@@ -1,13 +1,13 @@
 -- `wind::read::read_visibility` meets its contract: CAVOK, or what the field holds.
 -- Assumes nothing.
 use borrow.Author.Rules.{rules}
-use Rattle.elements.specs.Visibility.{readVisibility}
+use Rattle.elements.specs.Visibility.{read_visibility}
 use Rattle.wind.proofs.read.read_visibility.Statement.{statement}
 use Rattle.wind.proofs.read.read_visibility.Tie as tie
 
-pub read-visibility-spec : {M : Type 1} → statement M
-unfolding readVisibility
-read-visibility-spec =
+pub read_visibility_spec : {M : Type 1} → statement M
+unfolding read_visibility
+read_visibility_spec =
     tie.close
     (tie.spec
     (λ c. search rules) (λ c κs. tt)

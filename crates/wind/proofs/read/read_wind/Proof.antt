@@ -4,7 +4,7 @@ use native.Mathlib.Omega.{arith}
 use borrow.Author.Rules.{rules}
 use Rattle.figures.specs.declared.kinds.Field.TheVariants as field
 use Rattle.shapes.specs.declared.kinds.Value.{Value}
-use Rattle.elements.specs.Wind.{windShape, readWind}
+use Rattle.elements.specs.Wind.{wind_shape, read_wind}
 use Rattle.elements.proofs.Scanned.{value-is}
 use Rattle.wind.proofs.read.read_wind.Statement.{statement}
 use Rattle.wind.proofs.read.read_wind.Tie as tie
@@ -13,9 +13,9 @@ use Rattle.wind.proofs.read.read_wind.Tie as tie
 abbrev none : Value
 none = record { which = 0; field = field.Number 0 }
 
-pub read-wind-spec : {M : Type 1} → statement M
-unfolding readWind
-read-wind-spec =
+pub read_wind_spec : {M : Type 1} → statement M
+unfolding read_wind
+read_wind_spec =
     tie.close
     (tie.spec
     (λ c κs. tt) (λ c. search rules) (λ c. search rules) (λ c. search rules) (λ c. search rules) (λ c κs. tt) (λ c κs. tt)
@@ -26,8 +26,8 @@ read-wind-spec =
       c.wind-by.ensures,
       c.before.unit-of.ensures,
       scanned.scan-wind.ensures,
-      value-is windShape g 0 none (omega arith),
-      value-is windShape g 1 none (omega arith),
-      value-is windShape g 2 none (omega arith),
-      value-is windShape g 3 none (omega arith),
+      value-is wind_shape g 0 none (omega arith),
+      value-is wind_shape g 1 none (omega arith),
+      value-is wind_shape g 2 none (omega arith),
+      value-is wind_shape g 3 none (omega arith),
     )))

@@ -4,8 +4,8 @@ use borrow.Author.Rules.{rules}
 use Rattle.wind.proofs.read.seen_at.Statement.{statement}
 use Rattle.wind.proofs.read.seen_at.Tie as tie
 
-pub seen-at-spec : {M : Type 1} → statement M
-seen-at-spec =
+pub seen_at_spec : {M : Type 1} → statement M
+seen_at_spec =
     tie.close
     (tie.spec
     (λ c κs. tt) (λ c. search rules) (λ c. search rules)

@@ -1,12 +1,12 @@
--- `wind::read::speed_of` meets its contract: each branch is a case of `speedOf`.
+-- `wind::read::speed_of` meets its contract: each branch is a case of `speed_of`.
 -- Assumes nothing.
 use borrow.Author.Rules.{rules}
 use Rattle.elements.proofs.Answers.{no-figure}
 use Rattle.wind.proofs.read.speed_of.Statement.{statement}
 use Rattle.wind.proofs.read.speed_of.Tie as tie
 
-pub speed-of-spec : {M : Type 1} → statement M
-speed-of-spec =
+pub speed_of_spec : {M : Type 1} → statement M
+speed_of_spec =
     tie.close
     (tie.spec
     (λ c. search rules)

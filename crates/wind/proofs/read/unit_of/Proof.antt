@@ -4,8 +4,8 @@ use borrow.Author.Tests.{eq-eqb, ne_eqb}
 use Rattle.wind.proofs.read.unit_of.Statement.{statement}
 use Rattle.wind.proofs.read.unit_of.Tie as tie
 
-pub unit-of-spec : {M : Type 1} → statement M
-unit-of-spec =
+pub unit_of_spec : {M : Type 1} → statement M
+unit_of_spec =
     tie.close
     (tie.spec
     (λ c. rw (eq-eqb _ _ c.if1.true))

@@ -3,8 +3,8 @@
 use Rattle.wind.proofs.read.unseen.Statement.{statement}
 use Rattle.wind.proofs.read.unseen.Tie as tie
 
-pub unseen-spec : {M : Type 1} → statement M
-unseen-spec =
+pub unseen_spec : {M : Type 1} → statement M
+unseen_spec =
     tie.close
     (tie.spec
     (λ c. rw c.if1.true)

@@ -4,8 +4,8 @@ use borrow.Author.Rules.{rules}
 use Rattle.wind.proofs.read.wind_of.Statement.{statement}
 use Rattle.wind.proofs.read.wind_of.Tie as tie
 
-pub wind-of-spec : {M : Type 1} → statement M
-wind-of-spec =
+pub wind_of_spec : {M : Type 1} → statement M
+wind_of_spec =
     tie.close
     (tie.spec
     (λ c. search rules) (λ c. search rules) (λ c. search rules) (λ c. search rules) (λ c. search rules) (λ c. search rules) (λ c κs. tt)

@@ -3,8 +3,8 @@
 use Rattle.wind.proofs.read.wind_with.Statement.{statement}
 use Rattle.wind.proofs.read.wind_with.Tie as tie
 
-pub wind-with-spec : {M : Type 1} → statement M
-wind-with-spec =
+pub wind_with_spec : {M : Type 1} → statement M
+wind_with_spec =
     tie.close
     (tie.spec
     (λ c κs. tt)

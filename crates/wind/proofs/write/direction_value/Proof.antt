@@ -4,8 +4,8 @@ use borrow.Author.Rules.{rules}
 use Rattle.wind.proofs.write.direction_value.Statement.{statement}
 use Rattle.wind.proofs.write.direction_value.Tie as tie
 
-pub direction-value-spec : {M : Type 1} → statement M
-direction-value-spec =
+pub direction_value_spec : {M : Type 1} → statement M
+direction_value_spec =
     tie.close
     (tie.spec
     (λ c. search rules) (λ c. search rules) (λ c. search rules) (λ c. search rules) (λ c κs. tt)

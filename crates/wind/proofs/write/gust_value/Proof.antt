@@ -4,8 +4,8 @@ use borrow.Author.Rules.{rules}
 use Rattle.wind.proofs.write.gust_value.Statement.{statement}
 use Rattle.wind.proofs.write.gust_value.Tie as tie
 
-pub gust-value-spec : {M : Type 1} → statement M
-gust-value-spec =
+pub gust_value_spec : {M : Type 1} → statement M
+gust_value_spec =
     tie.close
     (tie.spec
     (λ c. search rules) (λ c. search rules) (λ c κs. tt) (λ c. search rules) (λ c κs. tt)

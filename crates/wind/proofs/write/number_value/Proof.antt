@@ -4,8 +4,8 @@ use borrow.Author.Tests.{le-leb, lt-leb}
 use Rattle.wind.proofs.write.number_value.Statement.{statement}
 use Rattle.wind.proofs.write.number_value.Tie as tie
 
-pub number-value-spec : {M : Type 1} → statement M
-number-value-spec =
+pub number_value_spec : {M : Type 1} → statement M
+number_value_spec =
     tie.close
     (tie.spec
     (λ c. rw (le-leb _ _ c.if1.true))

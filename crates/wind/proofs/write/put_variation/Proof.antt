@@ -3,15 +3,15 @@
 use borrow.Author.Rules.{rules}
 use Rattle.figures.proofs.Puts.{put-none}
 use Rattle.text.specs.Groups.{written}
-use Rattle.elements.specs.Wind.{showVariation}
+use Rattle.elements.specs.Wind.{show_variation}
 use Rattle.wind.proofs.write.put_variation.Statement.{statement}
 use Rattle.wind.proofs.write.put_variation.Tie as tie
 
-pub put-variation-spec : {M : Type 1} → statement M
-put-variation-spec =
+pub put_variation_spec : {M : Type 1} → statement M
+put_variation_spec =
     tie.close
     (tie.spec
     (λ c. search rules) (λ c. search rules) (λ c κs. tt)
-    (λ c. unfold showVariation written in rw c.enum_told.given.1 (put-none _ _))
+    (λ c. unfold show_variation written in rw c.enum_told.given.1 (put-none _ _))
     (λ c. search rules)
-    (λ c. unfold showVariation in rw c.before.before.before.before.before.extremes.given.1 c.before.before.put-extremes.ensures))
+    (λ c. unfold show_variation in rw c.before.before.before.before.before.extremes.given.1 c.before.before.put-extremes.ensures))

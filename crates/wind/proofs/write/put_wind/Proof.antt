@@ -3,13 +3,13 @@
 use mathlib.Core.List.{[], ◌∷◌}
 use borrow.Author.Rules.{rules}
 use Rattle.text.proofs.Writes.{write-group}
-use Rattle.elements.specs.Wind.{classSpeed, directionValue, speedValue, gustValue, unitValue, showWind}
+use Rattle.elements.specs.Wind.{class_speed, direction_value, speed_value, gust_value, unit_value, show_wind}
 use Rattle.wind.proofs.RoundTripWind.{print-four}
 use Rattle.wind.proofs.write.put_wind.Statement.{statement}
 use Rattle.wind.proofs.write.put_wind.Tie as tie
 
-pub put-wind-spec : {M : Type 1} → statement M
-put-wind-spec =
+pub put_wind_spec : {M : Type 1} → statement M
+put_wind_spec =
     tie.close
     (tie.spec
     (λ c κs. tt) (λ c κs. tt) (λ c. search rules) (λ c κs. tt) (λ c κs. tt) (λ c. search rules) (λ c κs. tt) (λ c κs. tt) (λ c. search rules)
@@ -24,8 +24,8 @@ put-wind-spec =
     let direction = speed-class.before in
     let unit = direction.before in
     let w = unit.before.before.args.w in
-    let u = unitValue w.unit in
-    unfold showWind in
+    let u = unit_value w.unit in
+    unfold show_wind in
     rw (
       unit.unit-value.ensures,
       direction.direction-value.ensures,
@@ -33,6 +33,6 @@ put-wind-spec =
       gust.gust-value.ensures,
       speed-class.class-speed.ensures,
       gust-class.class-speed2.ensures,
-      print-four (directionValue w.direction) (speedValue (classSpeed w.unit w.speed)) (gustValue (classSpeed w.unit w.gust)) u (u ∷ u ∷ u ∷ u ∷ []),
+      print-four (direction_value w.direction) (speed_value (class_speed w.unit w.speed)) (gust_value (class_speed w.unit w.gust)) u (u ∷ u ∷ u ∷ u ∷ []),
     )
     at (write-group opened.open-group.ensures printed.put-shape.ensures)))

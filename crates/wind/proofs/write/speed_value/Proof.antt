@@ -4,8 +4,8 @@ use borrow.Author.Rules.{rules}
 use Rattle.wind.proofs.write.speed_value.Statement.{statement}
 use Rattle.wind.proofs.write.speed_value.Tie as tie
 
-pub speed-value-spec : {M : Type 1} → statement M
-speed-value-spec =
+pub speed_value_spec : {M : Type 1} → statement M
+speed_value_spec =
     tie.close
     (tie.spec
     (λ c. search rules) (λ c. search rules) (λ c κs. tt) (λ c. search rules) (λ c κs. tt)

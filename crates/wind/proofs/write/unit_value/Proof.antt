@@ -4,8 +4,8 @@ use borrow.Author.Rules.{rules}
 use Rattle.wind.proofs.write.unit_value.Statement.{statement}
 use Rattle.wind.proofs.write.unit_value.Tie as tie
 
-pub unit-value-spec : {M : Type 1} → statement M
-unit-value-spec =
+pub unit_value_spec : {M : Type 1} → statement M
+unit_value_spec =
     tie.close
     (tie.spec
     (λ c. search rules) (λ c. search rules) (λ c. search rules) (λ c. search rules)

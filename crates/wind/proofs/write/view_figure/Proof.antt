@@ -9,8 +9,8 @@ use Rattle.wind.proofs.VisibilityLaws.{figure-far}
 use Rattle.wind.proofs.write.view_figure.Statement.{statement}
 use Rattle.wind.proofs.write.view_figure.Tie as tie
 
-pub view-figure-spec : {M : Type 1} → statement M
-view-figure-spec =
+pub view_figure_spec : {M : Type 1} → statement M
+view_figure_spec =
     tie.close
     (tie.spec
     (λ c κs. tt) (λ c. search rules) (λ c. search rules)

@@ -4,8 +4,8 @@ use borrow.Author.Rules.{rules}
 use Rattle.wind_values.proofs.agree.gust_agrees.Statement.{statement}
 use Rattle.wind_values.proofs.agree.gust_agrees.Tie as tie
 
-pub gust-agrees-spec : {M : Type 1} → statement M
-gust-agrees-spec =
+pub gust_agrees_spec : {M : Type 1} → statement M
+gust_agrees_spec =
     tie.close
     (tie.spec
     (λ c. search rules) (λ c. search rules) (λ c κs. tt) (λ c κs. tt) (λ c. search rules) (λ c κs. tt) (λ c. search rules)

@@ -3,8 +3,8 @@
 use Rattle.wind_values.proofs.agree.wind_agrees.Statement.{statement}
 use Rattle.wind_values.proofs.agree.wind_agrees.Tie as tie
 
-pub wind-agrees-spec : {M : Type 1} → statement M
-wind-agrees-spec =
+pub wind_agrees_spec : {M : Type 1} → statement M
+wind_agrees_spec =
     tie.close
     (tie.spec
     (λ c κs. tt) (λ c κs. tt) (λ c κs. tt) (λ c κs. tt)

@@ -3,8 +3,8 @@
 use Rattle.wind_values.proofs.speeds.class_speed.Statement.{statement}
 use Rattle.wind_values.proofs.speeds.class_speed.Tie as tie
 
-pub class-speed-spec : {M : Type 1} → statement M
-class-speed-spec =
+pub class_speed_spec : {M : Type 1} → statement M
+class_speed_spec =
     tie.close
     (tie.spec
     (λ c κs. tt) (λ c κs. tt)

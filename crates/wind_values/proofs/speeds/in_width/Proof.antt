@@ -3,8 +3,8 @@
 use Rattle.wind_values.proofs.speeds.in_width.Statement.{statement}
 use Rattle.wind_values.proofs.speeds.in_width.Tie as tie
 
-pub in-width-spec : {M : Type 1} → statement M
-in-width-spec =
+pub in_width_spec : {M : Type 1} → statement M
+in_width_spec =
     tie.close
     (tie.spec
     (λ c. rw c.if1.true) (λ c. rw c.if1.false))

@@ -1,12 +1,12 @@
--- `wind_values::speeds::speed_by` meets its contract: each branch is a case of `speedBy`.
+-- `wind_values::speeds::speed_by` meets its contract: each branch is a case of `speed_by`.
 -- Assumes nothing.
 use mathlib.Core.Path.{sym, ◌∙◌}
 use borrow.Author.Tests.{eq-eqb, ne_eqb, le-leb, lt-leb}
 use Rattle.wind_values.proofs.speeds.speed_by.Statement.{statement}
 use Rattle.wind_values.proofs.speeds.speed_by.Tie as tie
 
-pub speed-by-spec : {M : Type 1} → statement M
-speed-by-spec =
+pub speed_by_spec : {M : Type 1} → statement M
+speed_by_spec =
     tie.close
     (tie.spec
     (λ c κs. tt)

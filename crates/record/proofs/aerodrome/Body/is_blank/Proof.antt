@@ -1,8 +1,8 @@
 -- `record::aerodrome::Body::is_blank` meets its contract, element by element.
 -- Assumes nothing.
-use Rattle.record.specs.SilentAerodrome.{isBlankBody}
+use Rattle.record.specs.SilentAerodrome.{is_blank_body}
 use Rattle.record.proofs.aerodrome.Body.is_blank.Statement.{statement}
 use Rattle.record.proofs.aerodrome.Body.is_blank.Tie as tie
 
-pub is-blank-spec : {M : Type 1} → statement M
-is-blank-spec = tie.close (tie.spec (λ c κs. tt) (λ c κs. tt) (λ c κs. tt) (λ c κs. tt) (λ c. unfold isBlankBody in rw (c.is-blank3.ensures, c.before.is-blank2.ensures, c.before.before.is-missing.ensures, c.before.before.before.is-blank.ensures)))
+pub is_blank_spec : {M : Type 1} → statement M
+is_blank_spec = tie.close (tie.spec (λ c κs. tt) (λ c κs. tt) (λ c κs. tt) (λ c κs. tt) (λ c. unfold is_blank_body in rw (c.is-blank3.ensures, c.before.is-blank2.ensures, c.before.before.is-missing.ensures, c.before.before.before.is-blank.ensures)))

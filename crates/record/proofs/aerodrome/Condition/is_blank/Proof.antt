@@ -4,8 +4,8 @@ use borrow.Author.Rules.{rules}
 use Rattle.record.proofs.aerodrome.Condition.is_blank.Statement.{statement}
 use Rattle.record.proofs.aerodrome.Condition.is_blank.Tie as tie
 
-pub is-blank-spec : {M : Type 1} → statement M
-is-blank-spec =
+pub is_blank_spec : {M : Type 1} → statement M
+is_blank_spec =
     tie.close
     (tie.spec
     (λ c. search rules) (λ c. search rules) (λ c κs. tt) (λ c κs. tt) (λ c κs. tt) (λ c κs. tt)

@@ -1,8 +1,8 @@
 -- `record::aerodrome::Taf::is_blank` meets its contract, part by part.
 -- Assumes nothing.
-use Rattle.record.specs.SilentAerodrome.{isBlankTaf}
+use Rattle.record.specs.SilentAerodrome.{is_blank_taf}
 use Rattle.record.proofs.aerodrome.Taf.is_blank.Statement.{statement}
 use Rattle.record.proofs.aerodrome.Taf.is_blank.Tie as tie
 
-pub is-blank-spec : {M : Type 1} → statement M
-is-blank-spec = tie.close (tie.spec (λ c κs. tt) (λ c κs. tt) (λ c κs. tt) (λ c κs. tt) (λ c. unfold isBlankTaf in rw (c.is-blank2.ensures, c.before.is-blank.ensures, c.before.before.has-no-head.ensures, c.before.before.before.is-present.ensures)))
+pub is_blank_spec : {M : Type 1} → statement M
+is_blank_spec = tie.close (tie.spec (λ c κs. tt) (λ c κs. tt) (λ c κs. tt) (λ c κs. tt) (λ c. unfold is_blank_taf in rw (c.is-blank2.ensures, c.before.is-blank.ensures, c.before.before.has-no-head.ensures, c.before.before.before.is-present.ensures)))

@@ -7,12 +7,12 @@ use lib.ListN.{length, drop, length-map}
 use borrow.Author.Rules.{rules}
 use Rattle.figures.specs.Figures.{every}
 use Rattle.figures.proofs.Every.{every-next, every-stop, every-end}
-use Rattle.record.specs.SilentAerodrome.{isBlankTrendChange}
+use Rattle.record.specs.SilentAerodrome.{is_blank_trend_change}
 use Rattle.record.proofs.aerodrome.Trend.is_blank_from.Statement.{statement}
 use Rattle.record.proofs.aerodrome.Trend.is_blank_from.Tie as tie
 
 abbrev Inv : tie.invariant-loop
-Inv from items i₀ i = every isBlankTrendChange (drop from items) ≡ every isBlankTrendChange (drop i items)
+Inv from items i₀ i = every is_blank_trend_change (drop from items) ≡ every is_blank_trend_change (drop i items)
 
 abbrev μ : tie.decreases-loop
 μ from items i₀ i = 3 - i
@@ -21,8 +21,8 @@ abbrev μ : tie.decreases-loop
 slots : (c : tie.Start Inv μ) → length c.args.self.items ≡ 3
 slots c = simp length-map at c.well-formed.0.1.1.0.1.0.1
 
-pub is-blank-from-spec : {M : Type 1} → statement M
-is-blank-from-spec =
+pub is_blank_from_spec : {M : Type 1} → statement M
+is_blank_from_spec =
     tie.close
     (tie.spec Inv μ
     (λ c. refl)
@@ -30,11 +30,11 @@ is-blank-from-spec =
     (λ c.
     let d = c.before.before.before.before in
     let s = d.before in
-    d.loop.invariant ∙ every-next isBlankTrendChange s.before.args.self.items d.loop.i _ (omega (arith, slots s.before)) (sym c.before.is-blank.ensures ∙ c.if1.true))
+    d.loop.invariant ∙ every-next is_blank_trend_change s.before.args.self.items d.loop.i _ (omega (arith, slots s.before)) (sym c.before.is-blank.ensures ∙ c.if1.true))
     (λ c.
     let d = c.before.before.before.before in
     let s = d.before in
-    sym (d.loop.invariant ∙ every-stop isBlankTrendChange s.before.args.self.items d.loop.i _ (omega (arith, slots s.before)) (sym c.before.is-blank.ensures ∙ c.if1.false)))
+    sym (d.loop.invariant ∙ every-stop is_blank_trend_change s.before.args.self.items d.loop.i _ (omega (arith, slots s.before)) (sym c.before.is-blank.ensures ∙ c.if1.false)))
     (λ c.
     let s = c.before.before in
-    sym (c.before.loop.invariant ∙ every-end isBlankTrendChange s.before.args.self.items c.before.loop.i (omega (arith, slots s.before)))))
+    sym (c.before.loop.invariant ∙ every-end is_blank_trend_change s.before.args.self.items c.before.loop.i (omega (arith, slots s.before)))))

@@ -3,5 +3,5 @@
 use Rattle.record.proofs.surface.CloudLayers.is_blank.Statement.{statement}
 use Rattle.record.proofs.surface.CloudLayers.is_blank.Tie as tie
 
-pub is-blank-spec : {M : Type 1} → statement M
-is-blank-spec = tie.close (tie.spec (λ c κs. tt) (λ c. rw c.is-blank-from.ensures))
+pub is_blank_spec : {M : Type 1} → statement M
+is_blank_spec = tie.close (tie.spec (λ c κs. tt) (λ c. rw c.is-blank-from.ensures))

@@ -1,8 +1,8 @@
 -- `record::surface::Synop::is_blank` meets its contract, part by part.
 -- Assumes nothing.
-use Rattle.record.specs.SilentSurface.{isBlankSynop}
+use Rattle.record.specs.SilentSurface.{is_blank_synop}
 use Rattle.record.proofs.surface.Synop.is_blank.Statement.{statement}
 use Rattle.record.proofs.surface.Synop.is_blank.Tie as tie
 
-pub is-blank-spec : {M : Type 1} → statement M
-is-blank-spec = tie.close (tie.spec (λ c κs. tt) (λ c κs. tt) (λ c κs. tt) (λ c. unfold isBlankSynop in rw (c.is-blank3.ensures, c.before.is-blank2.ensures, c.before.before.is-blank.ensures)))
+pub is_blank_spec : {M : Type 1} → statement M
+is_blank_spec = tie.close (tie.spec (λ c κs. tt) (λ c κs. tt) (λ c κs. tt) (λ c. unfold is_blank_synop in rw (c.is-blank3.ensures, c.before.is-blank2.ensures, c.before.before.is-blank.ensures)))

@@ -4,5 +4,5 @@ use borrow.Author.Rules.{rules}
 use Rattle.record.proofs.values.Number.is_missing_or_between.Statement.{statement}
 use Rattle.record.proofs.values.Number.is_missing_or_between.Tie as tie
 
-pub is-missing-or-between-spec : {M : Type 1} → statement M
-is-missing-or-between-spec = tie.close (tie.spec (λ c. search rules) (λ c. search rules) (λ c. search rules) (λ c. rw c.before.self.given.1))
+pub is_missing_or_between_spec : {M : Type 1} → statement M
+is_missing_or_between_spec = tie.close (tie.spec (λ c. search rules) (λ c. search rules) (λ c. search rules) (λ c. rw c.before.self.given.1))

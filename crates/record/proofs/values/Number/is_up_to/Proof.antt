@@ -4,5 +4,5 @@ use borrow.Author.Rules.{rules}
 use Rattle.record.proofs.values.Number.is_up_to.Statement.{statement}
 use Rattle.record.proofs.values.Number.is_up_to.Tie as tie
 
-pub is-up-to-spec : {M : Type 1} → statement M
-is-up-to-spec = tie.close (tie.spec (λ c. search rules) (λ c. search rules) (λ c. search rules) (λ c. rw c.before.self.given.1))
+pub is_up_to_spec : {M : Type 1} → statement M
+is_up_to_spec = tie.close (tie.spec (λ c. search rules) (λ c. search rules) (λ c. search rules) (λ c. rw c.before.self.given.1))

@@ -4,8 +4,8 @@ use borrow.Author.Rules.{rules}
 use Rattle.record.proofs.values.Speed.is_still.Statement.{statement}
 use Rattle.record.proofs.values.Speed.is_still.Tie as tie
 
-pub is-still-spec : {M : Type 1} → statement M
-is-still-spec =
+pub is_still_spec : {M : Type 1} → statement M
+is_still_spec =
     tie.close
     (tie.spec
     (λ c. search rules) (λ c. search rules) (λ c. search rules) (λ c. search rules)

@@ -4,8 +4,8 @@ use borrow.Author.Rules.{rules}
 use Rattle.runway_states.proofs.tables.Table.has.Statement.{statement}
 use Rattle.runway_states.proofs.tables.Table.has.Tie as tie
 
-pub has-spec : {M : Type 1} → statement M
-has-spec =
+pub has_spec : {M : Type 1} → statement M
+has_spec =
     tie.close
     (tie.spec
     (λ c. search rules) (λ c. search rules) (λ c. search rules) (λ c. search rules)

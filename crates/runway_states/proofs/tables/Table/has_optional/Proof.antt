@@ -4,8 +4,8 @@ use borrow.Author.Rules.{rules}
 use Rattle.runway_states.proofs.tables.Table.has_optional.Statement.{statement}
 use Rattle.runway_states.proofs.tables.Table.has_optional.Tie as tie
 
-pub has-optional-spec : {M : Type 1} → statement M
-has-optional-spec =
+pub has_optional_spec : {M : Type 1} → statement M
+has_optional_spec =
     tie.close
     (tie.spec
     (λ c. search rules) (λ c. search rules) (λ c κs. tt) (λ c. search rules)

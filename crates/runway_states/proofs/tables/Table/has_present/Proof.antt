@@ -4,8 +4,8 @@ use borrow.Author.Rules.{rules}
 use Rattle.runway_states.proofs.tables.Table.has_present.Statement.{statement}
 use Rattle.runway_states.proofs.tables.Table.has_present.Tie as tie
 
-pub has-present-spec : {M : Type 1} → statement M
-has-present-spec =
+pub has_present_spec : {M : Type 1} → statement M
+has_present_spec =
     tie.close
     (tie.spec
     (λ c. search rules) (λ c. search rules) (λ c κs. tt) (λ c. search rules)

@@ -4,8 +4,8 @@ use borrow.Author.Rules.{rules}
 use Rattle.runway_states.proofs.tables.Table.holds.Statement.{statement}
 use Rattle.runway_states.proofs.tables.Table.holds.Tie as tie
 
-pub holds-spec : {M : Type 1} → statement M
-holds-spec =
+pub holds_spec : {M : Type 1} → statement M
+holds_spec =
     tie.close
     (tie.spec
     (λ c. search rules) (λ c κs. tt) (λ c. search rules) (λ c. search rules) (λ c. search rules)
