@@ -6,7 +6,7 @@ usage: tools/respell.py [FOLDER]      the top of the repository; this folder whe
 
 It was run once, after the toolchain's own script, and a second run changes nothing. Types, facts and modules keep their capital, as does a fact that is a part of
 a name (`All-append`). Names that come from a library stay. A lemma that would then have its function's name gets `_lem`. Must-fail edits, README and docs/ follow.
-It says which new names were there before, so that two names cannot fall together unseen.
+It says which new names were there before: whoever runs it looks at those, in case two names fall together.
 """
 
 import os
@@ -75,7 +75,7 @@ def main(argv):
     pages = [os.path.join(top, "README.md")] + [os.path.join(d, f) for d, _, fs in os.walk(os.path.join(top, "docs")) for f in fs if f.endswith(".md")]
     texts.update({p: read(p) for p in list(files(top, (".edit",))) + pages})
     for path, text in texts.items():
-        if path.endswith(".antt"):
+        if path.endswith(".antt") and new:
             text_of_lemmas = LEMMA.sub(lambda m: m.group(0) + "_lem", text)
         else:
             text_of_lemmas = text
