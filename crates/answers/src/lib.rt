@@ -1,56 +1,61 @@
-// What the programs say of a text: its canonical text or "refused N at P"; and the same as calls for Rust to link.
+// What the programs say of a text: its canonical text or "refused N at P"; the same as calls for Rust to link, which the crate `answers_c` exports;
+// and input that is read to its end.
+#![tactic(auto)]
+
+pub mod input;
 pub mod linked;
 
-use libc::STDOUT_FILENO;
 use record::aerodrome::Edition;
 use report_record::kinds::Report;
+use std::io;
+use std::io::Write;
 use text::kinds::{Refusal, Verdict, Written};
 
-pub fn say(s: &[u8]) {
-    io::write_all(STDOUT_FILENO, s);
+pub fn say(out: &mut impl Write, s: &[u8]) -> io::Result<()> {
+    out.write_all(s)
 }
 
-pub fn say_number(n: usize) {
-    io::print_decimal(STDOUT_FILENO, n as u64);
+pub fn say_number(out: &mut impl Write, n: usize) -> io::Result<()> {
+    write!(out, "{n}")
 }
 
-pub fn say_refusal(r: Refusal, place: usize) {
-    say(b"refused ");
-    say_number(text::refusal_number(r) as usize);
-    say(b" at ");
-    say_number(place);
+pub fn say_refusal(out: &mut impl Write, r: Refusal, place: usize) -> io::Result<()> {
+    say(out, b"refused ")?;
+    say_number(out, usize::from(text::refusal_number(r)))?;
+    say(out, b" at ")?;
+    say_number(out, place)
 }
 
 // What was written of a record that was read, in a buffer that has room for every canonical text; were it refused, the refusal is said.
-fn say_written(written: Written, out: &[u8]) {
+fn say_written(out: &mut impl Write, written: Written, buffer: &[u8]) -> io::Result<()> {
     match written {
         Written::Count(n) => {
-            if n <= out.len() {
-                say(&out[..n]);
+            if n <= buffer.len() {
+                say(out, &buffer[..n])?;
             }
+            Ok(())
         }
-        Written::Refused(f) => say_refusal(f, 0),
+        Written::Refused(f) => say_refusal(out, f, 0),
     }
 }
 
-pub fn say_report(edition: Edition, r: Report) {
-    let mut out = [0u8; 2048];
-    let written = report::write_in(edition, r, &mut out);
-    say_written(written, &out);
+pub fn say_report(out: &mut impl Write, edition: Edition, r: Report) -> io::Result<()> {
+    let mut buffer = [0u8; 2048];
+    let written = report::write_in(edition, r, &mut buffer);
+    say_written(out, written, &buffer)
 }
 
 // The answer to a text, a TAF in the edition that is named, and a line end. Of a refused text nothing is said but the number and the place.
-pub fn say_answer_in(edition: Edition, text: &[u8]) {
+pub fn say_answer_in(out: &mut impl Write, edition: Edition, text: &[u8]) -> io::Result<()> {
     let reading = report::read_in(edition, text);
-    let verdict = reading.verdict;
-    match verdict {
-        Verdict::Accepted { rest: _ } => say_report(edition, reading.report),
-        Verdict::Refused { refusal, place } => say_refusal(refusal, place),
+    match reading.verdict {
+        Verdict::Accepted { rest: _ } => say_report(out, edition, reading.report)?,
+        Verdict::Refused { refusal, place } => say_refusal(out, refusal, place)?,
     }
-    say(b"\n");
+    say(out, b"\n")
 }
 
 // The same with a TAF in the present edition.
-pub fn say_answer(text: &[u8]) {
-    say_answer_in(Edition::Present, text);
+pub fn say_answer(out: &mut impl Write, text: &[u8]) -> io::Result<()> {
+    say_answer_in(out, Edition::Present, text)
 }

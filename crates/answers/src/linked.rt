@@ -1,4 +1,4 @@
-// Calls for Rust to link, which `tests/bench` times: the reader of every kind, and each kind's own, and cloud heights by the rule and by the table. Every
+// Calls for Rust to link, which the crate `answers_c` exports and `tests/bench` times: the reader of every kind, and each kind's own, and cloud heights by the rule and by the table. Every
 // call of a reader reads the text, and then either says the verdict or writes the record that was read. Which of the two is known only at run time, so
 // that no call is compiled without making its record.
 ghost use Rattle.std.specs.Prelude.{◌≡◌};
@@ -47,13 +47,7 @@ fn say_other(named: Name, number: &mut usize) -> u8 {
     }
 }
 
-#[unsafe(no_mangle)]
-pub extern "C" fn delgushar_any(
-    text: &[u8],
-    writes: bool,
-    out: &mut [u8],
-    number: &mut usize,
-) -> u8 {
+pub fn delgushar_any(text: &[u8], writes: bool, out: &mut [u8], number: &mut usize) -> u8 {
     let reading = report::read(text);
     if writes {
         return say_written(report::write(reading.report, out), number);
@@ -62,13 +56,7 @@ pub extern "C" fn delgushar_any(
     say_verdict(verdict, number)
 }
 
-#[unsafe(no_mangle)]
-pub extern "C" fn delgushar_synop(
-    text: &[u8],
-    writes: bool,
-    out: &mut [u8],
-    number: &mut usize,
-) -> u8 {
+pub fn delgushar_synop(text: &[u8], writes: bool, out: &mut [u8], number: &mut usize) -> u8 {
     let named = report::name(text);
     let Name::Surface { ship, at } = named else {
         return say_other(named, number);
@@ -81,13 +69,7 @@ pub extern "C" fn delgushar_synop(
     say_verdict(verdict, number)
 }
 
-#[unsafe(no_mangle)]
-pub extern "C" fn delgushar_metar(
-    text: &[u8],
-    writes: bool,
-    out: &mut [u8],
-    number: &mut usize,
-) -> u8 {
+pub fn delgushar_metar(text: &[u8], writes: bool, out: &mut [u8], number: &mut usize) -> u8 {
     let named = report::name(text);
     let Name::Observed { special, at } = named else {
         return say_other(named, number);
@@ -100,13 +82,7 @@ pub extern "C" fn delgushar_metar(
     say_verdict(verdict, number)
 }
 
-#[unsafe(no_mangle)]
-pub extern "C" fn delgushar_taf(
-    text: &[u8],
-    writes: bool,
-    out: &mut [u8],
-    number: &mut usize,
-) -> u8 {
+pub fn delgushar_taf(text: &[u8], writes: bool, out: &mut [u8], number: &mut usize) -> u8 {
     let named = report::name(text);
     let Name::Forecast { at } = named else {
         return say_other(named, number);
@@ -129,17 +105,14 @@ fn height_by_rule(code: u32) -> u32 {
     }
 }
 
-#[unsafe(no_mangle)]
-pub extern "C" fn delgushar_heights_by_rule(codes: &[u32], heights: &mut [u32]) -> usize {
-    let mut i = 0;
-    while (i < codes.len()) & (i < heights.len()) {
+pub fn delgushar_heights_by_rule(codes: &[u32], heights: &mut [u32]) -> usize {
+    let count = codes.len().min(heights.len());
+    for i in 0..count {
         heights[i] = height_by_rule(codes[i]);
-        i += 1;
     }
-    i
+    count
 }
 
-#[unsafe(no_mangle)]
-pub extern "C" fn delgushar_heights_by_table(codes: &[u32], heights: &mut [u32]) -> usize {
+pub fn delgushar_heights_by_table(codes: &[u32], heights: &mut [u32]) -> usize {
     cloud_table::cloud_heights(codes, heights)
 }

@@ -1,48 +1,50 @@
-// Words, numbers and figures on standard output.
-use libc::STDOUT_FILENO;
+// Words, numbers and figures on a writer.
+use std::io;
+use std::io::Write;
 
-pub fn say(s: &[u8]) {
-    io::write_all(STDOUT_FILENO, s);
+pub fn say(out: &mut impl Write, s: &[u8]) -> io::Result<()> {
+    out.write_all(s)
 }
 
-pub fn number(n: u32) {
-    io::print_decimal(STDOUT_FILENO, n as u64);
+pub fn number(out: &mut impl Write, n: u32) -> io::Result<()> {
+    write!(out, "{n}")
 }
 
 // A number of tenths.
-pub fn tenths(n: u32) {
-    number(n / 10);
-    say(b".");
-    number(n % 10);
+pub fn tenths(out: &mut impl Write, n: u32) -> io::Result<()> {
+    number(out, n / 10)?;
+    say(out, b".")?;
+    number(out, n % 10)
 }
 
 // A number field of `width` figures, leading zeros written.
-pub fn figures(width: usize, n: u32) {
-    let mut out = [0u8; 8];
-    let end = figures::put::put_number(&mut out, 0, width, n);
+pub fn figures(out: &mut impl Write, width: usize, n: u32) -> io::Result<()> {
+    let mut text = [0u8; 8];
+    let end = figures::put::put_number(&mut text, 0, width, n);
     if end <= 8 {
-        say(&out[..end]);
+        say(out, &text[..end])?;
     }
+    Ok(())
 }
 
 // A signed number of tenths.
-pub fn signed(t: i32) {
+pub fn signed(out: &mut impl Write, t: i32) -> io::Result<()> {
     if figures::signed::is_negative(t) {
-        say(b"-");
+        say(out, b"-")?;
     }
-    tenths(figures::signed::magnitude(t));
+    tenths(out, figures::signed::magnitude(t))
 }
 
-pub fn heading(name: &[u8]) {
-    say(b"\n");
-    say(name);
-    say(b"\n");
+pub fn heading(out: &mut impl Write, name: &[u8]) -> io::Result<()> {
+    say(out, b"\n")?;
+    say(out, name)?;
+    say(out, b"\n")
 }
 
-pub fn arrow() {
-    say(b" -> ");
+pub fn arrow(out: &mut impl Write) -> io::Result<()> {
+    say(out, b" -> ")
 }
 
-pub fn line_end() {
-    say(b"\n");
+pub fn line_end(out: &mut impl Write) -> io::Result<()> {
+    say(out, b"\n")
 }

@@ -3,8 +3,10 @@ use crate::print;
 use scales::kinds::{Degrees, Figure, Rain, RainReading, Range, RangeFigure, Reading, Tenths};
 use seen_values::kinds::Seen;
 use seen_values::{metres, pressure};
+use std::io;
+use std::io::Write;
 
-#[derive(Drop)]
+#[derive(Clone, Copy)]
 pub enum Scale {
     Land,
     Sea,
@@ -38,122 +40,114 @@ fn width(s: Scale) -> usize {
     }
 }
 
-fn whole(width: usize, f: Figure) {
+fn whole(out: &mut impl Write, width: usize, f: Figure) -> io::Result<()> {
     match f {
-        Figure::Is(n) => print::figures(width, n),
-        Figure::OutOfRange => print::say(b"out of range"),
+        Figure::Is(n) => print::figures(out, width, n),
+        Figure::OutOfRange => print::say(out, b"out of range"),
     }
 }
 
-fn say_range(r: Range) {
+fn say_range(out: &mut impl Write, r: Range) -> io::Result<()> {
     match r {
         Range::Below(n) => {
-            print::say(b"M");
-            print::figures(4, n);
+            print::say(out, b"M")?;
+            print::figures(out, 4, n)
         }
-        Range::Exact(n) => print::figures(4, n),
+        Range::Exact(n) => print::figures(out, 4, n),
         Range::Above(n) => {
-            print::say(b"P");
-            print::figures(4, n);
+            print::say(out, b"P")?;
+            print::figures(out, 4, n)
         }
     }
 }
 
-fn runway(v: u32) {
-    let f = scales::metres::runway_figure(v);
-    match f {
-        RangeFigure::Is(r) => say_range(r),
-        RangeFigure::OutOfRange => print::say(b"out of range"),
+fn runway(out: &mut impl Write, v: u32) -> io::Result<()> {
+    match scales::metres::runway_figure(v) {
+        RangeFigure::Is(r) => say_range(out, r),
+        RangeFigure::OutOfRange => print::say(out, b"out of range"),
     }
 }
 
 // A value as it is said: tenths for pressure and rain.
-fn value(s: Scale, v: u32) {
+fn value(out: &mut impl Write, s: Scale, v: u32) -> io::Result<()> {
     match s {
-        Scale::Pressure => print::tenths(v),
-        Scale::Rain => print::tenths(v),
-        _ => print::number(v),
+        Scale::Pressure => print::tenths(out, v),
+        Scale::Rain => print::tenths(out, v),
+        _ => print::number(out, v),
     }
 }
 
-fn written(s: Scale, v: u32) {
+fn written(out: &mut impl Write, s: Scale, v: u32) -> io::Result<()> {
     let w = width(s);
     match s {
-        Scale::Land => whole(w, scales::metres::land_figure(v)),
-        Scale::Sea => whole(w, scales::metres::sea_figure(v)),
-        Scale::Base => whole(w, scales::metres::base_figure(v)),
-        Scale::Cloud => whole(w, scales::metres::cloud_figure(v)),
-        Scale::Visibility => whole(w, scales::metres::visibility_figure(v)),
-        Scale::Runway => runway(v),
-        Scale::Depth => whole(w, scales::depth::depth_figure(v)),
-        Scale::LayerSteps => whole(w, scales::layers::steps_figure(v)),
-        Scale::LayerBands => whole(w, scales::layers::bands_figure(v)),
-        Scale::Pressure => whole(w, scales::pressure::pressure_figure(v)),
-        Scale::Rain => whole(w, scales::rain::rain_figure(Rain::Tenths(v))),
-        Scale::Direction => whole(w, scales::direction::direction_figure(v)),
+        Scale::Land => whole(out, w, scales::metres::land_figure(v)),
+        Scale::Sea => whole(out, w, scales::metres::sea_figure(v)),
+        Scale::Base => whole(out, w, scales::metres::base_figure(v)),
+        Scale::Cloud => whole(out, w, scales::metres::cloud_figure(v)),
+        Scale::Visibility => whole(out, w, scales::metres::visibility_figure(v)),
+        Scale::Runway => runway(out, v),
+        Scale::Depth => whole(out, w, scales::depth::depth_figure(v)),
+        Scale::LayerSteps => whole(out, w, scales::layers::steps_figure(v)),
+        Scale::LayerBands => whole(out, w, scales::layers::bands_figure(v)),
+        Scale::Pressure => whole(out, w, scales::pressure::pressure_figure(v)),
+        Scale::Rain => whole(out, w, scales::rain::rain_figure(Rain::Tenths(v))),
+        Scale::Direction => whole(out, w, scales::direction::direction_figure(v)),
     }
 }
 
-fn read(s: Scale, r: Reading) {
+fn read(out: &mut impl Write, s: Scale, r: Reading) -> io::Result<()> {
     match r {
-        Reading::Is(n) => value(s, n),
-        Reading::Unused => print::say(b"unused"),
+        Reading::Is(n) => value(out, s, n),
+        Reading::Unused => print::say(out, b"unused"),
     }
 }
 
-fn read_rain(f: u32) {
-    let r = scales::rain::rain_reading(f);
-    match r {
-        RainReading::Is(a) => match a {
-            Rain::Trace => print::say(b"trace"),
-            Rain::Tenths(t) => print::tenths(t),
-        },
-        RainReading::Unused => print::say(b"unused"),
+fn read_rain(out: &mut impl Write, f: u32) -> io::Result<()> {
+    match scales::rain::rain_reading(f) {
+        RainReading::Is(Rain::Trace) => print::say(out, b"trace"),
+        RainReading::Is(Rain::Tenths(t)) => print::tenths(out, t),
+        RainReading::Unused => print::say(out, b"unused"),
     }
 }
 
-fn reading(s: Scale, f: u32) {
+fn reading(out: &mut impl Write, s: Scale, f: u32) -> io::Result<()> {
     match s {
-        Scale::Land => read(s, scales::metres::land_reading(f)),
-        Scale::Sea => read(s, scales::metres::sea_reading(f)),
-        Scale::Base => read(s, scales::metres::base_reading(f)),
-        Scale::Cloud => read(s, scales::metres::cloud_reading(f)),
-        Scale::Visibility => read(s, scales::metres::visibility_reading(f)),
-        Scale::Runway => read(s, scales::metres::runway_reading(Range::Exact(f))),
-        Scale::Depth => read(s, scales::depth::depth_reading(f)),
-        Scale::LayerSteps => read(s, scales::layers::steps_reading(f)),
-        Scale::LayerBands => read(s, scales::layers::bands_reading(f)),
-        Scale::Pressure => read(s, scales::pressure::pressure_reading(f)),
-        Scale::Rain => read_rain(f),
-        Scale::Direction => read(s, scales::direction::direction_reading(f)),
+        Scale::Land => read(out, s, scales::metres::land_reading(f)),
+        Scale::Sea => read(out, s, scales::metres::sea_reading(f)),
+        Scale::Base => read(out, s, scales::metres::base_reading(f)),
+        Scale::Cloud => read(out, s, scales::metres::cloud_reading(f)),
+        Scale::Visibility => read(out, s, scales::metres::visibility_reading(f)),
+        Scale::Runway => read(out, s, scales::metres::runway_reading(Range::Exact(f))),
+        Scale::Depth => read(out, s, scales::depth::depth_reading(f)),
+        Scale::LayerSteps => read(out, s, scales::layers::steps_reading(f)),
+        Scale::LayerBands => read(out, s, scales::layers::bands_reading(f)),
+        Scale::Pressure => read(out, s, scales::pressure::pressure_reading(f)),
+        Scale::Rain => read_rain(out, f),
+        Scale::Direction => read(out, s, scales::direction::direction_reading(f)),
     }
 }
 
 // Values, and the figures that they are written as.
-pub fn values(s: Scale, list: &[u32]) {
-    let mut i = 0;
-    while i < list.len() {
-        let v = list[i];
-        value(s, v);
-        print::arrow();
-        written(s, v);
-        print::line_end();
-        i += 1;
+pub fn values(out: &mut impl Write, s: Scale, list: &[u32]) -> io::Result<()> {
+    for v in list {
+        value(out, s, *v)?;
+        print::arrow(out)?;
+        written(out, s, *v)?;
+        print::line_end(out)?;
     }
+    Ok(())
 }
 
 // Figures, and their readings.
-pub fn figures(s: Scale, list: &[u32]) {
+pub fn figures(out: &mut impl Write, s: Scale, list: &[u32]) -> io::Result<()> {
     let w = width(s);
-    let mut i = 0;
-    while i < list.len() {
-        let f = list[i];
-        print::figures(w, f);
-        print::arrow();
-        reading(s, f);
-        print::line_end();
-        i += 1;
+    for f in list {
+        print::figures(out, w, *f)?;
+        print::arrow(out)?;
+        reading(out, s, *f)?;
+        print::line_end(out)?;
     }
+    Ok(())
 }
 
 fn seen(s: Scale, m: u32) -> Seen {
@@ -172,97 +166,94 @@ fn seen(s: Scale, m: u32) -> Seen {
     }
 }
 
-fn say_seen(s: Scale, seen: Seen) {
+fn say_seen(out: &mut impl Write, s: Scale, seen: Seen) -> io::Result<()> {
     match seen {
         Seen::Between { least, greatest } => {
-            value(s, least);
-            print::say(b" to ");
-            value(s, greatest);
+            value(out, s, least)?;
+            print::say(out, b" to ")?;
+            value(out, s, greatest)
         }
         Seen::From { least } => {
-            value(s, least);
-            print::say(b" or more");
+            value(out, s, least)?;
+            print::say(out, b" or more")
         }
-        Seen::Nothing => print::say(b"nothing"),
+        Seen::Nothing => print::say(out, b"nothing"),
     }
 }
 
 // Readings, and what the observer may have seen.
-pub fn readings(s: Scale, list: &[u32]) {
-    let mut i = 0;
-    while i < list.len() {
-        let m = list[i];
-        value(s, m);
-        print::arrow();
-        say_seen(s, seen(s, m));
-        print::line_end();
-        i += 1;
+pub fn readings(out: &mut impl Write, s: Scale, list: &[u32]) -> io::Result<()> {
+    for m in list {
+        value(out, s, *m)?;
+        print::arrow(out)?;
+        say_seen(out, s, seen(s, *m))?;
+        print::line_end(out)?;
     }
+    Ok(())
 }
 
 // A runway range as it is written, and its reading.
-pub fn range(r: Range) {
-    say_range(r);
-    print::arrow();
-    read(Scale::Runway, scales::metres::runway_reading(r));
-    print::line_end();
+pub fn range(out: &mut impl Write, r: Range) -> io::Result<()> {
+    say_range(out, r)?;
+    print::arrow(out)?;
+    read(out, Scale::Runway, scales::metres::runway_reading(r))?;
+    print::line_end(out)
 }
 
-pub fn trace() {
-    print::say(b"trace");
-    print::arrow();
-    whole(3, scales::rain::rain_figure(Rain::Trace));
-    print::line_end();
+pub fn trace(out: &mut impl Write) -> io::Result<()> {
+    print::say(out, b"trace")?;
+    print::arrow(out)?;
+    whole(out, 3, scales::rain::rain_figure(Rain::Trace))?;
+    print::line_end(out)
 }
 
-fn mark(minus: bool) {
+fn mark(out: &mut impl Write, minus: bool) -> io::Result<()> {
     if minus {
-        print::say(b"M");
+        print::say(out, b"M")?;
     }
+    Ok(())
 }
 
-fn temperature(t: i32) {
-    print::signed(t);
-    print::arrow();
-    let d = scales::degrees::degrees_figure(t);
-    match d {
+fn temperature(out: &mut impl Write, t: i32) -> io::Result<()> {
+    print::signed(out, t)?;
+    print::arrow(out)?;
+    match scales::degrees::degrees_figure(t) {
         Degrees::Is { minus, whole } => {
-            mark(minus);
-            print::figures(2, whole);
+            mark(out, minus)?;
+            print::figures(out, 2, whole)?;
         }
-        Degrees::OutOfRange => print::say(b"out of range"),
+        Degrees::OutOfRange => print::say(out, b"out of range")?,
     }
-    print::line_end();
+    print::line_end(out)
 }
 
 // Temperatures in tenths, and the whole degrees that they are written as.
-pub fn temperatures(list: &[i32]) {
-    let mut i = 0;
-    while i < list.len() {
-        temperature(list[i]);
-        i += 1;
+pub fn temperatures(out: &mut impl Write, list: &[i32]) -> io::Result<()> {
+    for t in list {
+        temperature(out, *t)?;
     }
+    Ok(())
 }
 
-fn read_tenths(t: Tenths) {
-    print::arrow();
+fn read_tenths(out: &mut impl Write, t: Tenths) -> io::Result<()> {
+    print::arrow(out)?;
     match t {
-        Tenths::Is(n) => print::signed(n),
-        Tenths::Unused => print::say(b"unused"),
+        Tenths::Is(n) => print::signed(out, n)?,
+        Tenths::Unused => print::say(out, b"unused")?,
     }
-    print::line_end();
+    print::line_end(out)
 }
 
 // Whole degrees as they are written, and their reading.
-pub fn degrees(minus: bool, whole: u32) {
-    mark(minus);
-    print::figures(2, whole);
-    read_tenths(scales::degrees::degrees_reading(minus, whole));
+pub fn degrees(out: &mut impl Write, minus: bool, whole: u32) -> io::Result<()> {
+    mark(out, minus)?;
+    print::figures(out, 2, whole)?;
+    read_tenths(out, scales::degrees::degrees_reading(minus, whole))
 }
 
 // A sign's figure and three figures, and their reading.
-pub fn signed(sign: u32, n: u32) {
-    print::figures(1, sign);
-    print::figures(3, n);
-    read_tenths(scales::degrees::signed_reading(sign, n));
+pub fn signed(out: &mut impl Write, sign: u32, n: u32) -> io::Result<()> {
+    print::figures(out, 1, sign)?;
+    print::figures(out, 3, n)?;
+    read_tenths(out, scales::degrees::signed_reading(sign, n))
 }
