@@ -2,7 +2,7 @@
 -- Assumes nothing.
 use Prim.Native.Nat.{ℕ, ◌+◌, ◌≤◌, ◌<◌}
 use native.Mathlib.Omega.{arith}
-use mathlib.Core.Path.{◌≡◌, refl, sym, ◌∙◌}
+use mathlib.Core.Path.{◌≡◌, refl, sym, subst, ◌∙◌}
 use mathlib.Core.Logic.{inl, inr}
 use mathlib.Core.Bool.{Bool, true, false, cond, not, ◌&&◌, or-false, false≢true}
 use mathlib.Core.List.{List, [], ◌∷◌, ◌++◌}
@@ -138,7 +138,7 @@ weather-fine t b k (by-weather n ws c) =
     each : (xs : List Weather) → length xs ≡ k → judge_each (judge_weather t.forecast t.automatic false) xs ≡ judged.Fine
         → judge_each (judge_weather t.forecast t.automatic (is_cavok b.visibility)) xs ≡ judged.Fine
     each [] m j = refl
-    each (x ∷ xs) m j = rw (c (omega (arith, m))) j
+    each (x ∷ xs) m j = subst (λ (z : Bool). judge_each (judge_weather t.forecast t.automatic z) (x ∷ xs) ≡ judged.Fine) (sym (c (omega (arith, m)))) j
 
 pub weather-slots : {t : Terms} {cavok : Bool} {k : ℕ} {nsw : Bool} {ws : Weathers} → WeatherHeld t cavok k nsw ws → length ws.items ≡ 3
 weather-slots (by-nsw n is m c some) = rw is

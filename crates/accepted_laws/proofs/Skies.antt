@@ -2,7 +2,7 @@
 -- Assumes nothing.
 use Prim.Native.Nat.{ℕ, ◌+◌, ◌-◌, ◌≤◌, ◌<◌}
 use native.Mathlib.Omega.{arith}
-use mathlib.Core.Path.{◌≡◌, refl, sym, ap, ◌∙◌}
+use mathlib.Core.Path.{◌≡◌, refl, sym, ap, subst, ◌∙◌}
 use mathlib.Core.Bool.{Bool, true, false, cond, not, ◌&&◌, ◌||◌, or-true, false≢true}
 use mathlib.Core.List.{List, [], ◌∷◌, ◌++◌, map}
 use lib.ListN.{length, take, replicate}
@@ -149,6 +149,6 @@ sky-left forecast cavok k s (by-layers is n f j b) =
       where
         go : (xs : List Layer) → length xs ≡ k → judge_layers forecast false [] xs ≡ judged.Fine → judge_layers forecast (cavok || false) [] xs ≡ judged.Fine
         go [] m j = refl
-        go (x ∷ xs) m j = rw (b (omega (arith, m))) j
+        go (x ∷ xs) m j = subst (λ (z : Bool). judge_layers forecast (z || false) [] (x ∷ xs) ≡ judged.Fine) (sym (b (omega (arith, m)))) j
 sky-left forecast cavok k s (by-cover a n b h c) =
     record { fine = rw (n, b, a.fits, c); own = rw (a.own, b); slots = ap length b }

@@ -121,7 +121,7 @@ fn range_of(mark: usize, n: u32) -> Range
 }
 
 // A range that may be missing, or the group's refusal.
-#[derive(Drop)]
+#[derive(Clone, Copy)]
 enum RangeRead {
     Good(Number),
     Bad(Refusal),
@@ -228,7 +228,7 @@ pub fn has_temperatures(g: &[u8]) -> bool
 }
 
 // A temperature that may be missing, or the group's refusal.
-#[derive(Drop)]
+#[derive(Clone, Copy)]
 enum DegreesRead {
     Good(Tenths),
     Bad(Refusal),

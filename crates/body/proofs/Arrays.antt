@@ -15,13 +15,13 @@ use Rattle.record.specs.Arrays.{BodyArrays, Each}
 abbrev body : RattleType
 body = Struct (shape the_type)
 
-pub body-arrays : (b : Body) (us : List Val) → shadow (body.own (the_type.to b) us) → BodyArrays b
+pub body-arrays : (b : Body) (us : List Val) → shadow (body.own_val (the_type.to b) us) → BodyArrays b
 body-arrays b us s =
     let s = s.1.1.1.1 in
-    record { weathers = simp length-map at s.0.1.1.0.1.0.1; layers = simp length-map at s.1.1.0.1.1.1.0.1.0.1 }
+    record { weathers = s.0.1.1.0.1.0.1; layers = s.1.1.0.1.1.1.0.1.0.1 }
 
-pub each_owned : {A : Type 0} (T : RattleType) (to : A → T.Denot) (P : A → Type 0) → ((x : A) (us : List Val) → shadow (T.own (to x) us) → P x)
-    → (xs : List A) (us : List Val) → shadow (owned T.Denot T.own (map to xs) us) → Each P xs
+pub each_owned : {A : Type 0} (T : RattleType) (to : A → T.Denot) (P : A → Type 0) → ((x : A) (us : List Val) → shadow (T.own_val (to x) us) → P x)
+    → (xs : List A) (us : List Val) → shadow (owned T.Denot T.own_val (map to xs) us) → Each P xs
 each_owned T to P tells [] us s = tt
 each_owned T to P tells (x ∷ xs) [] s = absurd s
 each_owned T to P tells (x ∷ xs) (u ∷ us) s = (tells x (u ∷ []) s.0, each_owned T to P tells xs us s.1)

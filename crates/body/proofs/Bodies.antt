@@ -29,7 +29,7 @@ use Rattle.elements.specs.Wind.{show_wind, judge_wind, class_wind}
 use Rattle.elements.specs.Visibility.{is_cavok, show_visibility, judge_visibility, class_visibility}
 use Rattle.elements.specs.Weather.{weather_cover, has_weather}
 use Rattle.elements.specs.Sky.{judge_sky, class_sky}
-use Rattle.elements.specs.Body.{Terms, left_out_lem, wind_place, visibility_place, is_nsw, has_weather_or_nsw, with_nsw, body_row, unless_absent, wind_judged, visibility_judged, weather_judged, sky_judged, judge_body, has_element, class_body}
+use Rattle.elements.specs.Body.{Terms, left_out, wind_place, visibility_place, is_nsw, has_weather_or_nsw, with_nsw, body_row, unless_absent, wind_judged, visibility_judged, weather_judged, sky_judged, judge_body, has_element, class_body}
 use Rattle.elements.proofs.Classed.{cavok-classed, view-classed, cover-classed}
 use Rattle.wind.proofs.SpeedLaws.{missing-classed}
 use Rattle.wind.proofs.RoundTripWind.{wind-covered, wind-again, wind-classed}
@@ -95,15 +95,15 @@ fine-anyway false j e = e
 module _ (t : Terms) (l : Live t) (b : Body) where
   module _ (e : wind_judged t b ≡ judged.Fine) where
     abbrev wind_shown : Wind → List Group
-    wind_shown x = cond (left_out_lem t (is_blank_wind x)) [] (show_wind x ∷ [])
+    wind_shown x = cond (left_out t (is_blank_wind x)) [] (show_wind x ∷ [])
 
     abbrev wind_judge : Wind → Judged
     wind_judge x = unless_absent t (is_blank_wind x) (judge_wind t.forecast x)
 
     pub wind-both : (wind_shown (class_wind b.wind) ≡ wind_shown b.wind) × (wind_judge (class_wind b.wind) ≡ judged.Fine)
-    wind-both = go (left_out_lem t (is_blank_wind b.wind)) refl
+    wind-both = go (left_out t (is_blank_wind b.wind)) refl
       where
-        go : (o : Bool) → left_out_lem t (is_blank_wind b.wind) ≡ o → (wind_shown (class_wind b.wind) ≡ wind_shown b.wind) × (wind_judge (class_wind b.wind) ≡ judged.Fine)
+        go : (o : Bool) → left_out t (is_blank_wind b.wind) ≡ o → (wind_shown (class_wind b.wind) ≡ wind_shown b.wind) × (wind_judge (class_wind b.wind) ≡ judged.Fine)
         go true o =
             let is = wind-blank b.wind (left_out_lem t l (is_blank_wind b.wind) o).1 in
             (ap (λ (x : Wind). wind_shown (class_wind x)) is ∙ ap wind_shown (sym is), ap (λ (x : Wind). wind_judge (class_wind x)) is ∙ ap wind_judge (sym is) ∙ e)
@@ -113,15 +113,15 @@ module _ (t : Terms) (l : Live t) (b : Body) where
 
   module _ (e : visibility_judged t b ≡ judged.Fine) where
     abbrev view_shown : Visibility → List Group
-    view_shown x = cond (left_out_lem t (no_view x.is)) [] (show_visibility x ∷ [])
+    view_shown x = cond (left_out t (no_view x.is)) [] (show_visibility x ∷ [])
 
     abbrev view_judge : Visibility → Judged
     view_judge x = unless_absent t (no_view x.is) (judge_visibility t.forecast x)
 
     pub view-both : (view_shown (class_visibility b.visibility) ≡ view_shown b.visibility) × (view_judge (class_visibility b.visibility) ≡ judged.Fine)
-    view-both = go (left_out_lem t (no_view b.visibility.is)) refl
+    view-both = go (left_out t (no_view b.visibility.is)) refl
       where
-        go : (o : Bool) → left_out_lem t (no_view b.visibility.is) ≡ o
+        go : (o : Bool) → left_out t (no_view b.visibility.is) ≡ o
             → (view_shown (class_visibility b.visibility) ≡ view_shown b.visibility) × (view_judge (class_visibility b.visibility) ≡ judged.Fine)
         go true o =
             let is = visibility-blank b.visibility (left_out_lem t l (no_view b.visibility.is) o).1 in

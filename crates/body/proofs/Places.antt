@@ -35,7 +35,7 @@ use Rattle.elements.specs.Wind.{wind_shape, show_wind, judge_wind, class_wind}
 use Rattle.elements.specs.Visibility.{visibility_shapes, is_cavok, show_visibility, judge_visibility, class_visibility}
 use Rattle.elements.specs.Weather.{codes_of, weather_cover, weather_spoken, has_weather, has_unknown, phenomena_fit, read_weather, with_weather, show_weather, show_weathers, judge_weather, three_fit, judge_weathers}
 use Rattle.elements.specs.Sky.{layer_shape, alone_shapes, has_sky, read_sky, show_sky, class_sky}
-use Rattle.elements.specs.Body.{Terms, left_out_lem, wind_place, visibility_place, is_nsw, has_weather_or_nsw, with_nsw, beside_others, read_weather_or_nsw, show_weather_or_nsw, weather_place, sky_place, unless_absent, wind_judged, visibility_judged, nsw_agrees, weather_judged, sky_judged}
+use Rattle.elements.specs.Body.{Terms, left_out, wind_place, visibility_place, is_nsw, has_weather_or_nsw, with_nsw, beside_others, read_weather_or_nsw, show_weather_or_nsw, weather_place, sky_place, unless_absent, wind_judged, visibility_judged, nsw_agrees, weather_judged, sky_judged}
 use Rattle.elements.proofs.Fills.{filled, filled-items}
 use Rattle.wind.proofs.RoundTripWind.{wind-shaped, wind-back}
 use Rattle.wind.proofs.RoundTripVisibility.{visibility-shaped, visibility-back}
@@ -54,7 +54,7 @@ pub record Live (t : Terms) : Type 0 where
   pub stands : (t.forecast || t.required) ≡ true
 
 -- what is left out is blank, in a forecast
-pub left_out_lem : (t : Terms) → Live t → (z : Bool) → left_out_lem t z ≡ true → (t.forecast ≡ true) × (z ≡ true)
+pub left_out_lem : (t : Terms) → Live t → (z : Bool) → left_out t z ≡ true → (t.forecast ≡ true) × (z ≡ true)
 left_out_lem t l z e = go t.forecast refl
   where
     go : (f : Bool) → t.forecast ≡ f → (t.forecast ≡ true) × (z ≡ true)
@@ -62,7 +62,7 @@ left_out_lem t l z e = go t.forecast refl
     go false q = absurd (false≢true (sym l.heard ∙ (rw q at e)))
 
 -- what is not left out is judged
-pub stands-judged : (t : Terms) → Live t → (z : Bool) (j : Judged) → left_out_lem t z ≡ false → unless_absent t z j ≡ judged.Fine → j ≡ judged.Fine
+pub stands-judged : (t : Terms) → Live t → (z : Bool) (j : Judged) → left_out t z ≡ false → unless_absent t z j ≡ judged.Fine → j ≡ judged.Fine
 stands-judged t l false j o e = go t.required e
   where
     go : (r : Bool) → cond (not r && false) judged.Fine j ≡ judged.Fine → j ≡ judged.Fine
@@ -120,9 +120,9 @@ set-sky x acc e = rw (← e)
 
 module _ (t : Terms) (l : Live t) (b acc : Body) where
   pub kept-wind : acc.wind ≡ blank_wind → wind_judged t b ≡ judged.Fine → Kept (wind_place t) 15 b acc
-  kept-wind bare e = go (left_out_lem t (is_blank_wind b.wind)) refl
+  kept-wind bare e = go (left_out t (is_blank_wind b.wind)) refl
     where
-      go : (o : Bool) → left_out_lem t (is_blank_wind b.wind) ≡ o → Kept (wind_place t) 15 b acc
+      go : (o : Bool) → left_out t (is_blank_wind b.wind) ≡ o → Kept (wind_place t) 15 b acc
       go true o =
           let (f, z) = left_out_lem t l (is_blank_wind b.wind) o in
           let is = wind-blank b.wind z in
@@ -136,9 +136,9 @@ module _ (t : Terms) (l : Live t) (b acc : Body) where
 
   pub kept-visibility : acc.visibility ≡ blank_visibility → visibility_judged t b ≡ judged.Fine → Kept (visibility_place t) 5 b acc
   unfolding low high
-  kept-visibility bare e = go (left_out_lem t (no_view b.visibility.is)) refl
+  kept-visibility bare e = go (left_out t (no_view b.visibility.is)) refl
     where
-      go : (o : Bool) → left_out_lem t (no_view b.visibility.is) ≡ o → Kept (visibility_place t) 5 b acc
+      go : (o : Bool) → left_out t (no_view b.visibility.is) ≡ o → Kept (visibility_place t) 5 b acc
       go true o =
           let (f, z) = left_out_lem t l (no_view b.visibility.is) o in
           let is = visibility-blank b.visibility z in

@@ -12,7 +12,7 @@ use Rattle.record.proofs.AerodromeBlanks.{wind-blank, visibility-blank}
 use Rattle.record.proofs.Near.{no-direction}
 use Rattle.elements.specs.Wind.{judge_wind, class_wind}
 use Rattle.elements.specs.Visibility.{view_fits, judge_visibility, class_view}
-use Rattle.elements.specs.Body.{Terms, left_out_lem, wind_judged, visibility_judged, class_body}
+use Rattle.elements.specs.Body.{Terms, left_out, wind_judged, visibility_judged, class_body}
 use Rattle.wind.proofs.SpeedLaws.{no-speed}
 use Rattle.wind.proofs.Promises.{WindNear, wind-near, ViewRead, visibility-read}
 use Rattle.sky.proofs.Promises.{SkyBack, sky-read}
@@ -35,17 +35,17 @@ no-wind = record { direction = no-direction; speed = no-speed; gust = no-speed; 
 -- a wind and a visibility that are judged fine, or not there
 module _ (t : Terms) (l : Live t) (b : Body) where
   wind-kept : wind_judged t b ≡ judged.Fine → WindNear b.wind (class_wind b.wind)
-  wind-kept e = go (left_out_lem t (is_blank_wind b.wind)) refl
+  wind-kept e = go (left_out t (is_blank_wind b.wind)) refl
     where
-      go : (o : Bool) → left_out_lem t (is_blank_wind b.wind) ≡ o → WindNear b.wind (class_wind b.wind)
+      go : (o : Bool) → left_out t (is_blank_wind b.wind) ≡ o → WindNear b.wind (class_wind b.wind)
       go true o = rw (wind-blank b.wind (left_out_lem t l (is_blank_wind b.wind) o).1) no-wind
       go false o = wind-near t.forecast b.wind (stands-judged t l (is_blank_wind b.wind) (judge_wind t.forecast b.wind) o e)
 
   view-kept : visibility_judged t b ≡ judged.Fine → ViewRead b.visibility.is (class_view b.visibility.is)
   unfolding judge_visibility
-  view-kept e = go (left_out_lem t (no_view b.visibility.is)) refl
+  view-kept e = go (left_out t (no_view b.visibility.is)) refl
     where
-      go : (o : Bool) → left_out_lem t (no_view b.visibility.is) ≡ o → ViewRead b.visibility.is (class_view b.visibility.is)
+      go : (o : Bool) → left_out t (no_view b.visibility.is) ≡ o → ViewRead b.visibility.is (class_view b.visibility.is)
       go true o = visibility-read false b.visibility.is (rw (visibility-blank b.visibility (left_out_lem t l (no_view b.visibility.is) o).1))
       go false o =
           let j = stands-judged t l (no_view b.visibility.is) (judge_visibility t.forecast b.visibility) o e in

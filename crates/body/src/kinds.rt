@@ -3,7 +3,7 @@ use elements::kinds::Said;
 use text::kinds::Refusal;
 
 // A group that is taken: what it says at its place, where `count` groups stood before it, and where it stands in the text.
-#[derive(Drop)]
+#[derive(Clone, Copy)]
 pub struct Saying {
     pub said: Said,
     pub place: usize,
@@ -13,7 +13,7 @@ pub struct Saying {
 }
 
 // No group is left; the group from `start` up to `end` halts the reading; the one at `start` is refused; or one is taken.
-#[derive(Drop)]
+#[derive(Clone, Copy)]
 pub enum Met {
     Over,
     Halt { start: usize, end: usize },

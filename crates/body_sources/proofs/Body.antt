@@ -79,17 +79,17 @@ module _ (t : Terms) (k : ℕ) (g : Group) (b : Body) where
 
 module _ (t : Terms) (g : Group) (b : Body) where
   -- the k-th weather group says the k-th item
-  pub weather-tells : {b' : Body} (k : ℕ) → k < 3 → length b.weathers.items ≡ 3 → WeatherDone t k g b b' → WeatherSaid t.forecast g (weather_at k b')
+  pub weather-tells : (k : ℕ) {b' : Body} → k < 3 → length b.weathers.items ≡ 3 → WeatherDone t k g b b' → WeatherSaid t.forecast g (weather_at k b')
   weather-tells k few fair (with-nsw is first) = rw first (no-weather is)
   weather-tells k few fair (with-weather w is reads) =
       rw (lt-ltb k 3 few, get_or-set_same b.weathers.items k w blank_weather (rw fair few)) (a-weather t.automatic is reads)
 
   -- and another group leaves it as it was
-  pub weather-others : {b' : Body} (k n : ℕ) → n < 3 → eqb k n ≡ false → WeatherDone t n g b b' → weather_at k b' ≡ weather_at k b
+  pub weather-others : (k n : ℕ) {b' : Body} → n < 3 → eqb k n ≡ false → WeatherDone t n g b b' → weather_at k b' ≡ weather_at k b
   weather-others k n few o (with-nsw is first) = rw (rw first at o)
   weather-others k n few o (with-weather w is reads) = rw (lt-ltb n 3 few, get_or-set_other b.weathers.items n k w blank_weather (eqb-false k n o))
 
-  pub weather-stays : {b' : Body} (n : ℕ) → length b.weathers.items ≡ 3 → WeatherDone t n g b b' → length b'.weathers.items ≡ 3
+  pub weather-stays : (n : ℕ) {b' : Body} → length b.weathers.items ≡ 3 → WeatherDone t n g b b' → length b'.weathers.items ≡ 3
   weather-stays n fair (with-nsw is first) = fair
   weather-stays n fair (with-weather w is reads) = go (ltb n 3)
     where
@@ -140,17 +140,17 @@ module _ (forecast cavok : Bool) (g : Group) (b : Body) where
   either true = refl
   either false = refl
 
-  pub sky-tells : {s' : Sky} (k : ℕ) → k < 4 → length b.sky.layers ≡ 4 → SkyDone forecast cavok k g b.sky s' → SkySaid forecast g (sky_at k (set_sky s' b))
+  pub sky-tells : (k : ℕ) {s' : Sky} → k < 4 → length b.sky.layers ≡ 4 → SkyDone forecast cavok k g b.sky s' → SkySaid forecast g (sky_at k (set_sky s' b))
   sky-tells k few fair (with-layer l is reads agrees) =
       rw (lt-ltb k 4 few, get_or-set_same b.sky.layers k l blank_layer (rw fair few), either (eqb k 0)) (a-layer is reads)
   sky-tells k few fair (with-cover c is reads first) = rw first (a-cover is reads)
 
-  pub sky-others : {s' : Sky} (k n : ℕ) → n < 4 → eqb k n ≡ false → SkyDone forecast cavok n g b.sky s' → sky_at k (set_sky s' b) ≡ sky_at k b
+  pub sky-others : (k n : ℕ) {s' : Sky} → n < 4 → eqb k n ≡ false → SkyDone forecast cavok n g b.sky s' → sky_at k (set_sky s' b) ≡ sky_at k b
   sky-others k n few o (with-layer l is reads agrees) =
       rw (lt-ltb n 4 few, get_or-set_other b.sky.layers n k l blank_layer (eqb-false k n o), layers-only b.sky.cover agrees)
   sky-others k n few o (with-cover c is reads first) = rw (rw first at o)
 
-  pub sky-stays : {s' : Sky} (n : ℕ) → length b.sky.layers ≡ 4 → SkyDone forecast cavok n g b.sky s' → length s'.layers ≡ 4
+  pub sky-stays : (n : ℕ) {s' : Sky} → length b.sky.layers ≡ 4 → SkyDone forecast cavok n g b.sky s' → length s'.layers ≡ 4
   sky-stays n fair (with-layer l is reads agrees) = go (ltb n 4)
     where
       go : (z : Bool) → length (cond z (record { cover = cover.Layers; layers = set b.sky.layers n l; count = n + 1 }) b.sky).layers ≡ 4

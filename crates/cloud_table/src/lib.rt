@@ -1,4 +1,6 @@
 // Table 1690 as 1,000 numbers, one for each code 000 to 999: cloud heights one at a time and many at once.
+#![tactic(auto)]
+
 ghost use Rattle.std.specs.Prelude.{◌≡◌};
 ghost use Rattle.scales.specs.Metres.{cloud, metres_reading};
 ghost use Rattle.cloud_table.specs.Heights.{height_or_mark, cloud_table, room, heights_over};

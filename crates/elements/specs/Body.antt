@@ -38,8 +38,8 @@ abbrev pub changing : Terms
 changing = record { forecast = true; required = false; may_nsw = true; automatic = false; silent = false }
 
 -- a wind or visibility that is not written: in a forecast one that is blank
-abbrev pub left_out_lem : Terms → Bool → Bool
-left_out_lem t blank = cond t.forecast blank t.silent
+abbrev pub left_out : Terms → Bool → Bool
+left_out t blank = cond t.forecast blank t.silent
 
 -- ---- wind and visibility
 
@@ -53,7 +53,7 @@ wind_place t =
       must = t.required;
       ends = false;
       read = λ k g b. then (read_wind t.forecast g) (λ x. Good (set_wind x b));
-      show = λ b. cond (left_out_lem t (is_blank_wind b.wind)) [] (show_wind b.wind ∷ []);
+      show = λ b. cond (left_out t (is_blank_wind b.wind)) [] (show_wind b.wind ∷ []);
       put = λ b acc. set_wind (class_wind b.wind) acc;
     }
 
@@ -67,7 +67,7 @@ visibility_place t =
       must = t.required;
       ends = false;
       read = λ k g b. then (read_visibility t.forecast g) (λ x. Good (set_visibility x b));
-      show = λ b. cond (left_out_lem t (no_view b.visibility.is)) [] (show_visibility b.visibility ∷ []);
+      show = λ b. cond (left_out t (no_view b.visibility.is)) [] (show_visibility b.visibility ∷ []);
       put = λ b acc. set_visibility (class_visibility b.visibility) acc;
     }
 

@@ -237,15 +237,15 @@ abbrev pub code_text : Code → List ℕ
 code_text code.None = []
 code_text (code.Letters a b) = a ∷ b ∷ []
 
-abbrev pub sign_text_lem : Intensity → List ℕ
-sign_text_lem intensity.None = []
-sign_text_lem intensity.Light = bytes "-"
-sign_text_lem intensity.Heavy = bytes "+"
-sign_text_lem intensity.Vicinity = bytes "VC"
+abbrev pub sign_text : Intensity → List ℕ
+sign_text intensity.None = []
+sign_text intensity.Light = bytes "-"
+sign_text intensity.Heavy = bytes "+"
+sign_text intensity.Vicinity = bytes "VC"
 
 abbrev pub phenomena_text : Phenomena → Group
 phenomena_text phenomena.Missing = bytes "//"
-phenomena_text (phenomena.Is i d a b c) = sign_text_lem i ++ code_text d ++ code_text a ++ code_text b ++ code_text c
+phenomena_text (phenomena.Is i d a b c) = sign_text i ++ code_text d ++ code_text a ++ code_text b ++ code_text c
 
 unfoldable pub show_weather : Weather → Group
 show_weather w = phenomena_text w.is

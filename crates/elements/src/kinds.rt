@@ -6,7 +6,7 @@ use record::aerodrome::{
 use text::kinds::Refusal;
 
 // What one group says, to be put into the record afterwards. The station's letters are taken from the group itself.
-#[derive(Drop)]
+#[derive(Clone, Copy)]
 pub enum Said {
     Special(bool),
     Corrected,
@@ -35,19 +35,19 @@ pub enum Said {
     Snoclo,
 }
 
-#[derive(Drop)]
+#[derive(Clone, Copy)]
 pub enum WeatherRead {
     Good(Weather),
     Bad(Refusal),
 }
 
-#[derive(Drop)]
+#[derive(Clone, Copy)]
 pub enum LayerRead {
     Good(Layer),
     Bad(Refusal),
 }
 
-#[derive(Drop)]
+#[derive(Clone, Copy)]
 pub enum CoverRead {
     Good(Cover),
     Bad(Refusal),

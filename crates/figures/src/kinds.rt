@@ -2,7 +2,7 @@
 
 // What a number field holds: a number, only slashes ("Missing is slashes, as many as letters"), a mixture of slashes and figures, or something
 // else: another byte, a width that is not 1 to 5, or bytes that are not there.
-#[derive(Drop)]
+#[derive(Clone, Copy)]
 pub enum Field {
     Number(u32),
     Missing,
@@ -11,7 +11,7 @@ pub enum Field {
 }
 
 // A signed number made of a sign and a magnitude, or none where it does not fit.
-#[derive(Drop)]
+#[derive(Clone, Copy)]
 pub enum Signed {
     Is(i32),
     TooLarge,

@@ -1,5 +1,7 @@
 // Figures, letters and slashes; number fields of 1 to 5 figures, read; signed tenths taken apart and put together.
 // Writing is in `put`.
+#![tactic(auto)]
+
 pub mod kinds;
 pub mod put;
 pub mod signed;

@@ -3,7 +3,7 @@
 -- Assumes nothing.
 use Prim.Native.Nat.{ℕ, ◌≤◌}
 use native.Mathlib.Omega.{arith}
-use mathlib.Core.Path.{◌≡◌, refl, sym, ◌∙◌}
+use mathlib.Core.Path.{◌≡◌, refl, sym, ◌∙◌, subst}
 use mathlib.Core.Bool.{Bool, true, false, cond, or-false, false≢true}
 use mathlib.Core.List.{List, [], ◌∷◌}
 use lib.ListN.{length, drop}
@@ -97,7 +97,14 @@ module _ (k : ℕ) (g : Group) (automatic : Bool) (b : Body) (states : ℕ) wher
   pub says-body : (i j : ℕ) {x : Said} → BodySays false false automatic j k g b x
       → ((r : Observation) → (place_at row i).read k g r ≡ then ((place_at (body_row (observed r)) j).read k g r.body) (λ b. Good (set_body b r))) → Says i k g automatic b states x
   says-body i j s reads =
-      body-says row report_said seen k g (λ r. r.body) set_body b (λ r is. is.1) (of-body k g) i s (λ r is. (true, r.nil, rw (← is.0) (reads r)))
+      body-says row report_said seen k g (λ r. r.body) set_body b (λ r is. is.1) (of-body k g) i s (λ r is. (
+        true,
+        r.nil,
+        subst
+            (λ (z : Bool). (place_at row i).read k g r ≡ then ((place_at (body_row (record { forecast = false; required = true; may_nsw = false; automatic = z; silent = r.nil })) j).read k g r.body) (λ b. Good (set_body b r)))
+            is.0
+            (reads r),
+      ))
 
   pub says-time : Says 3 k g automatic b states (as_said said.Time (read_time g))
   unfolding row report_said

@@ -3,14 +3,14 @@ use record::aerodrome::Metar;
 use text::kinds::Verdict;
 
 // The record is blank where the text is refused.
-#[derive(Drop)]
+#[derive(Clone, Copy)]
 pub struct Reading {
     pub verdict: Verdict,
     pub report: Metar,
 }
 
 // Where the reading of an observation stands: `count` groups at a place of the row, and the next group at or after a position of the text.
-#[derive(Drop)]
+#[derive(Clone, Copy)]
 pub struct Standing {
     pub place: usize,
     pub count: usize,

@@ -1,4 +1,6 @@
 // The tests of the row of METAR and SPECI: its words, the shapes of its places, how many groups may or must stand at each, and where a group goes.
+#![tactic(auto)]
+
 ghost use Rattle.std.specs.Prelude.{◌≡◌, ◌&&◌, drop};
 ghost use Rattle.shapes.specs.Pattern.{has_any};
 ghost use Rattle.places.specs.Seek.{answers, fit_from, find_of};

@@ -198,7 +198,7 @@ module _ (q : ℕ) (some : 0 < q) (few : q < 4) where
 -- ---- the word of a part
 
 -- the row's groups do not touch it
-tendency-kept : (free : Bool) {c n c₁ k₁ : ℕ} {p p' : TrendChange} {gs left : List Piece} {es : List Entry} → Went (row free) (has_any words) c₁ k₁ p' left c n p gs es
+tendency-kept : (free : Bool) {c₁ k₁ : ℕ} {left : List Piece} {p' : TrendChange} {c n : ℕ} {p : TrendChange} {gs : List Piece} {es : List Entry} → Went (row free) (has_any words) c₁ k₁ p' left c n p gs es
     → p'.tendency ≡ p.tendency
 tendency-kept free done = refl
 tendency-kept free {p = p} (on {i = i} {n = m} {r' = r} {g = g} t e w) = tendency-kept free w ∙ (times-done free i m g.bytes p r e).1
@@ -213,15 +213,19 @@ module _ (q : ℕ) (some : 0 < q) (few : q < 4) where
 
   -- NOSIG opens part 1 alone
   nosig-part : (m : ℕ) (r : Metar) (p : TrendChange) → Known m r → Begins route coming begun none-lacks takes lacks r word.Nosig p → m ≡ 0
-  nosig-part m r p (fair, many) (alone {g} is) =
-      let none = ltb-false 0 r.trend.count (nosig-first r g p is) in
-      let n : r.trend.count ≡ cap m = many (word-opens r g word.Nosig p is).2 in
-      low (leb 3 m) refl (sym n ∙ omega arith)
+  nosig-part m r p (fair, many) b = at word.Nosig b refl
     where
       low : (a : Bool) → leb 3 m ≡ a → cond a 3 m ≡ 0 → m ≡ 0
       low true x e = absurd (omega arith)
       low false x e = e
-  nosig-part m r p known (joined is joins) = absurd (false≢true joins)
+
+      at : (w : Word) → Begins route coming begun none-lacks takes lacks r w p → w ≡ word.Nosig → m ≡ 0
+      at w (alone {g} is) e =
+          let opened = rw e at is in
+          let none = ltb-false 0 r.trend.count (nosig-first r g p opened) in
+          let n : r.trend.count ≡ cap m = many (word-opens r g word.Nosig p opened).2 in
+          low (leb 3 m) refl (sym n ∙ omega arith)
+      at w (joined is joins) e = absurd (false≢true joins)
 
   word-aside : (m : ℕ) (r : Metar) (w : Word) (p p' : TrendChange) → Known m r → Begins route coming begun none-lacks takes lacks r w p → eqb q (m + 1) ≡ false
       → word_in q (takes r w p') ≡ word_in q r

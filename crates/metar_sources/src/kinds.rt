@@ -2,7 +2,7 @@
 use trend_row::kinds::Word;
 
 // The next group: it is taken at a place, where so many stood, and reading stands at `past` behind it; it opens a part; or the walk is over.
-#[derive(Drop)]
+#[derive(Clone, Copy)]
 pub enum Met {
     Over,
     Takes {
@@ -20,7 +20,7 @@ pub enum Met {
 }
 
 // An item of a METAR's or SPECI's observation, by the group that says it. Runway ranges, weather, clouds, recent weather and runway states may be several.
-#[derive(Drop)]
+#[derive(Clone, Copy)]
 pub enum Element {
     Name,
     Correction,
@@ -42,7 +42,7 @@ pub enum Element {
 }
 
 // An item of a part of the trend. Weather and clouds may be several.
-#[derive(Drop)]
+#[derive(Clone, Copy)]
 pub enum ChangeElement {
     From,
     Until,

@@ -1,4 +1,6 @@
 // METAR and SPECI: the part of a text that an item was read from.
+#![tactic(auto)]
+
 pub mod kinds;
 
 ghost use Rattle.std.specs.Prelude.{◌≡◌};

@@ -3,7 +3,7 @@
 -- Assumes nothing.
 use Prim.Native.Nat.{ℕ, ◌+◌}
 use native.Mathlib.Omega.{arith}
-use mathlib.Core.Path.{◌≡◌, refl, sym, ◌∙◌}
+use mathlib.Core.Path.{◌≡◌, refl, sym, ◌∙◌, subst}
 use mathlib.Core.Bool.{Bool, true, ◌&&◌}
 use mathlib.Core.List.{List, [], ◌∷◌, ◌++◌, append_assoc}
 use lib.ListN.{length, length-append}
@@ -60,7 +60,8 @@ stands_from (x ∷ xs) n pre at e =
     let all : pre ++ laid (x ∷ xs) ≡ pre ++ x.0 ++ t ++ laid xs = sym (append_assoc (pre ++ x.0) t (laid xs) ∙ append_assoc pre x.0 (t ++ laid xs)) in
     let here : length (pre ++ x.0) ≡ at + length x.0 = rw (length-append pre x.0, e) in
     let past : length (pre ++ x.0 ++ t) ≡ at + length x.0 + 2 = rw (length-append (pre ++ x.0) t, here, two x.1 n.0) in
-    rw all (rw here at (field_back (pre ++ x.0) (laid xs) 2 x.1 (omega arith) (omega arith) n.0), stands_from xs n.1 (pre ++ x.0 ++ t) (at + length x.0 + 2) past)
+    subst (λ (g : List ℕ). Stands g at (x ∷ xs)) (sym all)
+    (rw here at (field_back (pre ++ x.0) (laid xs) 2 x.1 (omega arith) (omega arith) n.0), stands_from xs n.1 (pre ++ x.0 ++ t) (at + length x.0 + 2) past)
 
 pub laid-stands : (xs : List Spot) → Narrow xs → Stands (laid xs) 0 xs
 laid-stands xs n = stands_from xs n [] 0 refl

@@ -142,26 +142,26 @@ abbrev pub none_in : List Bool → Bool
 none_in [] = true
 none_in (b ∷ bs) = not b && none_in bs
 
-abbrev pub only_at_lem : ℕ → List Bool → Bool
-only_at_lem k [] = false
-only_at_lem zero (b ∷ bs) = b && none_in bs
-only_at_lem (suc k) (b ∷ bs) = not b && only_at_lem k bs
+abbrev pub only_at : ℕ → List Bool → Bool
+only_at k [] = false
+only_at zero (b ∷ bs) = b && none_in bs
+only_at (suc k) (b ∷ bs) = not b && only_at k bs
 
 none-at : (bs : List Bool) (i : ℕ) → none_in bs ≡ true → get_or bs i false ≡ false
 none-at [] i e = refl
 none-at (b ∷ bs) zero e = not-true b ((and-eq-true_iff (not b) (none_in bs)).0 e).0
 none-at (b ∷ bs) (suc i) e = none-at bs i ((and-eq-true_iff (not b) (none_in bs)).0 e).1
 
-pub only_at_lem : (k : ℕ) (bs : List Bool) (i : ℕ) → only_at_lem k bs ≡ true → eqb i k ≡ get_or bs i false
+pub only_at_lem : (k : ℕ) (bs : List Bool) (i : ℕ) → only_at k bs ≡ true → eqb i k ≡ get_or bs i false
 only_at_lem k [] i e = absurd (false≢true e)
 only_at_lem zero (b ∷ bs) zero e = sym ((and-eq-true_iff b (none_in bs)).0 e).0
 only_at_lem zero (b ∷ bs) (suc i) e = eqb-suc-zero i ∙ sym (none-at bs i ((and-eq-true_iff b (none_in bs)).0 e).1)
-only_at_lem (suc k) (b ∷ bs) zero e = eqb-zero-suc k ∙ sym (not-true b ((and-eq-true_iff (not b) (only_at_lem k bs)).0 e).0)
-only_at_lem (suc k) (b ∷ bs) (suc i) e = eqb-suc-suc i k ∙ only_at_lem k bs i ((and-eq-true_iff (not b) (only_at_lem k bs)).0 e).1
+only_at_lem (suc k) (b ∷ bs) zero e = eqb-zero-suc k ∙ sym (not-true b ((and-eq-true_iff (not b) (only_at k bs)).0 e).0)
+only_at_lem (suc k) (b ∷ bs) (suc i) e = eqb-suc-suc i k ∙ only_at_lem k bs i ((and-eq-true_iff (not b) (only_at k bs)).0 e).1
 
 module _ {R : Type 0} where
   -- the place that ends the report, where there is one
-  pub ends_at : (row : List (Place R)) (k i : ℕ) → only_at_lem k (map (λ (p : Place R). p.ends) row) ≡ true → eqb i k ≡ (place_at row i).ends
+  pub ends_at : (row : List (Place R)) (k i : ℕ) → only_at k (map (λ (p : Place R). p.ends) row) ≡ true → eqb i k ≡ (place_at row i).ends
   ends_at row k i e = only_at_lem k (map (λ (p : Place R). p.ends) row) i e ∙ get_or-map (λ (p : Place R). p.ends) row i nowhere
 
   -- where there is none, reading goes on from the place itself

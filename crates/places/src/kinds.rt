@@ -2,7 +2,7 @@
 use text::kinds::Refusal;
 
 // Where a group goes in a row of places.
-#[derive(Drop)]
+#[derive(Clone, Copy)]
 pub enum Found {
     // To this place, where so many groups stand already.
     Take { place: usize, count: usize },
@@ -17,7 +17,7 @@ pub enum Found {
 }
 
 // A group's turn by the row, before it is read: it goes to a place, where so many groups stand, it stops the reading, or it is refused.
-#[derive(Drop)]
+#[derive(Clone, Copy)]
 pub enum Turn {
     At { place: usize, count: usize },
     Halt,

@@ -1,5 +1,7 @@
 // The place engine's code, for every report kind: where a group goes in a row of places, whether a required group is absent, and the verdict at the text's
 // end. A kind hands over which places have the group's shape, how many groups may stand at each, and which must have one.
+#![tactic(auto)]
+
 pub mod kinds;
 
 ghost use Rattle.std.specs.Prelude.{◌≡◌, ◌-◌, cond, eqb, length, get_or, take, drop};

@@ -1,7 +1,7 @@
 // METAR, SPECI and TAF: one struct for each place of the report.
 use crate::values::{Direction, Number, Speed, Tenths};
 
-#[derive(Drop)]
+#[derive(Clone, Copy)]
 pub enum Unit {
     Missing,
     Knots,
@@ -10,7 +10,7 @@ pub enum Unit {
 }
 
 // dddffGff and unit
-#[derive(Drop)]
+#[derive(Clone, Copy)]
 pub struct Wind {
     pub direction: Direction,
     pub speed: Speed,
@@ -19,31 +19,31 @@ pub struct Wind {
 }
 
 // dddVddd, in degrees
-#[derive(Drop)]
+#[derive(Clone, Copy)]
 pub enum Extremes {
     Missing,
     Between { from: u32, to: u32 },
 }
 
-#[derive(Drop)]
+#[derive(Clone, Copy)]
 pub struct Variation {
     pub is: Extremes,
 }
 
 // VVVV or CAVOK
-#[derive(Drop)]
+#[derive(Clone, Copy)]
 pub enum View {
     Missing,
     Cavok,
     Metres(u32),
 }
 
-#[derive(Drop)]
+#[derive(Clone, Copy)]
 pub struct Visibility {
     pub is: View,
 }
 
-#[derive(Drop)]
+#[derive(Clone, Copy)]
 pub enum Side {
     None,
     Left,
@@ -52,7 +52,7 @@ pub enum Side {
 }
 
 // How a runway's visual range has changed.
-#[derive(Drop)]
+#[derive(Clone, Copy)]
 pub enum Course {
     None,
     Up,
@@ -61,7 +61,7 @@ pub enum Course {
 }
 
 // A runway by its number and side, its visual range in metres and the range's course.
-#[derive(Drop)]
+#[derive(Clone, Copy)]
 pub struct Runway {
     pub number: Number,
     pub side: Side,
@@ -70,14 +70,14 @@ pub struct Runway {
 }
 
 // Up to four, the first `count`.
-#[derive(Drop)]
+#[derive(Clone, Copy)]
 pub struct Runways {
     pub items: [Runway; 4],
     pub count: usize,
 }
 
 // How deep a runway's deposit is: in millimetres, or not told of a runway that is closed (99).
-#[derive(Drop)]
+#[derive(Clone, Copy)]
 pub enum Depth {
     Missing,
     Closed,
@@ -86,7 +86,7 @@ pub enum Depth {
 
 // What a runway is like: cleared (CLRD//), or its deposit, extent, depth and braking, the figures of tables 0919, 0519 and 0366, and of 1079 in
 // millimetres.
-#[derive(Drop)]
+#[derive(Clone, Copy)]
 pub enum Condition {
     Cleared,
     Covered {
@@ -98,21 +98,21 @@ pub enum Condition {
 }
 
 // The state of a runway: 01-36, 51-86 the right-hand one, 88 all, 99 repeated from the last.
-#[derive(Drop)]
+#[derive(Clone, Copy)]
 pub struct RunwayState {
     pub runway: Number,
     pub condition: Condition,
 }
 
 // The aerodrome closed by snow (SNOCLO), or up to four states, the first `count`.
-#[derive(Drop)]
+#[derive(Clone, Copy)]
 pub struct RunwayStates {
     pub items: [RunwayState; 4],
     pub count: usize,
     pub snoclo: bool,
 }
 
-#[derive(Drop)]
+#[derive(Clone, Copy)]
 pub enum Intensity {
     None,
     Light,
@@ -121,13 +121,13 @@ pub enum Intensity {
 }
 
 // Two letters of table 4678, or none.
-#[derive(Drop)]
+#[derive(Clone, Copy)]
 pub enum Code {
     None,
     Letters { first: u8, second: u8 },
 }
 
-#[derive(Drop)]
+#[derive(Clone, Copy)]
 pub enum Phenomena {
     Missing,
     Is {
@@ -139,19 +139,19 @@ pub enum Phenomena {
     },
 }
 
-#[derive(Drop)]
+#[derive(Clone, Copy)]
 pub struct Weather {
     pub is: Phenomena,
 }
 
 // Up to three, the first `count`.
-#[derive(Drop)]
+#[derive(Clone, Copy)]
 pub struct Weathers {
     pub items: [Weather; 3],
     pub count: usize,
 }
 
-#[derive(Drop)]
+#[derive(Clone, Copy)]
 pub enum Amount {
     None,
     Few,
@@ -160,7 +160,7 @@ pub enum Amount {
     Overcast,
 }
 
-#[derive(Drop)]
+#[derive(Clone, Copy)]
 pub enum Convective {
     None,
     Cumulonimbus,
@@ -168,7 +168,7 @@ pub enum Convective {
 }
 
 // A sky layer, its height in metres.
-#[derive(Drop)]
+#[derive(Clone, Copy)]
 pub struct Layer {
     pub amount: Amount,
     pub height: Number,
@@ -176,7 +176,7 @@ pub struct Layer {
 }
 
 // What the clouds are given as: layers, SKC, NSC, NCD, or the vertical visibility in metres.
-#[derive(Drop)]
+#[derive(Clone, Copy)]
 pub enum Cover {
     Layers,
     Clear,
@@ -186,7 +186,7 @@ pub enum Cover {
 }
 
 // Four sky layers with a count.
-#[derive(Drop)]
+#[derive(Clone, Copy)]
 pub struct Sky {
     pub cover: Cover,
     pub layers: [Layer; 4],
@@ -194,26 +194,26 @@ pub struct Sky {
 }
 
 // T/Td, in tenths of a degree
-#[derive(Drop)]
+#[derive(Clone, Copy)]
 pub struct Temperatures {
     pub air: Tenths,
     pub dew: Tenths,
 }
 
 // Q, in tenths of hPa
-#[derive(Drop)]
+#[derive(Clone, Copy)]
 pub struct Qnh {
     pub is: Number,
 }
 
 // CCCC, four letters; all 0 where it is missing.
-#[derive(Drop)]
+#[derive(Clone, Copy)]
 pub struct Station {
     pub letters: [u8; 4],
 }
 
 // YYGGggZ
-#[derive(Drop)]
+#[derive(Clone, Copy)]
 pub struct Instant {
     pub day: Number,
     pub hour: Number,
@@ -221,7 +221,7 @@ pub struct Instant {
 }
 
 // What an observation and each part of a forecast say alike: wind, visibility or CAVOK, weather, clouds.
-#[derive(Drop)]
+#[derive(Clone, Copy)]
 pub struct Body {
     pub wind: Wind,
     pub visibility: Visibility,
@@ -232,7 +232,7 @@ pub struct Body {
 }
 
 // What a METAR or SPECI observes, its head included.
-#[derive(Drop)]
+#[derive(Clone, Copy)]
 pub struct Observation {
     pub special: bool,
     pub corrected: bool,
@@ -250,14 +250,14 @@ pub struct Observation {
 }
 
 // A time of the day, GGgg.
-#[derive(Drop)]
+#[derive(Clone, Copy)]
 pub struct Moment {
     pub hour: u32,
     pub minute: u32,
 }
 
 // The times of a trend's change: FM, TL, AT, or FM and TL.
-#[derive(Drop)]
+#[derive(Clone, Copy)]
 pub enum Hours {
     None,
     From(Moment),
@@ -266,13 +266,13 @@ pub enum Hours {
     At(Moment),
 }
 
-#[derive(Drop)]
+#[derive(Clone, Copy)]
 pub struct Times {
     pub is: Hours,
 }
 
 // What opens a trend's change: BECMG or TEMPO.
-#[derive(Drop)]
+#[derive(Clone, Copy)]
 pub enum Tendency {
     None,
     Becoming,
@@ -280,7 +280,7 @@ pub enum Tendency {
 }
 
 // One change of a trend.
-#[derive(Drop)]
+#[derive(Clone, Copy)]
 pub struct TrendChange {
     pub tendency: Tendency,
     pub times: Times,
@@ -288,7 +288,7 @@ pub struct TrendChange {
 }
 
 // The trend of the next two hours: NOSIG, or up to three changes, the first `count`.
-#[derive(Drop)]
+#[derive(Clone, Copy)]
 pub struct Trend {
     pub items: [TrendChange; 3],
     pub count: usize,
@@ -296,14 +296,14 @@ pub struct Trend {
 }
 
 // A METAR, or a SPECI.
-#[derive(Drop)]
+#[derive(Clone, Copy)]
 pub struct Metar {
     pub observation: Observation,
     pub trend: Trend,
 }
 
 // AMD or COR.
-#[derive(Drop)]
+#[derive(Clone, Copy)]
 pub enum Correction {
     None,
     Amended,
@@ -312,14 +312,14 @@ pub enum Correction {
 
 // A period without minutes, YYGG/YYGG; under FM the beginning alone, with its minute. In the 2005 edition the end has no day and may be 51 to 74, as
 // written, and a change's beginning has no day either.
-#[derive(Drop)]
+#[derive(Clone, Copy)]
 pub struct Period {
     pub from: Instant,
     pub to: Instant,
 }
 
 // The main part of a TAF, or a change group's: the head is blank in a change group.
-#[derive(Drop)]
+#[derive(Clone, Copy)]
 pub struct Leg {
     pub correction: Correction,
     pub station: Station,
@@ -331,7 +331,7 @@ pub struct Leg {
 }
 
 // What opens a change group: BECMG, TEMPO, PROB30 or PROB40, the same with TEMPO, FM.
-#[derive(Drop)]
+#[derive(Clone, Copy)]
 pub enum Opening {
     None,
     Becoming,
@@ -341,7 +341,7 @@ pub enum Opening {
     From,
 }
 
-#[derive(Drop)]
+#[derive(Clone, Copy)]
 pub struct Change {
     pub opening: Opening,
     pub period: Period,
@@ -349,20 +349,20 @@ pub struct Change {
 }
 
 // Up to sixteen, the first `count`.
-#[derive(Drop)]
+#[derive(Clone, Copy)]
 pub struct Changes {
     pub items: [Change; 16],
     pub count: usize,
 }
 
 // The edition of the code form that a TAF is written in: the present one, or that of 2005, which held until November 2008.
-#[derive(Drop)]
+#[derive(Clone, Copy)]
 pub enum Edition {
     Present,
     Of2005,
 }
 
-#[derive(Drop)]
+#[derive(Clone, Copy)]
 pub struct Taf {
     pub edition: Edition,
     pub leg: Leg,

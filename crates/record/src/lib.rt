@@ -1,5 +1,7 @@
 // The record: what a report says, one struct for each code group. What may be missing is an enum, never a number of its own; whole numbers are
 // in document 01's units.
+#![tactic(auto)]
+
 pub mod aerodrome;
 pub mod blank_aerodrome;
 pub mod blank_surface;

@@ -3,21 +3,21 @@ use crate::values::{Direction, Number, Speed, Tenths};
 use scales::kinds::Rain;
 
 // A call sign, 3 to 9 letters and figures; the bytes past the length are 0, and a length of 0 is missing.
-#[derive(Drop)]
+#[derive(Clone, Copy)]
 pub struct CallSign {
     pub letters: [u8; 9],
     pub length: usize,
 }
 
 // 99LaLaLa QcLoLoLoLo: tenths of a degree, north and east positive.
-#[derive(Drop)]
+#[derive(Clone, Copy)]
 pub struct Position {
     pub latitude: Tenths,
     pub longitude: Tenths,
 }
 
 // YYGGiw: day, hour, and the unit of wind speed by its figure.
-#[derive(Drop)]
+#[derive(Clone, Copy)]
 pub struct Time {
     pub day: Number,
     pub hour: Number,
@@ -25,7 +25,7 @@ pub struct Time {
 }
 
 // A visibility in metres, on the scale of table 4377 that it is written on.
-#[derive(Drop)]
+#[derive(Clone, Copy)]
 pub enum Sight {
     Missing,
     Land(u32),
@@ -33,7 +33,7 @@ pub enum Sight {
 }
 
 // iR ix h VV: the figures of iR and ix, the height of the lowest cloud's base and the visibility in metres.
-#[derive(Drop)]
+#[derive(Clone, Copy)]
 pub struct Indicators {
     pub rain: Number,
     pub weather: Number,
@@ -42,7 +42,7 @@ pub struct Indicators {
 }
 
 // N dd ff, with 00fff.
-#[derive(Drop)]
+#[derive(Clone, Copy)]
 pub struct Wind {
     pub cover: Number,
     pub direction: Direction,
@@ -50,69 +50,69 @@ pub struct Wind {
 }
 
 // 1sTTT; in section 3 2sTTT too
-#[derive(Drop)]
+#[derive(Clone, Copy)]
 pub struct Air {
     pub temperature: Tenths,
 }
 
 // 2sTTT or 29UUU: the dew point, or the humidity in per cent.
-#[derive(Drop)]
+#[derive(Clone, Copy)]
 pub enum Moist {
     Missing,
     DewPoint(i32),
     Humidity(u32),
 }
 
-#[derive(Drop)]
+#[derive(Clone, Copy)]
 pub struct Moisture {
     pub is: Moist,
 }
 
 // 3PPPP: pressure at the station, tenths of hPa.
-#[derive(Drop)]
+#[derive(Clone, Copy)]
 pub struct Pressure {
     pub station: Number,
 }
 
 // 4PPPP or 4ahhh: pressure at sea level in tenths of hPa, or the figure of an isobaric surface and its height as three figures.
-#[derive(Drop)]
+#[derive(Clone, Copy)]
 pub enum AtLevel {
     Missing,
     Pressure(u32),
     Isobaric { level: u32, height: u32 },
 }
 
-#[derive(Drop)]
+#[derive(Clone, Copy)]
 pub struct Level {
     pub is: AtLevel,
 }
 
 // 5appp: the figure of the tendency and the change in tenths of hPa.
-#[derive(Drop)]
+#[derive(Clone, Copy)]
 pub enum PressureChange {
     Missing,
     Is { tendency: u32, change: i32 },
 }
 
-#[derive(Drop)]
+#[derive(Clone, Copy)]
 pub struct Tendency {
     pub is: PressureChange,
 }
 
 // 6RRRt: the amount, and the figure of its period.
-#[derive(Drop)]
+#[derive(Clone, Copy)]
 pub enum Fall {
     Missing,
     Is { amount: Rain, period: Number },
 }
 
-#[derive(Drop)]
+#[derive(Clone, Copy)]
 pub struct Rainfall {
     pub is: Fall,
 }
 
 // 7wwWW: present weather, and past weather twice.
-#[derive(Drop)]
+#[derive(Clone, Copy)]
 pub struct Weather {
     pub present: Number,
     pub past: Number,
@@ -120,7 +120,7 @@ pub struct Weather {
 }
 
 // 8NCCC: the amount of low or middle cloud, and the low, middle and high clouds.
-#[derive(Drop)]
+#[derive(Clone, Copy)]
 pub struct Clouds {
     pub amount: Number,
     pub low: Number,
@@ -129,19 +129,19 @@ pub struct Clouds {
 }
 
 // 9GGgg: the hour and minute of the observation.
-#[derive(Drop)]
+#[derive(Clone, Copy)]
 pub enum Observed {
     Missing,
     At { hour: u32, minute: u32 },
 }
 
-#[derive(Drop)]
+#[derive(Clone, Copy)]
 pub struct Clock {
     pub is: Observed,
 }
 
 // hh of section 3: the height of a layer's base in metres, on the scale of table 1677 that it is written on.
-#[derive(Drop)]
+#[derive(Clone, Copy)]
 pub enum BaseHeight {
     Missing,
     // by steps, 00 to 89
@@ -151,7 +151,7 @@ pub enum BaseHeight {
 }
 
 // 8NChh of section 3: the amount of a layer, the kind of its cloud, and the height of its base.
-#[derive(Drop)]
+#[derive(Clone, Copy)]
 pub struct CloudLayer {
     pub amount: Number,
     pub cloud: Number,
@@ -159,14 +159,14 @@ pub struct CloudLayer {
 }
 
 // At most four, from the first slot on.
-#[derive(Drop)]
+#[derive(Clone, Copy)]
 pub struct CloudLayers {
     pub items: [CloudLayer; 4],
     pub count: usize,
 }
 
 // Section 3, 333: the maximum, 1sTTT, the minimum, 2sTTT, and layers, 8NChh.
-#[derive(Drop)]
+#[derive(Clone, Copy)]
 pub struct Section3 {
     pub maximum: Air,
     pub minimum: Air,
@@ -174,7 +174,7 @@ pub struct Section3 {
 }
 
 // What a SYNOP or SHIP says after its place.
-#[derive(Drop)]
+#[derive(Clone, Copy)]
 pub struct Surface {
     pub indicators: Indicators,
     pub wind: Wind,
@@ -190,7 +190,7 @@ pub struct Surface {
 }
 
 // Where and when: a land station's number, or a ship's call sign and position; the time; and whether the report is NIL.
-#[derive(Drop)]
+#[derive(Clone, Copy)]
 pub struct Site {
     pub station: Number,
     pub sign: CallSign,
@@ -200,7 +200,7 @@ pub struct Site {
 }
 
 // A SYNOP, or a SHIP.
-#[derive(Drop)]
+#[derive(Clone, Copy)]
 pub struct Synop {
     pub ship: bool,
     pub site: Site,

@@ -3,21 +3,21 @@ ghost use Rattle.std.specs.Prelude.{◌≡◌, leb};
 ghost use Rattle.record.specs.Missing.{is_missing, between, present, optional, no_tenths, no_direction, no_speed, is_still};
 
 // A whole number.
-#[derive(Drop)]
+#[derive(Clone, Copy)]
 pub enum Number {
     Missing,
     Is(u32),
 }
 
 // Tenths of a degree, with their sign.
-#[derive(Drop)]
+#[derive(Clone, Copy)]
 pub enum Tenths {
     Missing,
     Is(i32),
 }
 
 // "A record's direction is calm, variable, missing or 0-359."
-#[derive(Drop)]
+#[derive(Clone, Copy)]
 pub enum Direction {
     Missing,
     Calm,
@@ -26,7 +26,7 @@ pub enum Direction {
 }
 
 // A wind speed, in the report's unit: a number, or "above" a number.
-#[derive(Drop)]
+#[derive(Clone, Copy)]
 pub enum Speed {
     Missing,
     Is(u32),

@@ -1,5 +1,7 @@
 // The library's face: the public calls. `name` says which kind of report a text is, `read` what it says, `rest` hands back its unread part, `write` writes
 // a record into a lent buffer, `standing` hands back the one of two texts that stands.
+#![tactic(auto)]
+
 ghost use Rattle.std.specs.Prelude.{◌≡◌, length};
 ghost use Rattle.report_record.specs.declared.kinds.Kind.TheVariants as kind;
 ghost use Rattle.text.specs.Groups.{groups_from};

@@ -1,1 +1,2 @@
 // What is proved of every kind of report. The theorems are in proofs/; there is no code.
+#![tactic(auto)]

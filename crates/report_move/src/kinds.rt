@@ -3,7 +3,7 @@ use report_record::kinds::Report;
 use text::kinds::Judged;
 
 // The report in the other edition; where it is refused, its record is blank.
-#[derive(Drop)]
+#[derive(Clone, Copy)]
 pub struct Moved {
     pub judged: Judged,
     pub report: Report,

@@ -1,4 +1,6 @@
 // A report moved between the editions of TAF: the public call.
+#![tactic(auto)]
+
 pub mod kinds;
 
 ghost use Rattle.std.specs.Prelude.{◌≡◌};

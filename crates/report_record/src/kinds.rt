@@ -4,7 +4,7 @@ use record::surface::Synop;
 use text::kinds::{Refusal, Verdict};
 
 // What a report is: SYNOP or SHIP, METAR or SPECI, TAF.
-#[derive(Drop)]
+#[derive(Clone, Copy)]
 pub enum Kind {
     Missing,
     Surface,
@@ -13,7 +13,7 @@ pub enum Kind {
 }
 
 // What a report says, a part for each kind; the parts that its kind does not have are blank.
-#[derive(Drop)]
+#[derive(Clone, Copy)]
 pub struct Report {
     pub kind: Kind,
     pub surface: Synop,
@@ -22,7 +22,7 @@ pub struct Report {
 }
 
 // The kind that a text's first group names, AAXX, BBXX, METAR or SPECI, TAF, and where the groups behind it begin; or the text's refusal, 1, 2 or 3.
-#[derive(Drop)]
+#[derive(Clone, Copy)]
 pub enum Name {
     Surface { ship: bool, at: usize },
     Observed { special: bool, at: usize },
@@ -30,13 +30,13 @@ pub enum Name {
     Refused { refusal: Refusal, place: usize },
 }
 
-#[derive(Drop)]
+#[derive(Clone, Copy)]
 pub struct Reading {
     pub verdict: Verdict,
     pub report: Report,
 }
 
-#[derive(Drop)]
+#[derive(Clone, Copy)]
 pub enum Stands {
     First,
     Second,

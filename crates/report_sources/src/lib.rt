@@ -1,6 +1,8 @@
 // The auditor's second question, of METAR and SPECI here, of TAF in `forecast`, of SYNOP and SHIP in `surface`: the part of a text that an item of its record was
 // read from. Each call hands back a part of the caller's text: the group; or the empty part at the text's end, where the item has no group, and of a text that is
 // refused or of another kind.
+#![tactic(auto)]
+
 pub mod forecast;
 pub mod surface;
 

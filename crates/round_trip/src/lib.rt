@@ -1,5 +1,7 @@
 // Demand 3 of the calls: a record is written, and what was written is read. Every record of the code has the arrays of its type, so that nothing is asked of
 // the caller.
+#![tactic(auto)]
+
 ghost use Rattle.std.specs.Prelude.{ℕ, ◌≡◌, length, take};
 ghost use Rattle.text.specs.declared.kinds.Written.TheVariants as answer;
 ghost use Rattle.record.specs.declared.aerodrome.Edition.TheVariants as edition;
@@ -13,7 +15,7 @@ use report_record::kinds::{Reading, Report};
 use text::kinds::Written;
 
 // What the writer answers, and what the reader makes of the bytes that were written; where the record is refused, a refused reading with a blank record.
-#[derive(Drop)]
+#[derive(Clone, Copy)]
 pub struct Back {
     pub written: Written,
     pub reading: Reading,

@@ -39,7 +39,7 @@ fn number_in(f: Field) -> Number
 }
 
 // A depth, or the group's refusal.
-#[derive(Drop)]
+#[derive(Clone, Copy)]
 enum DepthRead {
     Good(Depth),
     Bad(Refusal),
@@ -79,7 +79,7 @@ fn are_listed(deposit: Field, extent: Field, braking: Field) -> bool
 }
 
 // A state, or the group's refusal.
-#[derive(Drop)]
+#[derive(Clone, Copy)]
 enum StateRead {
     Good(RunwayState),
     Bad(Refusal),

@@ -7,7 +7,7 @@ use figures::kinds::Field;
 use record::values::Number;
 
 // Its runways, and the tables 0919, 0519 and 0366.
-#[derive(Drop)]
+#[derive(Clone, Copy)]
 pub enum Table {
     Runways,
     Deposits,

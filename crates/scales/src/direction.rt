@@ -9,7 +9,7 @@ ghost use Rattle.scales.specs.Rounded.{direction_figure, direction_reading};
 use crate::kinds::{Figure, Reading, TwoFigures};
 
 // A number from which tens are taken: how many were taken, and what is left of it.
-#[derive(Drop)]
+#[derive(Clone, Copy)]
 struct Tens {
     taken: u32,
     left: u32,

@@ -1,4 +1,6 @@
 // The scales: the figure that a value is written as, and the reading of a figure.
+#![tactic(auto)]
+
 pub mod degrees;
 pub mod depth;
 pub mod direction;

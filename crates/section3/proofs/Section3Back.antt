@@ -68,6 +68,7 @@ keep b shape spoken show put s acc a five back spoke full empty = go (show s) re
         → Kept (place_for shape spoken 1 (λ g t. told_by (air_by b) (said_air g)) show put) 5 s acc
     go [] is (none m e) sp = keep-none is refl (empty e)
     go (g ∷ []) is (one h r) sp = keep_one g is h sp.0 (sized-any 5 spoken g five sp.0) (omega arith) (rw r full)
+    go (g ∷ (_ ∷ _)) is x7 sp = elim x7 [ ]
 
 -- what has one of the three shapes and is no stop word does not stop the reading
 all_go : (gs : List Group) → All (λ g. has_any stop_words g ≡ false) gs → All (λ g. has_any own_shapes g ≡ true) gs → All (λ g. halts g ≡ false) gs

@@ -3,7 +3,7 @@ use record::surface::{Air, CloudLayer, Section3};
 use text::kinds::{Refusal, Verdict};
 
 // A group's meaning, or its refusal, 5, 7 or 9; 8//// says nothing.
-#[derive(Drop)]
+#[derive(Clone, Copy)]
 pub enum Told {
     Nothing,
     Refused(Refusal),
@@ -13,7 +13,7 @@ pub enum Told {
 }
 
 // What is read from behind 333 on: the verdict on the text, and the section that it accepts.
-#[derive(Drop)]
+#[derive(Clone, Copy)]
 pub struct Section3Read {
     pub verdict: Verdict,
     pub section3: Section3,

@@ -2,7 +2,7 @@
 use scales::kinds::Tenths;
 
 // In metres, in millimetres of a deposit, or in tenths of hPa or mm: from the least to the greatest, or from the least on where the class is open above.
-#[derive(Drop)]
+#[derive(Clone, Copy)]
 pub enum Seen {
     Between { least: u32, greatest: u32 },
     From { least: u32 },
@@ -10,21 +10,21 @@ pub enum Seen {
 }
 
 // In tenths of a degree; both unused where there is nothing.
-#[derive(Drop)]
+#[derive(Clone, Copy)]
 pub struct DegreesSeen {
     pub least: Tenths,
     pub greatest: Tenths,
 }
 
 // Of rain: a trace, or tenths of a millimetre.
-#[derive(Drop)]
+#[derive(Clone, Copy)]
 pub enum RainSeen {
     Trace,
     Tenths(Seen),
 }
 
 // On the circle: from the first direction clockwise to the last.
-#[derive(Drop)]
+#[derive(Clone, Copy)]
 pub enum Arc {
     Between { first: u32, last: u32 },
     Nothing,

@@ -1,6 +1,8 @@
 // Shapes of groups, written as text. A pattern has '#' for a figure or slash, '@' for a letter, '?' for any byte, '*' at its end for anything
 // more, and stands for itself elsewhere: "Q####". A shape has parts, with a space between them, and a part has alternatives, with '|' between
 // them, of which the first that fits stands there; the last may be nothing: "R## L|C|R| / M|P| #### U|D|N|".
+#![tactic(auto)]
+
 pub mod kinds;
 pub mod print;
 pub mod scan;

@@ -20,7 +20,7 @@ use shapes::scan::{absent, figures_or, nothing, scanned, word_or};
 use text::kinds::Refusal;
 
 // A height that may be missing, or the group's refusal.
-#[derive(Drop)]
+#[derive(Clone, Copy)]
 enum HeightRead {
     Good(Number),
     Bad(Refusal),

@@ -44,7 +44,7 @@ pub record MayHave {M P W : Type 0} (route : Route M P W) (limit : ℕ) (Is : �
 -- the groups of one part
 went-each : {R : Type 0} (Is : ℕ → Spot → Type 0) (row : List (Place R)) (halts : Group → Bool) (m : ℕ)
     → ((i : ℕ) → PlaceIs (λ j n. Is m (spot.At j n)) i (place_at row i))
-    → {c n c₁ k₁ : ℕ} {r r₁ : R} {left gs : List Piece} {es : List Entry} → Went row halts c₁ k₁ r₁ left c n r gs es
+    → {c₁ k₁ : ℕ} {r₁ : R} {left : List Piece} {c n : ℕ} {r : R} {gs : List Piece} {es : List Entry} → Went row halts c₁ k₁ r₁ left c n r gs es
     → EachTaken (SpotIs Is) (map (as_taken m) es)
 went-each Is row halts m place done = tt
 went-each Is row halts m place {c} {n} {r = r} (on {i = j} {n = l} {r' = r'} {g = g} t e w) =
@@ -63,7 +63,7 @@ module _ {T M P W : Type 0} (route : Route M P W) (word : T → Group → Word W
   Goes of n t (g ∷ gs) = turned (more n) t g gs (of t g.bytes) ≡ Done rest whole
 
   -- a part is read as from its last group on
-  went-runs : {R : Type 0} (part : Part T P W R) (n : ℕ) {c k c₁ k₁ : ℕ} {r r₁ : R} {left gs : List Piece} {es : List Entry}
+  went-runs : {R : Type 0} (part : Part T P W R) (n : ℕ) {c₁ k₁ : ℕ} {r₁ : R} {left : List Piece} {c k : ℕ} {r : R} {gs : List Piece} {es : List Entry}
       → Went part.row part.halts c₁ k₁ r₁ left c k r gs es → part_from tail end part (more n) c k r gs ≡ part_from tail end part (more n) c₁ k₁ r₁ left
   unfolding run_to
   went-runs part n done = refl

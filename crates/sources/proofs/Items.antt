@@ -13,7 +13,7 @@ use Rattle.places.specs.Engine.{Group, Read, Good, Place, place_at}
 use Rattle.places.specs.Parts.{Begun, Word, Ends, Opens}
 use Rattle.sources.specs.declared.kinds.Spot.{Spot}
 use Rattle.sources.specs.declared.kinds.Spot.TheVariants as spot
-use Rattle.sources.specs.Trail.{Taken, same_spot_lem, Origin, nowhere, group, origin_in}
+use Rattle.sources.specs.Trail.{Taken, same_spot, Origin, nowhere, group, origin_in}
 use Rattle.sources.specs.Route.{Route}
 use Rattle.sources.proofs.Rows.{Entry, Went, done, on, went-pieces, Item, If, Told, shape-told, item-told}
 use Rattle.sources.proofs.Parts.{as_taken, main_of, parts_of, Opened, After, over, stop, one, two, Follows, Read-on}
@@ -100,7 +100,7 @@ module _ {T M P W : Type 0} (route : Route M P W) (word : T → Group → Word W
   Ahead end rest whole m t gs xs = After route word main_takes main_lacks takes lacks end rest whole m t gs xs
 
   -- the parts after part m hold no group of it or of one before it
-  none-later : {end rest m : ℕ} {whole t : T} {gs : List Piece} {xs : List Taken} → Ahead end rest whole m t gs xs → (q : ℕ) (s : Spot) → q ≤ m → origin_in q s xs ≡ nowhere
+  none-later : {end rest : ℕ} {whole : T} {m : ℕ} {t : T} {gs : List Piece} {xs : List Taken} → Ahead end rest whole m t gs xs → (q : ℕ) (s : Spot) → q ≤ m → origin_in q s xs ≡ nowhere
   unfolding origin_in
   none-later (over a b) q s h = refl
   none-later (stop is a b) q s h = refl
@@ -121,7 +121,7 @@ module _ {T M P W : Type 0} (route : Route M P W) (word : T → Group → Word W
 
   module _ {A : Type 0} {i k : ℕ} {get : T → A} {inner : M → A} {says : Group → A → Type 0} {fair : M → Type 0} {missing : A} (item : Item route.main i k inner says fair missing)
       (takes-in : (r : M) → get (main_takes r) ≡ inner r) (aside : (t : T) (w : W) (p : P) → get (takes t w p) ≡ get t) where
-    after-aside : {end rest m : ℕ} {whole t : T} {gs : List Piece} {xs : List Taken} → Ahead end rest whole m t gs xs → get whole ≡ get t
+    after-aside : {end rest : ℕ} {whole : T} {m : ℕ} {t : T} {gs : List Piece} {xs : List Taken} → Ahead end rest whole m t gs xs → get whole ≡ get t
     after-aside (over a b) = ap get b
     after-aside (stop is a b) = ap get b
     after-aside {t = t} (one {w = w} {p' = p'} is plain went halted after) = after-aside after ∙ aside t w p'
@@ -151,7 +151,7 @@ module _ {T M P W : Type 0} (route : Route M P W) (word : T → Group → Word W
   choose q n false e f h = h e
 
   module _ {A : Type 0} {q : ℕ} {get : T → A} {inv : ℕ → T → Type 0} (beside : Beside q get inv) where
-    after_kept : {end rest m : ℕ} {whole t : T} {gs : List Piece} {xs : List Taken} → Ahead end rest whole m t gs xs → inv m t → q ≤ m → get whole ≡ get t
+    after_kept : {end rest : ℕ} {whole : T} {m : ℕ} {t : T} {gs : List Piece} {xs : List Taken} → Ahead end rest whole m t gs xs → inv m t → q ≤ m → get whole ≡ get t
     after_kept (over a b) v h = ap get b
     after_kept (stop is a b) v h = ap get b
     after_kept {m = m} {t = t} (one {w = w} {p = p} {p' = p'} is plain went halted after) v h =
@@ -179,18 +179,18 @@ module _ {T M P W : Type 0} (route : Route M P W) (word : T → Group → Word W
       opening-here m g xs e = rw (eq-eqb q m e)
 
       -- THE ITEM THAT A PART'S WORD SAYS is what the word's definition says of its source, or missing where there is no such part.
-      pub word-stems : {end rest m : ℕ} {whole t : T} {gs : List Piece} {xs : List Taken} → Ahead end rest whole m t gs xs → inv m t → m < q → get t ≡ missing
+      pub word-stems : {end rest : ℕ} {whole : T} {m : ℕ} {t : T} {gs : List Piece} {xs : List Taken} → Ahead end rest whole m t gs xs → inv m t → m < q → get t ≡ missing
           → Worded whole (origin_in q spot.Opening xs)
       unfolding origin_in
       word-stems (over a b) v h blank = absent (ap get b ∙ blank)
       word-stems (stop is a b) v h blank = absent (ap get b ∙ blank)
-      word-stems {m = m} {whole = whole} {t = t} (one {w = w} {p = p} {p' = p'} {g = g} {es = es} {xs = xs} is plain went halted after) v h blank =
+      word-stems {whole = whole} {m = m} {t = t} (one {w = w} {p = p} {p' = p'} {g = g} {es = es} {xs = xs} is plain went halted after) v h blank =
           choose q (m + 1) (eqb q (m + 1)) refl
           (λ e. subst (Worded whole) (sym (opening-here (m + 1) g (map (as_taken (m + 1)) es ++ xs) e))
           (from g (subst (says g.bytes) (sym (after_kept after (beside.next m t w p p' v (alone is)) (omega arith))) (opener.opens m t g.bytes w p p' v e blank is went))))
           (λ e. subst (Worded whole) (sym (past-group q (m + 1) spot.Opening spot.Opening g (map (as_taken (m + 1)) es ++ xs) e ∙ past-part q (m + 1) spot.Opening es xs e))
           (word-stems after (beside.next m t w p p' v (alone is)) (omega (arith, eqb-false q (m + 1) e)) (beside.aside m t w p p' v (alone is) e ∙ blank)))
-      word-stems {m = m} {whole = whole} {t = t} (two {w = w} {p = p} {p' = p'} {g = g} {h = h'} {es = es} {xs = xs} is joins went halted after) v h blank =
+      word-stems {whole = whole} {m = m} {t = t} (two {w = w} {p = p} {p' = p'} {g = g} {h = h'} {es = es} {xs = xs} is joins went halted after) v h blank =
           choose q (m + 1) (eqb q (m + 1)) refl
           (λ e. subst (Worded whole) (sym (opening-here (m + 1) g (record { part = m + 1; spot = spot.Joined; piece = h' } ∷ (map (as_taken (m + 1)) es ++ xs)) e))
           (from g (subst (says g.bytes) (sym (after_kept after (beside.next m t (route.joined w) p p' v (joined is joins)) (omega arith)))
@@ -233,18 +233,18 @@ module _ {T M P W : Type 0} (route : Route M P W) (word : T → Group → Word W
           go (e ∷ es) = never (eqb q m) e.piece _ ∙ go es
 
       -- THE ITEM THAT A GROUP SAYS WHICH BELONGS TO A PART'S WORD is what it says by itself, or missing where there is none.
-      pub joined-stems : {end rest m : ℕ} {whole t : T} {gs : List Piece} {xs : List Taken} → Ahead end rest whole m t gs xs → inv m t → m < q → get t ≡ missing
+      pub joined-stems : {end rest : ℕ} {whole : T} {m : ℕ} {t : T} {gs : List Piece} {xs : List Taken} → Ahead end rest whole m t gs xs → inv m t → m < q → get t ≡ missing
           → Belonging whole (origin_in q spot.Joined xs)
       unfolding origin_in
       joined-stems (over a b) v h blank = absent (ap get b ∙ blank)
       joined-stems (stop is a b) v h blank = absent (ap get b ∙ blank)
-      joined-stems {m = m} {whole = whole} {t = t} (one {w = w} {p = p} {p' = p'} {g = g} {es = es} {xs = xs} is plain went halted after) v h blank =
+      joined-stems {whole = whole} {m = m} {t = t} (one {w = w} {p = p} {p' = p'} {g = g} {es = es} {xs = xs} is plain went halted after) v h blank =
           subst (Belonging whole) (sym (joined-past (m + 1) g es xs))
           (choose q (m + 1) (eqb q (m + 1)) refl
           (λ e. subst (Belonging whole) (sym (none-later after q spot.Joined (omega arith)))
           (absent (after_kept after (beside.next m t w p p' v (alone is)) (omega arith) ∙ joiner.alone m t g.bytes w p p' v e is)))
           (λ e. joined-stems after (beside.next m t w p p' v (alone is)) (omega (arith, eqb-false q (m + 1) e)) (beside.aside m t w p p' v (alone is) e ∙ blank)))
-      joined-stems {m = m} {whole = whole} {t = t} (two {w = w} {p = p} {p' = p'} {g = g} {h = h'} {es = es} {xs = xs} is joins went halted after) v h blank =
+      joined-stems {whole = whole} {m = m} {t = t} (two {w = w} {p = p} {p' = p'} {g = g} {h = h'} {es = es} {xs = xs} is joins went halted after) v h blank =
           choose q (m + 1) (eqb q (m + 1)) refl
           (λ e. subst (Belonging whole) (sym (joined-here (m + 1) g h' (map (as_taken (m + 1)) es ++ xs) e))
           (from h' (subst (says h'.bytes) (sym (after_kept after (beside.next m t (route.joined w) p p' v (joined is joins)) (omega arith)))
@@ -284,16 +284,16 @@ module _ {T M P W : Type 0} (route : Route M P W) (word : T → Group → Word W
         with_part = choose q (m + 1) (eqb q (m + 1)) refl this-part (λ e. rw (past-part q (m + 1) (spot.At i k) es xs e) (rest-said e))
 
       -- THE ITEM OF A PART is what its place says of its source, or missing.
-      pub part-stems : {end rest m : ℕ} {whole t : T} {gs : List Piece} {xs : List Taken} → Ahead end rest whole m t gs xs → inv m t → m < q → get t ≡ missing
+      pub part-stems : {end rest : ℕ} {whole : T} {m : ℕ} {t : T} {gs : List Piece} {xs : List Taken} → Ahead end rest whole m t gs xs → inv m t → m < q → get t ≡ missing
           → Said whole (origin_in q (spot.At i k) xs)
       unfolding origin_in
       part-stems (over a b) v h blank = absent (ap get b ∙ blank)
       part-stems (stop is a b) v h blank = absent (ap get b ∙ blank)
-      part-stems {m = m} {whole = whole} {t = t} (one {w = w} {p = p} {p' = p'} {g = g} {es = es} {xs = xs} is plain went halted after) v h blank =
+      part-stems {whole = whole} {m = m} {t = t} (one {w = w} {p = p} {p' = p'} {g = g} {es = es} {xs = xs} is plain went halted after) v h blank =
           subst (Said whole) (sym (skip-opening q (m + 1) i k g (map (as_taken (m + 1)) es ++ xs)))
           (with_part (alone is) v blank went after
           (λ e. part-stems after (beside.next m t w p p' v (alone is)) (omega (arith, eqb-false q (m + 1) e)) (beside.aside m t w p p' v (alone is) e ∙ blank)))
-      part-stems {m = m} {whole = whole} {t = t} (two {w = w} {p = p} {p' = p'} {g = g} {h = h'} {es = es} {xs = xs} is joins went halted after) v h blank =
+      part-stems {whole = whole} {m = m} {t = t} (two {w = w} {p = p} {p' = p'} {g = g} {h = h'} {es = es} {xs = xs} is joins went halted after) v h blank =
           subst (Said whole)
           (sym (skip-opening q (m + 1) i k g (record { part = m + 1; spot = spot.Joined; piece = h' } ∷ (map (as_taken (m + 1)) es ++ xs))
           ∙ skip-joined q (m + 1) i k h' (map (as_taken (m + 1)) es ++ xs)))
@@ -301,7 +301,7 @@ module _ {T M P W : Type 0} (route : Route M P W) (word : T → Group → Word W
           (λ e. part-stems after (beside.next m t (route.joined w) p p' v (joined is joins)) (omega (arith, eqb-false q (m + 1) e))
           (beside.aside m t (route.joined w) p p' v (joined is joins) e ∙ blank)))
 
-  after-covers : {end rest m : ℕ} {whole t : T} {gs : List Piece} {xs : List Taken} → Ahead end rest whole m t gs xs → Covers end rest gs xs
+  after-covers : {end rest : ℕ} {whole : T} {m : ℕ} {t : T} {gs : List Piece} {xs : List Taken} → Ahead end rest whole m t gs xs → Covers end rest gs xs
   after-covers (over a b) = record { left = []; all = refl; begins = a }
   after-covers (stop {g = g} {gs = gs} is a b) = record { left = g ∷ gs; all = refl; begins = a }
   after-covers {m = m} (one {w = w} {es = es} {xs = xs} is plain went halted after) =

@@ -12,7 +12,7 @@ use Rattle.places.specs.Engine.{Group, Place}
 use Rattle.places.specs.Parts.{Word}
 use Rattle.sources.specs.declared.kinds.Spot.{Spot}
 use Rattle.sources.specs.declared.kinds.Spot.TheVariants as spot
-use Rattle.sources.specs.Trail.{Taken, same_spot_lem, group, origin_in}
+use Rattle.sources.specs.Trail.{Taken, same_spot, group, origin_in}
 use Rattle.sources.specs.Route.{Route}
 use Rattle.sources.proofs.Rows.{Entry, Went, done, on, Past, past_next, past-taken}
 use Rattle.sources.proofs.Parts.{as_taken, main_of, After, over, stop, one, two, Read-on}
@@ -35,7 +35,7 @@ each_append P [] ys u v = v
 each_append P (x ∷ xs) ys (p, ps) v = (p, each_append P xs ys ps v)
 
 abbrev same : Taken → Taken → Bool
-same y x = eqb y.part x.part && same_spot_lem y.spot x.spot
+same y x = eqb y.part x.part && same_spot y.spot x.spot
 
 -- no group of the list was taken where x was; no two were taken at one spot
 abbrev pub Apart : Taken → List Taken → Type 0
@@ -48,7 +48,7 @@ Distinct (x ∷ xs) = Apart x xs × Distinct xs
 pub apart-append : (x : Taken) (xs ys : List Taken) → Apart x xs → Apart x ys → Apart x (xs ++ ys)
 apart-append x = each_append (λ y. same y x ≡ false)
 
-same_spot_lem : (s : Spot) → same_spot_lem s s ≡ true
+same_spot_lem : (s : Spot) → same_spot s s ≡ true
 same_spot_lem spot.Opening = refl
 same_spot_lem spot.Joined = refl
 same_spot_lem (spot.At i k) = rw (eq-eqb i i refl, eq-eqb k k refl)
@@ -78,7 +78,7 @@ and-false true b e = e
 and-false false b e = refl
 
 module _ {R : Type 0} (row : List (Place R)) (halts : Group → Bool) (m : ℕ) where
-  past-apart : {i k c n c₁ k₁ : ℕ} {r r₁ : R} {left gs : List Piece} {es : List Entry} (g : Piece) → Past row halts i k c n → Went row halts c₁ k₁ r₁ left c n r gs es
+  past-apart : {i k c₁ k₁ : ℕ} {r₁ : R} {left : List Piece} {c n : ℕ} {r : R} {gs : List Piece} {es : List Entry} (g : Piece) → Past row halts i k c n → Went row halts c₁ k₁ r₁ left c n r gs es
       → Apart (record { part = m; spot = spot.At i k; piece = g }) (map (as_taken m) es)
   past-apart g p done = tt
   past-apart {i} {k} {c} {n} g p (on {i = j} {n = l} {g = h} t e w) =
@@ -86,7 +86,7 @@ module _ {R : Type 0} (row : List (Place R)) (halts : Group → Bool) (m : ℕ) 
       let turned : (eqb j i && eqb l k) ≡ false = rw (flip j i, flip l k) other in
       (and-false (eqb m m) (eqb j i && eqb l k) turned, past-apart g q w)
 
-  pub went-distinct : {c n c₁ k₁ : ℕ} {r r₁ : R} {left gs : List Piece} {es : List Entry} → Went row halts c₁ k₁ r₁ left c n r gs es → Distinct (map (as_taken m) es)
+  pub went-distinct : {c₁ k₁ : ℕ} {r₁ : R} {left : List Piece} {c n : ℕ} {r : R} {gs : List Piece} {es : List Entry} → Went row halts c₁ k₁ r₁ left c n r gs es → Distinct (map (as_taken m) es)
   went-distinct done = tt
   went-distinct {c} {n} (on {i = j} {n = l} {g = h} t e w) = (past-apart h (past-taken row halts j l c n h.bytes t) w, went-distinct w)
 
@@ -114,12 +114,12 @@ distinct_append m (e ∷ es) xs (a, d) v l =
     (apart-append (as_taken m e) (map (as_taken m) es) xs a (later-apart m (as_taken m e) refl xs l), distinct_append m es xs d v l)
 
 -- a word is at no place
-word-apart : (m : ℕ) (s : Spot) (g : Piece) → ((i k : ℕ) → same_spot_lem (spot.At i k) s ≡ false) → (es : List Entry) → Apart (record { part = m; spot = s; piece = g }) (map (as_taken m) es)
+word-apart : (m : ℕ) (s : Spot) (g : Piece) → ((i k : ℕ) → same_spot (spot.At i k) s ≡ false) → (es : List Entry) → Apart (record { part = m; spot = s; piece = g }) (map (as_taken m) es)
 word-apart m s g never [] = tt
-word-apart m s g never (e ∷ es) = (and-false (eqb m m) (same_spot_lem (spot.At e.place e.count) s) (never e.place e.count), word-apart m s g never es)
+word-apart m s g never (e ∷ es) = (and-false (eqb m m) (same_spot (spot.At e.place e.count) s) (never e.place e.count), word-apart m s g never es)
 
 -- nor is it of a later part
-pub beside : (m : ℕ) (s : Spot) (g : Piece) (es : List Entry) (xs : List Taken) → Later (m + 1) xs → ((i k : ℕ) → same_spot_lem (spot.At i k) s ≡ false)
+pub beside : (m : ℕ) (s : Spot) (g : Piece) (es : List Entry) (xs : List Taken) → Later (m + 1) xs → ((i k : ℕ) → same_spot (spot.At i k) s ≡ false)
     → Apart (record { part = m + 1; spot = s; piece = g }) (map (as_taken (m + 1)) es ++ xs)
 beside m s g es xs l never =
     apart-append (record { part = m + 1; spot = s; piece = g }) (map (as_taken (m + 1)) es) xs (word-apart (m + 1) s g never es)
@@ -127,7 +127,7 @@ beside m s g es xs l never =
 
 module _ {T M P W : Type 0} (route : Route M P W) (word : T → Group → Word W P) (main_takes : M → T) (main_lacks : M → Bool) (takes : T → W → P → T)
     (lacks : T → W → P → Bool) where
-  after-distinct : {end rest m : ℕ} {whole t : T} {gs : List Piece} {xs : List Taken} → After route word main_takes main_lacks takes lacks end rest whole m t gs xs
+  after-distinct : {end rest : ℕ} {whole : T} {m : ℕ} {t : T} {gs : List Piece} {xs : List Taken} → After route word main_takes main_lacks takes lacks end rest whole m t gs xs
       → Distinct xs × Later m xs
   after-distinct (over a b) = (tt, tt)
   after-distinct (stop is a b) = (tt, tt)

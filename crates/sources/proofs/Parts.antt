@@ -286,7 +286,7 @@ module _ {T M P W : Type 0} (route : Route M P W) (word : T → Group → Word W
         go false = refl
 
     -- the groups of a part, and then those left
-    main-walked : (w : W) {c k c₁ k₁ : ℕ} {r r₁ : M} {gs left : List Piece} {es : List Entry} → Went route.main route.main_halts c₁ k₁ r₁ left c k r gs es
+    main-walked : (w : W) {c₁ k₁ : ℕ} {r₁ : M} {left : List Piece} {c k : ℕ} {r : M} {gs : List Piece} {es : List Entry} → Went route.main route.main_halts c₁ k₁ r₁ left c k r gs es
         → walked (mark 0 w c k) gs ≡ map (as_taken 0) es ++ walked (mark 0 w c₁ k₁) left
     unfolding trail
     main-walked w done = refl
@@ -296,7 +296,7 @@ module _ {T M P W : Type 0} (route : Route M P W) (word : T → Group → Word W
     plain-after w c n [] = tt
     plain-after w c n (g ∷ gs) = not-front (route.joins w g.bytes) c n
 
-    part-walked : (m : ℕ) (w : W) {c k c₁ k₁ : ℕ} {r r₁ : P} {gs left : List Piece} {es : List Entry}
+    part-walked : (m : ℕ) (w : W) {c₁ k₁ : ℕ} {r₁ : P} {left : List Piece} {c k : ℕ} {r : P} {gs : List Piece} {es : List Entry}
         → Went (route.row w) route.halts c₁ k₁ r₁ left c k r gs es → Plain w c k gs
         → (walked (mark (m + 1) w c k) gs ≡ map (as_taken (m + 1)) es ++ walked (mark (m + 1) w c₁ k₁) left) × Plain w c₁ k₁ left
     unfolding trail
@@ -322,7 +322,7 @@ module _ {T M P W : Type 0} (route : Route M P W) (word : T → Group → Word W
     plain-once w [] = tt
     plain-once w (g ∷ gs) = once w g.bytes
 
-    after-walked : {end rest m : ℕ} {whole t : T} {gs : List Piece} {xs : List Taken} → After end rest whole m t gs xs → (w : W) (c k : ℕ) → AtWord (mark m w c k) gs
+    after-walked : {end rest : ℕ} {whole : T} {m : ℕ} {t : T} {gs : List Piece} {xs : List Taken} → After end rest whole m t gs xs → (w : W) (c k : ℕ) → AtWord (mark m w c k) gs
         → walked (mark m w c k) gs ≡ xs
     unfolding trail
     after-walked (over a b) w c k at = refl

@@ -106,7 +106,7 @@ module _ {R : Type 0} (row : List (Place R)) (halts : Group → Bool) where
         → Went c₁ k₁ r₁ left c k r (g ∷ gs) (record { place = i; count = n; piece = g } ∷ es)
 
   -- no group is lost: those taken, then those left
-  pub went-pieces : {c₁ k₁ c k : ℕ} {r₁ r : R} {left gs : List Piece} {es : List Entry} → Went c₁ k₁ r₁ left c k r gs es
+  pub went-pieces : {c₁ k₁ : ℕ} {r₁ : R} {left : List Piece} {c k : ℕ} {r : R} {gs : List Piece} {es : List Entry} → Went c₁ k₁ r₁ left c k r gs es
       → gs ≡ map (λ (e : Entry). e.piece) es ++ left
   went-pieces done = refl
   went-pieces (on {g = g} t e w) = ap (λ (l : List Piece). g ∷ l) (went-pieces w)
@@ -137,7 +137,7 @@ Told says missing i k [] = missing
 Told says missing i k (e ∷ es) = If (eqb i e.place && eqb k e.count) (says e.piece) (Told says missing i k es)
 
 -- A GROUP THAT WAS TAKEN AT A PLACE HAS ITS SHAPE.
-pub shape-told : {R : Type 0} (row : List (Place R)) (halts : Group → Bool) {missing : Type 0} {c₁ k₁ c n : ℕ} {r₁ r : R} {left gs : List Piece} {es : List Entry} (i k : ℕ)
+pub shape-told : {R : Type 0} (row : List (Place R)) (halts : Group → Bool) {missing : Type 0} {c₁ k₁ : ℕ} {r₁ : R} {left : List Piece} {c n : ℕ} {r : R} {gs : List Piece} {es : List Entry} (i k : ℕ)
     → Went row halts c₁ k₁ r₁ left c n r gs es → missing → Told (λ g. (place_at row i).has g.bytes ≡ true) missing i k es
 shape-told row halts i k done none = none
 shape-told row halts {missing} {c = c} {n = n} i k (on {i = j} {n = m} {g = g} {es = es} t e w) none = go (eqb i j) (eqb k m) refl (shape-told row halts i k w none)

@@ -16,7 +16,7 @@ use Rattle.places.specs.Engine.{Group}
 use Rattle.sources.specs.declared.kinds.Spot.{Spot}
 use Rattle.sources.specs.declared.kinds.Source.{Source}
 use Rattle.sources.specs.declared.kinds.Source.TheVariants as source
-use Rattle.sources.specs.Trail.{Taken, same_spot_lem, Origin, nowhere, group, origin_in, source_of}
+use Rattle.sources.specs.Trail.{Taken, same_spot, Origin, nowhere, group, origin_in, source_of}
 use Rattle.sources.proofs.Walks.{length_part}
 use Rattle.sources.proofs.Items.{Stems, from, absent, Covers}
 
@@ -60,7 +60,7 @@ module _ (t : List ℕ) where
   taken-lie : (xs : List Taken) (left : List Piece) → AllLie (map (λ (x : Taken). x.piece) xs ++ left) → (q : ℕ) (s : Spot) (g : Piece) → origin_in q s xs ≡ group g → Lies g
   unfolding origin_in
   taken-lie [] left l q s g e = impossible (cc)
-  taken-lie (x ∷ xs) left (l, ls) q s g e = go (eqb q x.part && same_spot_lem s x.spot) (taken-lie xs left ls q s g) e
+  taken-lie (x ∷ xs) left (l, ls) q s g e = go (eqb q x.part && same_spot s x.spot) (taken-lie xs left ls q s g) e
     where
       go : (b : Bool) → (origin_in q s xs ≡ group g → Lies g) → cond b (group x.piece) (origin_in q s xs) ≡ group g → Lies g
       go true rest e = let same : x.piece ≡ g = cc in subst Lies same l

@@ -14,7 +14,7 @@ use Rattle.sources.specs.declared.kinds.Spot.{Spot}
 use Rattle.sources.specs.declared.kinds.Spot.TheVariants as spot
 use Rattle.sources.specs.declared.kinds.Source.{Source}
 use Rattle.sources.specs.declared.kinds.Source.TheVariants as source
-use Rattle.sources.specs.Trail.{Mark, Move, Takes, Opens, Joins, Ends, front, trail, same_spot_lem, Origin, nowhere, group, origin_in, source_of}
+use Rattle.sources.specs.Trail.{Mark, Move, Takes, Opens, Joins, Ends, front, trail, same_spot, Origin, nowhere, group, origin_in, source_of}
 
 -- how many bytes a part has
 pub length_part : (t : List ℕ) (at s e : ℕ) → Follows t at s e → s + length (part_of t s e) ≡ e
@@ -39,29 +39,29 @@ module _ {W : Type 0} (move : Mark W → Group → Move W) (q : ℕ) (s : Spot) 
       found = ap (source.Group from) (sym (length_part t at from to f))
 
       module _ {i n past : ℕ} (is : move m (part_of t from to) ≡ Takes i n past) where
-        pub takes-found : (eqb q m.part && same_spot_lem s (spot.At i n)) ≡ true → source.Group from to ≡ looked m at
+        pub takes-found : (eqb q m.part && same_spot s (spot.At i n)) ≡ true → source.Group from to ≡ looked m at
         unfolding looked trail origin_in
         takes-found e = rw (f.groups, is, e) found
 
-        pub takes-on : (eqb q m.part && same_spot_lem s (spot.At i n)) ≡ false
+        pub takes-on : (eqb q m.part && same_spot s (spot.At i n)) ≡ false
             → looked (record { part = m.part; word = m.word; place = past; count = n + 1 }) to ≡ looked m at
         unfolding looked trail origin_in
         takes-on e = rw (f.groups, is, e)
 
       module _ {w : W} (is : move m (part_of t from to) ≡ Opens w) where
-        pub opens-found : (eqb q (m.part + 1) && same_spot_lem s spot.Opening) ≡ true → source.Group from to ≡ looked m at
+        pub opens-found : (eqb q (m.part + 1) && same_spot s spot.Opening) ≡ true → source.Group from to ≡ looked m at
         unfolding looked trail origin_in
         opens-found e = rw (f.groups, is, e) found
 
-        pub opens-on : (eqb q (m.part + 1) && same_spot_lem s spot.Opening) ≡ false → looked (front (m.part + 1) w) to ≡ looked m at
+        pub opens-on : (eqb q (m.part + 1) && same_spot s spot.Opening) ≡ false → looked (front (m.part + 1) w) to ≡ looked m at
         unfolding looked trail origin_in
         opens-on e = rw (f.groups, is, e)
 
       module _ {w : W} (is : move m (part_of t from to) ≡ Joins w) where
-        pub joins-found : (eqb q m.part && same_spot_lem s spot.Joined) ≡ true → source.Group from to ≡ looked m at
+        pub joins-found : (eqb q m.part && same_spot s spot.Joined) ≡ true → source.Group from to ≡ looked m at
         unfolding looked trail origin_in
         joins-found e = rw (f.groups, is, e) found
 
-        pub joins-on : (eqb q m.part && same_spot_lem s spot.Joined) ≡ false → looked (front m.part w) to ≡ looked m at
+        pub joins-on : (eqb q m.part && same_spot s spot.Joined) ≡ false → looked (front m.part w) to ≡ looked m at
         unfolding looked trail origin_in
         joins-on e = rw (f.groups, is, e)

@@ -51,16 +51,16 @@ module _ {W : Type 0} where
 
 -- ---- the group that an item was read from
 
-abbrev pub same_spot_lem : Spot → Spot → Bool
-same_spot_lem spot.Opening spot.Opening = true
-same_spot_lem spot.Opening spot.Joined = false
-same_spot_lem spot.Opening (spot.At i k) = false
-same_spot_lem spot.Joined spot.Opening = false
-same_spot_lem spot.Joined spot.Joined = true
-same_spot_lem spot.Joined (spot.At i k) = false
-same_spot_lem (spot.At i k) spot.Opening = false
-same_spot_lem (spot.At i k) spot.Joined = false
-same_spot_lem (spot.At i k) (spot.At j n) = eqb i j && eqb k n
+abbrev pub same_spot : Spot → Spot → Bool
+same_spot spot.Opening spot.Opening = true
+same_spot spot.Opening spot.Joined = false
+same_spot spot.Opening (spot.At i k) = false
+same_spot spot.Joined spot.Opening = false
+same_spot spot.Joined spot.Joined = true
+same_spot spot.Joined (spot.At i k) = false
+same_spot (spot.At i k) spot.Opening = false
+same_spot (spot.At i k) spot.Joined = false
+same_spot (spot.At i k) (spot.At j n) = eqb i j && eqb k n
 
 -- the first group of a trail that was taken at a spot of a part, if any
 pub data Origin : Type 0 where
@@ -69,7 +69,7 @@ pub data Origin : Type 0 where
 
 unfoldable pub origin_in : ℕ → Spot → List Taken → Origin
 origin_in part s [] = nowhere
-origin_in part s (x ∷ xs) = cond (eqb part x.part && same_spot_lem s x.spot) (group x.piece) (origin_in part s xs)
+origin_in part s (x ∷ xs) = cond (eqb part x.part && same_spot s x.spot) (group x.piece) (origin_in part s xs)
 
 -- by where it stands in its text
 abbrev pub source_of : Origin → Source

@@ -2,7 +2,7 @@
 
 // Within its part: the word that opened the part, a word that belongs to it (TEMPO after PROB30), or a place of the part's row, where so many groups
 // stood already.
-#[derive(Drop)]
+#[derive(Clone, Copy)]
 pub enum Spot {
     Opening,
     Joined,
@@ -10,7 +10,7 @@ pub enum Spot {
 }
 
 // A group of a text, from start up to end; or there is none.
-#[derive(Drop)]
+#[derive(Clone, Copy)]
 pub enum Source {
     None,
     Group { start: usize, end: usize },

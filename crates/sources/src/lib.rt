@@ -1,4 +1,6 @@
 // The groups of a report by where they were taken: what the walks over each kind's texts share.
+#![tactic(auto)]
+
 pub mod kinds;
 
 ghost use Rattle.std.specs.Prelude.{◌≡◌, length};

@@ -59,7 +59,7 @@ use Rattle.text.specs.declared.kinds.Judged.TheVariants as judged
 use Rattle.text.specs.Judge.{judge}
 use Rattle.text.proofs.Judging.{fine}
 use Rattle.synop_groups.specs.Reads.{Group, wrong, may_miss, used_rain, speed_is, said_speed, pressure_of, is_level, air_is, said_air, moisture_is, said_moisture, said_pressure, level_is, said_level, tendency_is, said_tendency, said_rainfall, said_weather, said_clouds, clock_is, said_clock}
-use Rattle.synop_groups.specs.Shows.{moisture_spoken, field_of, is_in_three, speed_group, show_speed, sign_text_lem, signed_group, show_air, show_minimum, minimum_spoken, moist_group, show_moisture, pressure_group, show_pressure, level_group, show_level, tendency_group, show_tendency, rainfall_group, show_rainfall, weather_text, show_weather, clouds_text, show_clouds, clock_group, show_clock}
+use Rattle.synop_groups.specs.Shows.{moisture_spoken, field_of, is_in_three, speed_group, show_speed, sign_text, signed_group, show_air, show_minimum, minimum_spoken, moist_group, show_moisture, pressure_group, show_pressure, level_group, show_level, tendency_group, show_tendency, rainfall_group, show_rainfall, weather_text, show_weather, clouds_text, show_clouds, clock_group, show_clock}
 use Rattle.record.specs.Missing.{between, optional}
 use Rattle.record.specs.SilentSurface.{no_weather, no_clouds, no_fall}
 use Rattle.record.proofs.SurfaceBlanks.{weather-blank, clouds-blank}
@@ -136,7 +136,7 @@ split a n h = (omega arith, omega arith)
 abbrev sign_figure : ℤ → ℕ
 sign_figure t = cond (negative t) 1 0
 
-sign_text_lem : (t : ℤ) → nat_abs t ≤ 999 → sign_text_lem t ≡ figures 4 (sign_figure t * 1000 + nat_abs t)
+sign_text_lem : (t : ℤ) → nat_abs t ≤ 999 → sign_text t ≡ figures 4 (sign_figure t * 1000 + nat_abs t)
 unfolding figures
 sign_text_lem (pos n) h = figures-join 1 3 0 n (omega arith)
 sign_text_lem (negsuc n) h = figures-join 1 3 1 (suc n) (omega arith)
@@ -161,7 +161,7 @@ signed_back x f a e = go a.temperature e
     go (signed.Is t) e =
         let h = leb-true (nat_abs t) 999 (fine _ true e).0 in
         four-back said.Air blank_surface.air (record { temperature = signed.Is t }) (said.Air blank_surface.air) air_is x
-        (sign_figure t * 1000 + nat_abs t) (sign_text_lem t) f (sign_small t h) (sign_text_lem t h) (rw (signed-field t h))
+        (sign_figure t * 1000 + nat_abs t) (sign_text t) f (sign_small t h) (sign_text_lem t h) (rw (signed-field t h))
 
 pub air-back : (a : Air) → judge_air a ≡ judged.Fine → Back (bytes "1####") false said_air said.Air blank_surface.air a (show_air a)
 unfolding show_air
@@ -200,7 +200,7 @@ moisture-back m e = go m.is e
     go (moist.DewPoint t) e =
         let h = leb-true (nat_abs t) 999 (fine _ true e).0 in
         four-back said.Moisture blank_surface.moisture (record { is = moist.DewPoint t }) absent moisture_is 50
-        (sign_figure t * 1000 + nat_abs t) (sign_text_lem t) refl (sign_small t h) (sign_text_lem t h) (dew-read t h)
+        (sign_figure t * 1000 + nat_abs t) (sign_text t) refl (sign_small t h) (sign_text_lem t h) (dew-read t h)
     go (moist.Humidity u) e =
         let h = leb-true u 100 (fine _ true e).0 in
         four-back said.Moisture blank_surface.moisture (record { is = moist.Humidity u }) absent moisture_is 50

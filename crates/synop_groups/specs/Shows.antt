@@ -69,8 +69,8 @@ signed_value signed.Missing = pos 0
 signed_value (signed.Is t) = t
 
 -- sTTT: the sign's figure and three figures
-abbrev pub sign_text_lem : ℤ → List ℕ
-sign_text_lem t = cond (negative t) (bytes "1") (bytes "0") ++ figures 3 (nat_abs t)
+abbrev pub sign_text : ℤ → List ℕ
+sign_text t = cond (negative t) (bytes "1") (bytes "0") ++ figures 3 (nat_abs t)
 
 -- ---- the groups through Nddff
 
@@ -136,14 +136,14 @@ show_speed w = speed_group w.speed
 -- a first figure and sTTT
 abbrev pub signed_group : ℕ → Signed → List Group
 signed_group first signed.Missing = []
-signed_group first (signed.Is t) = (first ∷ sign_text_lem t) ∷ []
+signed_group first (signed.Is t) = (first ∷ sign_text t) ∷ []
 
 unfoldable pub show_air : Air → List Group
 show_air a = signed_group 49 a.temperature
 
 abbrev pub moist_group : Moist → List Group
 moist_group moist.Missing = []
-moist_group (moist.DewPoint t) = (bytes "2" ++ sign_text_lem t) ∷ []
+moist_group (moist.DewPoint t) = (bytes "2" ++ sign_text t) ∷ []
 moist_group (moist.Humidity u) = (bytes "29" ++ figures 3 u) ∷ []
 
 -- a dew point is written with the sign 0 or 1, a humidity with 9: no such group is the stop word 222 with two more characters

@@ -6,7 +6,7 @@ use record::surface::{
 use text::kinds::Refusal;
 
 // A group's meaning, or its refusal, 5 or 7.
-#[derive(Drop)]
+#[derive(Clone, Copy)]
 pub enum Said {
     Refused(Refusal),
     Time(Time),

@@ -18,7 +18,7 @@ use scales::kinds::{RainReading, Reading};
 use text::kinds::Refusal;
 
 // A part of a group that may be missing, or has a wrong figure.
-#[derive(Drop)]
+#[derive(Clone, Copy)]
 enum Part {
     Known(Number),
     Wrong,
@@ -184,7 +184,7 @@ fn base_at(g: &[u8]) -> Part
 }
 
 // A visibility that may be missing, or has a wrong figure.
-#[derive(Drop)]
+#[derive(Clone, Copy)]
 enum Seen {
     Known(Sight),
     Wrong,
@@ -577,7 +577,7 @@ pub fn read_clock(g: &[u8]) -> Said
 }
 
 // The height of a layer's base that may be missing, or has a wrong figure.
-#[derive(Drop)]
+#[derive(Clone, Copy)]
 enum Based {
     Known(BaseHeight),
     Wrong,

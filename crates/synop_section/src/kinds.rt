@@ -3,21 +3,21 @@ use record::surface::{Surface, Synop};
 use text::kinds::Verdict;
 
 // The record is blank where the text is refused.
-#[derive(Drop)]
+#[derive(Clone, Copy)]
 pub struct Reading {
     pub verdict: Verdict,
     pub report: Synop,
 }
 
 // What follows section 1: the end of the reading, or section 3, `at` behind 333.
-#[derive(Drop)]
+#[derive(Clone, Copy)]
 pub enum Next {
     End(Verdict),
     Section3 { at: usize },
 }
 
 // What is read of section 1: the surface, and what follows it.
-#[derive(Drop)]
+#[derive(Clone, Copy)]
 pub struct SectionRead {
     pub next: Next,
     pub surface: Surface,

@@ -81,7 +81,7 @@ in_all : (b : Bool) (n c d : ℕ) → cond b (suc c) c ≡ d → n + d ≤ 4 →
 in_all true n c d e h = omega arith
 in_all false n c d e h = omega arith
 
-third-count : {c₁ k₁ c k : ℕ} {s₁ s : Section3} {left gs : List Piece} {es : List Entry} → Went third.row third.halts c₁ k₁ s₁ left c k s gs es
+third-count : {c₁ k₁ : ℕ} {s₁ : Section3} {left : List Piece} {c k : ℕ} {s : Section3} {gs : List Piece} {es : List Entry} → Went third.row third.halts c₁ k₁ s₁ left c k s gs es
     → s.layers.count ≤ 4 → count_layers (map (as_taken 1) es ++ []) + s.layers.count ≤ 4
 third-count done h = omega arith
 third-count {s = s} (on {i = i} {n = m} {r' = s'} {g = g} {es = es} t e w) h =

@@ -189,7 +189,7 @@ module _ (n : Needs) where
           rw d.puts (in-two-three a.wind d.value (sym due ∙ d.so.0) d.so.1, d.so.0 ∙ sym (le-leb 99 d.value d.so.1))
       wind false is = let same : a'.wind ≡ a.wind = row-only j m g a a' e 0 is in (ap wind_in_two same, due ∙ ap (λ (w : Wind). is_in_three w.speed) (sym same))
 
-  pub section-kept : {c₁ k₁ c k : ℕ} {s₁ s : Surface} {left gs : List Piece} {es : List Entry} → Went (row n) (has_any stop_words) c₁ k₁ s₁ left c k s gs es
+  pub section-kept : {c₁ k₁ : ℕ} {s₁ : Surface} {left : List Piece} {c k : ℕ} {s : Surface} {gs : List Piece} {es : List Entry} → Went (row n) (has_any stop_words) c₁ k₁ s₁ left c k s gs es
       → n.speed ≡ is_in_three s.wind.speed → (s₁.indicators ≡ s.indicators) × (wind_in_two s₁.wind ≡ wind_in_two s.wind)
   section-kept done due = (refl, refl)
   section-kept {s = s} (on {i = i} {n = m} {r' = s'} {g = g} t e w) due =

@@ -259,7 +259,7 @@ module _ (ship : Bool) where
       go (turn.Refused f) = refl
 
   module _ (n : Needs) where
-    first-walked : {c₁ k₁ c k : ℕ} {s₁ s : Surface} {left gs : List Piece} {es : List Entry} → Went (row n) (has_any stop_words) c₁ k₁ s₁ left c k s gs es → c < 10
+    first-walked : {c₁ k₁ : ℕ} {s₁ : Surface} {left : List Piece} {c k : ℕ} {s : Surface} {gs : List Piece} {es : List Entry} → Went (row n) (has_any stop_words) c₁ k₁ s₁ left c k s gs es → c < 10
         → (walked 0 c k gs ≡ map (as_taken 0) es ++ walked 0 c₁ k₁ left) × (c₁ < 10)
     unfolding trail
     first-walked done h = (refl, h)
@@ -273,7 +273,7 @@ module _ (ship : Bool) where
   unfolding move
   third-move c k g u e = rw e
 
-  third-walked : {c₁ k₁ c k : ℕ} {s₁ s : Section3} {left gs : List Piece} {es : List Entry} → Went third.row third.halts c₁ k₁ s₁ left c k s gs es
+  third-walked : {c₁ k₁ : ℕ} {s₁ : Section3} {left : List Piece} {c k : ℕ} {s : Section3} {gs : List Piece} {es : List Entry} → Went third.row third.halts c₁ k₁ s₁ left c k s gs es
       → walked 1 c k gs ≡ map (as_taken 1) es ++ walked 1 c₁ k₁ left
   unfolding trail
   third-walked done = refl
@@ -330,6 +330,6 @@ sections-distinct {r = r} d =
 pub sections-low : {end rest : ℕ} {r whole : Synop} {gs : List Piece} (d : Sections end rest r whole gs) → EachLow d.entries
 sections-low {r = r} d = low (needs_of r.surface) d.went
   where
-    low : (n : Needs) {c₁ k₁ c k : ℕ} {s₁ s : Surface} {left gs : List Piece} {es : List Entry} → Went (row n) (has_any stop_words) c₁ k₁ s₁ left c k s gs es → EachLow es
+    low : (n : Needs) {c₁ k₁ : ℕ} {s₁ : Surface} {left : List Piece} {c k : ℕ} {s : Surface} {gs : List Piece} {es : List Entry} → Went (row n) (has_any stop_words) c₁ k₁ s₁ left c k s gs es → EachLow es
     low n done = tt
     low n {c = c} {k = k} (on {i = i} {n = m} {g = g} t e w) = (rw (row-length n) at (turn-within (row n) (has_any stop_words) c k g.bytes i m t).0, low n w)

@@ -188,7 +188,7 @@ pub change-goes : (e : Edition) (text : List ℕ) (n : ℕ) (o b : Opening) (p :
     → ReadAhead n (body_from e text n b p to) a → ReadAhead n (change_from e text n o p at) a
 unfolding change_from body_from
 change-goes e text n o b p at to begins ahead =
-    record { more = ahead.more; items = ahead.items; count = ahead.count; says = λ t q. (begins e).reads _ t (set_period p blank_leg) ∙ ahead.says t q }
+    record { more = ahead.more; items = ahead.items; count = ahead.count; says = λ t q. (begins e).reads (more_after e text (n + 1)) t (set_period p blank_leg) ∙ ahead.says t q }
 
 -- ---- the main part, from behind the name on
 

@@ -4,21 +4,21 @@ use taf_row::kinds::Part;
 use text::kinds::{Refusal, Verdict};
 
 // What a change word opens, with the period that FMYYGGgg or FMGGgg gives, or the word's refusal.
-#[derive(Drop)]
+#[derive(Clone, Copy)]
 pub enum Opened {
     Good { opening: Opening, period: Period },
     Bad(Refusal),
 }
 
 // What opens a change, TEMPO with PROB30 or PROB40 too, and where its part begins.
-#[derive(Drop)]
+#[derive(Clone, Copy)]
 pub struct Start {
     pub opening: Opening,
     pub at: usize,
 }
 
 // What a part begins with: which part it is, how many groups have stood at its first place, and the period that its word gave, blank where it gave none.
-#[derive(Drop)]
+#[derive(Clone, Copy)]
 pub struct Outset {
     pub part: Part,
     pub stood: usize,
@@ -26,7 +26,7 @@ pub struct Outset {
 }
 
 // What follows a part: the end of the reading, or a change, `at` behind its word.
-#[derive(Drop)]
+#[derive(Clone, Copy)]
 pub enum Next {
     End(Verdict),
     Change {
@@ -36,14 +36,14 @@ pub enum Next {
     },
 }
 
-#[derive(Drop)]
+#[derive(Clone, Copy)]
 pub struct PartRead {
     pub next: Next,
     pub leg: Leg,
 }
 
 // What is read from a change on: the verdict on the text, and the changes, those before it still blank.
-#[derive(Drop)]
+#[derive(Clone, Copy)]
 pub struct Ahead {
     pub verdict: Verdict,
     pub items: [Change; 16],
@@ -51,7 +51,7 @@ pub struct Ahead {
 }
 
 // The record is blank where the text is refused.
-#[derive(Drop)]
+#[derive(Clone, Copy)]
 pub struct Reading {
     pub verdict: Verdict,
     pub report: Taf,

@@ -3,7 +3,7 @@
 use Prim.Native.Nat.{ℕ, ◌≤◌}
 use native.Mathlib.Omega.{arith}
 use mathlib.Core.Path.{◌≡◌, refl}
-use mathlib.Core.Bool.{Bool, true, false, cond, ◌&&◌, ◌||◌, false≢true}
+use mathlib.Core.Bool.{Bool, true, false, ◌&&◌, ◌||◌, false≢true}
 use mathlib.Core.Logic.{◌⊎◌, ⊎_elim, inl, inr}
 use lib.Dec.{leb}
 use borrow.Author.Tests.{leb-true, le-leb, lt-leb}
@@ -24,7 +24,7 @@ use Rattle.aerodrome_groups.specs.Head.{is_day, is_hour, is_minute}
 use Rattle.taf_row.specs.declared.kinds.Form.TheVariants as form
 use Rattle.taf_row.specs.Row.{own_form, change_form, is_end_hour}
 use Rattle.taf.specs.Read.{is_chance}
-use Rattle.taf.specs.Write.{is_hour_of, is_hour_alone, period_fits, from_fits, opening_fits}
+use Rattle.taf.specs.Write.{period_fits, from_fits, opening_fits}
 use Rattle.taf_times.specs.Times.{is_from}
 use Rattle.taf_times.specs.Move.{days_in}
 use Rattle.taf_times.proofs.Arithmetic.{InMonth}

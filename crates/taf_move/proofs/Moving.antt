@@ -1,7 +1,7 @@
 -- The move, in the order in which the code judges.
 -- Assumes nothing.
 use Prim.Native.Nat.{ℕ}
-use mathlib.Core.Path.{◌≡◌, sym, ◌∙◌}
+use mathlib.Core.Path.{◌≡◌}
 use Rattle.text.specs.declared.kinds.Refusal.{Refusal}
 use Rattle.text.specs.declared.kinds.Judged.TheVariants as judged
 use Rattle.record.specs.declared.aerodrome.Edition.{Edition}

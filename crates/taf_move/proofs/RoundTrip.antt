@@ -16,7 +16,7 @@ use Rattle.record.specs.declared.aerodrome.Edition.TheVariants as edition
 use Rattle.record.specs.declared.aerodrome.Taf.{Taf}
 use Rattle.record.specs.SilentAerodrome.{is_same_edition}
 use Rattle.record.proofs.AerodromeBlanks.{edition-same, same-edition}
-use Rattle.taf.specs.Write.{judge_of, judge_in, canonical_of}
+use Rattle.taf.specs.Write.{judge_of, judge_in}
 use Rattle.taf_times.specs.declared.kinds.MovedTaf.{MovedTaf}
 use Rattle.taf_times.specs.Move.{counted, judge_times, moments_of, whole_of, moved_change, moved_changes, times_in, moved_by}
 use Rattle.taf_times.specs.Midnight.{midnights_before}

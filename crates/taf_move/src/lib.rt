@@ -1,4 +1,6 @@
 // A TAF moved between the 2005 edition and the present one.
+#![tactic(auto)]
+
 ghost use Rattle.std.specs.Prelude.{◌≡◌};
 ghost use Rattle.taf_move.specs.Move.{other, taf_moved};
 

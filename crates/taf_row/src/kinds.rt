@@ -1,5 +1,5 @@
 // Where a part of a TAF stands: the main part, under a change word with a period, or under FM.
-#[derive(Drop)]
+#[derive(Clone, Copy)]
 pub enum Part {
     Main,
     Changing,
@@ -7,7 +7,7 @@ pub enum Part {
 }
 
 // How a period is written: with the days of its beginning and its end, with the day of its beginning alone, or with hours alone.
-#[derive(Drop)]
+#[derive(Clone, Copy)]
 pub enum Form {
     BothDays,
     FirstDay,

@@ -129,10 +129,13 @@ module _ (e : Edition) where
   started t _ p (joined {g} {h} {v} is joins) = go v p (opened-so e g v p (word-opens e t g v p is)) (joined-so v h joins).0
     where
       go : (v : Opening) (p : Leg) → OpenedSo v p → JoinedSo v → StartedSo (after_probable v) p
+      go _ _ becoming x5 = elim x5 [ ]
+      go _ _ temporary x6 = elim x6 [ ]
       go _ _ probable probably = hourly refl
+      go _ _ (from {d = d} {m = m}) x7 = elim x7 [ ]
 
   -- a group's period has no minutes
-  no-minute-read : (w : Part) {c n c₁ k₁ : ℕ} {p p' : Leg} {gs left : List Piece} {es : List Entry} → Went (row e w) (has_any (change_words e)) c₁ k₁ p' left c n p gs es
+  no-minute-read : (w : Part) {c₁ k₁ : ℕ} {p' : Leg} {left : List Piece} {c n : ℕ} {p : Leg} {gs : List Piece} {es : List Entry} → Went (row e w) (has_any (change_words e)) c₁ k₁ p' left c n p gs es
       → p.period.from.minute ≡ number.Missing → p'.period.from.minute ≡ number.Missing
   no-minute-read w done none = none
   no-minute-read w {p = p} (on {i = i} {n = m} {r' = r} {g = g} t is v) none = no-minute-read w v (go i p.period r.period none (period-done e w i m g.bytes p r is))
@@ -143,11 +146,11 @@ module _ (e : Edition) where
       go i x _ none (with_none five six) = none
 
   -- under FM no group says one
-  period-kept : {c n c₁ k₁ : ℕ} {p p' : Leg} {gs left : List Piece} {es : List Entry} → Went (row e part.From) (has_any (change_words e)) c₁ k₁ p' left c n p gs es
+  period-kept : {c₁ k₁ : ℕ} {p' : Leg} {left : List Piece} {c n : ℕ} {p : Leg} {gs : List Piece} {es : List Entry} → Went (row e part.From) (has_any (change_words e)) c₁ k₁ p' left c n p gs es
       → p'.period ≡ p.period
   unfolding row
   period-kept done = refl
-  period-kept {c} {n} {p = p} (on {i = i} {n = m} {r' = r} {g = g} t is v) =
+  period-kept {c = c} {n = n} {p = p} (on {i = i} {n = m} {r' = r} {g = g} t is v) =
       period-kept v ∙ go i p.period r.period (turn-within (row e part.From) (has_any (change_words e)) c n g.bytes i m t).1 (period-done e part.From i m g.bytes p r is)
     where
       go : (i : ℕ) (x y : Period) → m < (place_at (row e part.From) i).most → PeriodDone e part.From g.bytes x i y → y ≡ x
@@ -256,7 +259,10 @@ module _ (e : Edition) where
 
     both_so : (w : Opening) (p p' : Leg) → OpenedSo w p → JoinedSo w
         → ◌≡◌ {A = Begun Opening Leg} (record { kind = w; start = p }) (record { kind = first_word (after_probable w); start = set_period (beginning_of (change_of (after_probable w) p')) blank_leg })
+    both_so _ _ p' becoming x4 = elim x4 [ ]
+    both_so _ _ p' temporary x5 = elim x5 [ ]
     both_so _ _ p' probable probably = refl
+    both_so _ _ p' (from {d = d} {h = h} {m = m}) x6 = elim x6 [ ]
 
     word-opener : Opener (route e) (coming e) (begun e) main_lacks takes lacks (beside word_of) (WordSaid e) no_word
     word-opener =

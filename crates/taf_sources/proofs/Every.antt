@@ -1,7 +1,7 @@
 -- EVERY GROUP OF A TAF UP TO THE UNREAD REST IS THE SOURCE OF AN ITEM: of its main part, of a change, of the word that opened it, or of TEMPO that belongs to
 -- that word. In either edition.
 -- Assumes nothing.
-use Prim.Native.Nat.{ℕ, ◌≤◌, ◌<◌}
+use Prim.Native.Nat.{ℕ, ◌<◌}
 use native.Mathlib.Omega.{arith}
 use mathlib.Core.Path.{◌≡◌, refl, sym, ap, subst}
 use mathlib.Core.Bool.{Bool, true, false, cond, false≢true}

@@ -1,6 +1,6 @@
 -- WHERE THE ITEMS OF A TAF'S MAIN PART WERE READ FROM, in a text whose groups come to a record; and that its trail holds every group up to the unread rest.
 -- Assumes nothing.
-use Prim.Native.Nat.{ℕ, ◌+◌, ◌<◌}
+use Prim.Native.Nat.{ℕ, ◌<◌}
 use mathlib.Core.Path.{◌≡◌, refl, sym, subst}
 use mathlib.Core.Bool.{Bool, not}
 use mathlib.Core.List.{List, ◌++◌, map}

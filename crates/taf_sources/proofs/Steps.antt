@@ -26,7 +26,7 @@ use Rattle.taf_row.proofs.Rows.{row-few}
 use Rattle.taf.specs.Read.{after_probable, part_of}
 use Rattle.sources.specs.declared.kinds.Spot.{Spot}
 use Rattle.sources.specs.declared.kinds.Source.TheVariants as source
-use Rattle.sources.specs.Trail.{Mark, Move, Takes, Opens, Joins, Ends, same_spot_lem}
+use Rattle.sources.specs.Trail.{Mark, Move, Takes, Opens, Joins, Ends, same_spot}
 use Rattle.sources.specs.Route.{move_by, move_on}
 use Rattle.sources.proofs.Walks.{looked, looked-over, looked-ends, takes-found, takes-on, opens-found, opens-on, joins-found, joins-on}
 use Rattle.taf_sources.specs.declared.kinds.Step.{Step}
@@ -87,9 +87,9 @@ module _ (e : Edition) (t : List ℕ) (from q : ℕ) (o : Opening) (c k : ℕ) w
   pub record Stepped (x : Step) : Type 0 where
     pub follows : Follows t from x.start x.end
     pub few : x.parts ≤ 1
-    pub found : (p : ℕ) (s : Spot) → (eqb p (q + x.parts) && same_spot_lem s x.spot) ≡ true
+    pub found : (p : ℕ) (s : Spot) → (eqb p (q + x.parts) && same_spot s x.spot) ≡ true
         → source.Group x.start x.end ≡ looked (move_on (route e)) p s t m from
-    pub on : (p : ℕ) (s : Spot) → (eqb p (q + x.parts) && same_spot_lem s x.spot) ≡ false
+    pub on : (p : ℕ) (s : Spot) → (eqb p (q + x.parts) && same_spot s x.spot) ≡ false
         → looked (move_on (route e)) p s t (mark_at (q + x.parts) x.opener x.place x.count) x.end ≡ looked (move_on (route e)) p s t m from
 
   abbrev MetSo : Met → Type 0

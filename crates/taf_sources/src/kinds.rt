@@ -4,7 +4,7 @@ use sources::kinds::Spot;
 
 // A group that was taken: so many parts further on (1 where it opens one), at which spot there, and where it stands in the text. Then what opened that part,
 // and at which place of its row reading stands behind the group, where so many stand.
-#[derive(Drop)]
+#[derive(Clone, Copy)]
 pub struct Step {
     pub parts: usize,
     pub spot: Spot,
@@ -16,14 +16,14 @@ pub struct Step {
 }
 
 // The next group, or the walk is over.
-#[derive(Drop)]
+#[derive(Clone, Copy)]
 pub enum Met {
     Over,
     Group(Step),
 }
 
 // An item of a TAF's main part, by the group that says it. Weather and clouds may be several.
-#[derive(Drop)]
+#[derive(Clone, Copy)]
 pub enum Element {
     Name,
     Correction,
@@ -39,7 +39,7 @@ pub enum Element {
 }
 
 // An item of a change group, behind its word. Weather and clouds may be several; under FM the word says when it begins, and there is no period.
-#[derive(Drop)]
+#[derive(Clone, Copy)]
 pub enum ChangeElement {
     Period,
     Wind,

@@ -1,4 +1,6 @@
 // TAF, in the present edition and in that of 2005: the part of a text that an item was read from.
+#![tactic(auto)]
+
 pub mod kinds;
 
 ghost use Rattle.std.specs.Prelude.{◌≡◌};

@@ -3,14 +3,14 @@ use record::aerodrome::Taf;
 use text::kinds::Judged;
 
 // From one moment to another, in minutes from the beginning of the day before the first of the starting month.
-#[derive(Drop)]
+#[derive(Clone, Copy)]
 pub struct Span {
     pub from: u32,
     pub to: u32,
 }
 
 // The TAF in the other edition; where it is refused, 11 or 15, it is blank.
-#[derive(Drop)]
+#[derive(Clone, Copy)]
 pub struct MovedTaf {
     pub judged: Judged,
     pub forecast: Taf,

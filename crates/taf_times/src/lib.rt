@@ -1,4 +1,6 @@
 // The times of a TAF, moved to the other edition.
+#![tactic(auto)]
+
 pub mod kinds;
 mod moments;
 mod times;

@@ -1,4 +1,6 @@
 // Cutting a text: its bytes and length judged, its groups one after the other with their places, what follows the "=", the trimmed part.
+#![tactic(auto)]
+
 pub mod judge;
 pub mod kinds;
 pub mod write;
@@ -62,7 +64,7 @@ pub fn is_allowed(b: u8) -> bool
 }
 
 // The kinds of bytes that a run over a text goes by.
-#[derive(Drop)]
+#[derive(Clone, Copy)]
 enum Run {
     // Bytes that part groups.
     Parting,

@@ -4,20 +4,20 @@ use text::kinds::Verdict;
 use trend_row::kinds::Word;
 
 // What follows the observation or a part of the trend: the end of the reading, or a part, `at` behind its word.
-#[derive(Drop)]
+#[derive(Clone, Copy)]
 pub enum Next {
     End(Verdict),
     Part { word: Word, at: usize },
 }
 
-#[derive(Drop)]
+#[derive(Clone, Copy)]
 pub struct PartRead {
     pub next: Next,
     pub change: TrendChange,
 }
 
 // What is read from the trend's first word on: the verdict on the text, and the trend.
-#[derive(Drop)]
+#[derive(Clone, Copy)]
 pub struct Ahead {
     pub verdict: Verdict,
     pub trend: Trend,

@@ -1,5 +1,5 @@
 // What opens a part of a trend, and what a time of a change stands behind.
-#[derive(Drop)]
+#[derive(Clone, Copy)]
 pub enum Word {
     Nosig,
     Becoming,
@@ -7,7 +7,7 @@ pub enum Word {
 }
 
 // FM, TL, AT.
-#[derive(Drop)]
+#[derive(Clone, Copy)]
 pub enum Mark {
     From,
     Until,

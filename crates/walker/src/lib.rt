@@ -1,5 +1,7 @@
 // A walker: it holds the lent report and a position in it, and gives one group at a time. The functions over it are thin: each takes the walker
 // apart and leaves the work to a function over the plain text, `text::next_group`, `after` or `bytes_at`.
+#![tactic(auto)]
+
 ghost use Rattle.std.specs.Prelude.{◌≡◌};
 ghost use Rattle.text.specs.Groups.{next_of};
 ghost use Rattle.text.specs.Part.{PartAt};
@@ -7,7 +9,7 @@ ghost use Rattle.walker.specs.Walk.{start_of, after_of};
 
 use text::kinds::Cut;
 
-#[derive(Drop)]
+#[derive(Clone, Copy)]
 pub struct Walker<'a> {
     // The whole report.
     pub text: &'a [u8],

@@ -25,7 +25,7 @@ use Rattle.record.specs.declared.aerodrome.Code.TheVariants as code
 use Rattle.record.specs.declared.aerodrome.Phenomena.{Phenomena}
 use Rattle.record.specs.declared.aerodrome.Phenomena.TheVariants as phenomena
 use Rattle.record.specs.declared.aerodrome.Weather.{Weather}
-use Rattle.elements.specs.Weather.{signed_codes, has_weather, has_recent, all_among, listed, under, code_at, said_weather, has_unknown, unless_unknown, read_weather, is_plain, read_recent, sign_text_lem, phenomena_text, show_weather, show_recent, gapless, is_described, intensity_fits, phenomena_fit, judge_weather, judge_recent}
+use Rattle.elements.specs.Weather.{signed_codes, has_weather, has_recent, all_among, listed, under, code_at, said_weather, has_unknown, unless_unknown, read_weather, is_plain, read_recent, sign_text, phenomena_text, show_weather, show_recent, gapless, is_described, intensity_fits, phenomena_fit, judge_weather, judge_recent}
 use Rattle.record.specs.SilentAerodrome.{no_phenomena}
 use Rattle.weather.specs.Split.{told}
 use Rattle.weather.proofs.Readings.{weather-of}
@@ -59,13 +59,13 @@ letter-inner x h =
 letter-allowed : (x : ℕ) → is_letter x ≡ true → allowed x ≡ true
 letter-allowed x h = rw h
 
-sign-inner : (i : Intensity) → Every inner (sign_text_lem i)
+sign-inner : (i : Intensity) → Every inner (sign_text i)
 sign-inner intensity.None = tt
 sign-inner intensity.Light = (refl, tt)
 sign-inner intensity.Heavy = (refl, tt)
 sign-inner intensity.Vicinity = (refl, (refl, tt))
 
-sign-allowed : (i : Intensity) → Every allowed (sign_text_lem i)
+sign-allowed : (i : Intensity) → Every allowed (sign_text i)
 sign-allowed intensity.None = tt
 sign-allowed intensity.Light = (refl, tt)
 sign-allowed intensity.Heavy = (refl, tt)
@@ -103,14 +103,14 @@ module _ (i : Intensity) (d a b c : Code) (f : phenomena_fit (phenomena.Is i d a
       rw (text-spelt i d a b c, said-spelt i (listed d rest) coded some, fit-joined i d rest fitted.0 fitted.2, fitted.2, weather-of i d rest, (codes-kept a b c fitted.1).0, (codes-kept a b c fitted.1).1, (codes-kept a b c fitted.1).2)
 
   text-inner : Every inner (phenomena_text (phenomena.Is i d a b c))
-  text-inner = rw (text-spelt i d a b c) (every_append inner (sign_text_lem i) (spelt (listed d rest)) (sign-inner i) (spelt-every inner letter-inner (listed d rest) coded))
+  text-inner = rw (text-spelt i d a b c) (every_append inner (sign_text i) (spelt (listed d rest)) (sign-inner i) (spelt-every inner letter-inner (listed d rest) coded))
 
   text-allowed : Every allowed (phenomena_text (phenomena.Is i d a b c))
-  text-allowed = rw (text-spelt i d a b c) (every_append allowed (sign_text_lem i) (spelt (listed d rest)) (sign-allowed i) (spelt-every allowed letter-allowed (listed d rest) coded))
+  text-allowed = rw (text-spelt i d a b c) (every_append allowed (sign_text i) (spelt (listed d rest)) (sign-allowed i) (spelt-every allowed letter-allowed (listed d rest) coded))
 
   -- the sign and two letters for each code
-  text-length : length (phenomena_text (phenomena.Is i d a b c)) ≡ length (sign_text_lem i) + 2 * length (listed d rest)
-  text-length = rw (text-spelt i d a b c, length-append (sign_text_lem i) (spelt (listed d rest)), spelt-length (listed d rest) coded)
+  text-length : length (phenomena_text (phenomena.Is i d a b c)) ≡ length (sign_text i) + 2 * length (listed d rest)
+  text-length = rw (text-spelt i d a b c, length-append (sign_text i) (spelt (listed d rest)), spelt-length (listed d rest) coded)
 
   filled : 1 ≤ length (phenomena_text (phenomena.Is i d a b c))
   filled = omega (arith, text-length, some)
@@ -121,7 +121,7 @@ module _ (i : Intensity) (d a b c : Code) (f : phenomena_fit (phenomena.Is i d a
   nine : length (phenomena_text (phenomena.Is i d a b c)) ≤ 9
   nine = rw text-length (go i fitted.2)
     where
-      go : (i : Intensity) → intensity_fits i (under d rest) ≡ true → length (sign_text_lem i) + 2 * length (listed d rest) ≤ 9
+      go : (i : Intensity) → intensity_fits i (under d rest) ≡ true → length (sign_text i) + 2 * length (listed d rest) ≤ 9
       go intensity.None e = omega (arith, four)
       go intensity.Light e = omega (arith, four)
       go intensity.Heavy e = omega (arith, four)

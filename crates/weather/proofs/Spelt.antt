@@ -18,7 +18,7 @@ use Rattle.record.specs.declared.aerodrome.Intensity.TheVariants as intensity
 use Rattle.record.specs.declared.aerodrome.Code.{Code}
 use Rattle.record.specs.declared.aerodrome.Code.TheVariants as code
 use Rattle.record.specs.declared.aerodrome.Phenomena.TheVariants as phenomena
-use Rattle.elements.specs.Weather.{codes_of, one, is_code, are_codes, some_codes, signed_codes, all_among, listed, said_weather, code_text, sign_text_lem, phenomena_text}
+use Rattle.elements.specs.Weather.{codes_of, one, is_code, are_codes, some_codes, signed_codes, all_among, listed, said_weather, code_text, sign_text, phenomena_text}
 use Rattle.weather.specs.Split.{told}
 use Rattle.weather.proofs.Table.{in_table}
 use Rattle.weather.proofs.Fits.{joins, is_joined}
@@ -34,7 +34,7 @@ spelt-listed code.None cs = refl
 spelt-listed (code.Letters x y) cs = refl
 
 -- a record's text is its codes one after the other
-pub text-spelt : (i : Intensity) (d a b c : Code) → phenomena_text (phenomena.Is i d a b c) ≡ sign_text_lem i ++ spelt (listed d (listed a (listed b (listed c []))))
+pub text-spelt : (i : Intensity) (d a b c : Code) → phenomena_text (phenomena.Is i d a b c) ≡ sign_text i ++ spelt (listed d (listed a (listed b (listed c []))))
 text-spelt i d a b c =
     rw (spelt-listed d (listed a (listed b (listed c []))), spelt-listed a (listed b (listed c [])), spelt-listed b (listed c []), spelt-listed c [])
     (simp (append_assoc, append-nil))
@@ -120,7 +120,7 @@ module _ (P : List (List ℕ) → Type 0) (k : (a b : ℕ) (ds : List (List ℕ)
   by_first (c ∷ ds) h n =
       by-letters (λ c. all_among is_joined (c ∷ ds) ≡ true → P (c ∷ ds)) (λ a b j. k a b ds j) c (both (is_joined c) (all_among is_joined ds) h).0 h
 
-pub no-slashes : (i : Intensity) (ds : List (List ℕ)) → all_among is_joined ds ≡ true → 1 ≤ length ds → has_pattern (sign_text_lem i ++ spelt ds) (bytes "//") ≡ false
+pub no-slashes : (i : Intensity) (ds : List (List ℕ)) → all_among is_joined ds ≡ true → 1 ≤ length ds → has_pattern (sign_text i ++ spelt ds) (bytes "//") ≡ false
 unfolding has_pattern fits low high
 no-slashes intensity.None ds h n =
     by_first (λ ds. has_pattern (spelt ds) (bytes "//") ≡ false) (λ a b ds j h. rw (not-slash a b j, and-false (leb 47 a))) ds h n
@@ -128,7 +128,7 @@ no-slashes intensity.Light ds h n = refl
 no-slashes intensity.Heavy ds h n = refl
 no-slashes intensity.Vicinity ds h n = refl
 
-pub shape-spelt : (i : Intensity) (ds : List (List ℕ)) → all_among is_joined ds ≡ true → 1 ≤ length ds → signed_codes (sign_text_lem i ++ spelt ds) ≡ true
+pub shape-spelt : (i : Intensity) (ds : List (List ℕ)) → all_among is_joined ds ≡ true → 1 ≤ length ds → signed_codes (sign_text i ++ spelt ds) ≡ true
 unfolding signed_codes are_codes codes_of
 shape-spelt intensity.None ds h n =
     by_first (λ ds. signed_codes (spelt ds) ≡ true) (λ a b ds j h. rw (not-plus a b j, not-minus a b j) (some-spelt ((a ∷ b ∷ []) ∷ ds) h (omega arith))) ds h n
@@ -136,7 +136,7 @@ shape-spelt intensity.Light ds h n = some-spelt ds h n
 shape-spelt intensity.Heavy ds h n = some-spelt ds h n
 shape-spelt intensity.Vicinity ds h n = rw (lt-ltb 0 (length (86 ∷ 67 ∷ spelt ds)) (omega arith)) (codes_all ds h)
 
-pub said-spelt : (i : Intensity) (ds : List (List ℕ)) → all_among is_joined ds ≡ true → 1 ≤ length ds → said_weather (sign_text_lem i ++ spelt ds) ≡ told i ds
+pub said-spelt : (i : Intensity) (ds : List (List ℕ)) → all_among is_joined ds ≡ true → 1 ≤ length ds → said_weather (sign_text i ++ spelt ds) ≡ told i ds
 unfolding said_weather told
 said-spelt intensity.None ds h n =
     by_first (λ ds. said_weather (spelt ds) ≡ told intensity.None ds)

@@ -17,7 +17,7 @@ use Rattle.record.specs.declared.aerodrome.Code.TheVariants as code
 use Rattle.record.specs.declared.aerodrome.Phenomena.{Phenomena}
 use Rattle.record.specs.declared.aerodrome.Phenomena.TheVariants as phenomena
 use Rattle.record.specs.declared.aerodrome.Weather.{Weather}
-use Rattle.elements.specs.Weather.{codes_of, same, among, one, covering, spoken_codes, weather_spoken, all_among, single, Under, right, signed, sign_text_lem, listed, under, is_described, intensity_fits, show_weather, judge_weather}
+use Rattle.elements.specs.Weather.{codes_of, same, among, one, covering, spoken_codes, weather_spoken, all_among, single, Under, right, signed, sign_text, listed, under, is_described, intensity_fits, show_weather, judge_weather}
 use Rattle.weather.proofs.Table.{same-eq, in_table}
 use Rattle.weather.proofs.Covers.{any_append, covered-by}
 use Rattle.weather.proofs.Fits.{plains, is_plain, single-all, single-one, fit-some, fit-plain}
@@ -44,7 +44,7 @@ signed-later g h =
     (rw (any_append (covering [] spoken_codes) signed_spoken g, any_append (covering (bytes "+") spoken_codes) (covering (bytes "-") spoken_codes) g)
     (or_right (has_any (covering [] spoken_codes) g) _ h))
 
-spoken-after : (i : Intensity) (c rest : List ℕ) → among c spoken_codes ≡ true → has_any weather_spoken (sign_text_lem i ++ (c ++ rest)) ≡ true
+spoken-after : (i : Intensity) (c rest : List ℕ) → among c spoken_codes ≡ true → has_any weather_spoken (sign_text i ++ (c ++ rest)) ≡ true
 spoken-after intensity.None c rest m = unsigned-spoken c rest m
 spoken-after intensity.Light c rest m =
     signed-later (bytes "-" ++ (c ++ rest))
@@ -79,7 +79,7 @@ no_sign heavy cs = go (single (one "FG") cs) refl
     go true e = rw (only-fog cs e)
     go false e = rw e
 
-partial-spoken : (i : Intensity) (cs : List (List ℕ)) → intensity_fits i (Under partial cs) ≡ true → has_any weather_spoken (sign_text_lem i ++ (partial ++ spelt cs)) ≡ true
+partial-spoken : (i : Intensity) (cs : List (List ℕ)) → intensity_fits i (Under partial cs) ≡ true → has_any weather_spoken (sign_text i ++ (partial ++ spelt cs)) ≡ true
 unfolding codes_of has_any has_pattern fits low high
 partial-spoken intensity.None cs h = rw (only-fog cs h)
 partial-spoken intensity.Light cs h = absurd (false≢true (rw (no_sign false cs) at h))
@@ -88,20 +88,20 @@ partial-spoken intensity.Vicinity cs h = unsigned-spoken (bytes "VC") (partial +
 
 -- ---- codes that are joined as they may be
 
-bare-spoken : (i : Intensity) (cs : List (List ℕ)) → 1 ≤ length cs → all_among is_plain cs ≡ true → has_any weather_spoken (sign_text_lem i ++ spelt cs) ≡ true
+bare-spoken : (i : Intensity) (cs : List (List ℕ)) → 1 ≤ length cs → all_among is_plain cs ≡ true → has_any weather_spoken (sign_text i ++ spelt cs) ≡ true
 bare-spoken i [] n a = absurd (omega arith)
 bare-spoken i (c ∷ cs) n a =
     spoken-after i c (spelt cs) (in_table (λ c. among c spoken_codes) plains (unfold codes_of in refl) c (both (is_plain c) (all_among is_plain cs) a).0)
 
 under-spoken : (i : Intensity) (d : List ℕ) (cs : List (List ℕ)) → (same d partial || among d spoken_codes) ≡ true → intensity_fits i (Under d cs) ≡ true
-    → has_any weather_spoken (sign_text_lem i ++ (d ++ spelt cs)) ≡ true
+    → has_any weather_spoken (sign_text i ++ (d ++ spelt cs)) ≡ true
 under-spoken i d cs e h =
     or_cases (same d partial) (among d spoken_codes) e
     (λ p. let is = same-eq d partial p in rw is (partial-spoken i cs (rw is at h)))
     (λ m. spoken-after i d (spelt cs) m)
 
 joined-spoken : (i : Intensity) (d : Code) (cs : List (List ℕ)) → is_described d ≡ true → intensity_fits i (under d cs) ≡ true
-    → has_any weather_spoken (sign_text_lem i ++ spelt (listed d cs)) ≡ true
+    → has_any weather_spoken (sign_text i ++ spelt (listed d cs)) ≡ true
 joined-spoken i code.None cs e h = bare-spoken i cs (fit-some cs i h) (fit-plain cs i code.None h)
 joined-spoken i (code.Letters x y) cs e h =
     under-spoken i (x ∷ y ∷ []) cs

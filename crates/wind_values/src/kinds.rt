@@ -2,13 +2,13 @@
 use record::values::{Direction, Speed};
 use text::kinds::Refusal;
 
-#[derive(Drop)]
+#[derive(Clone, Copy)]
 pub enum DirectionRead {
     Good(Direction),
     Bad(Refusal),
 }
 
-#[derive(Drop)]
+#[derive(Clone, Copy)]
 pub enum SpeedRead {
     Good(Speed),
     Bad(Refusal),

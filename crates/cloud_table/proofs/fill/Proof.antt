@@ -13,24 +13,24 @@ use Rattle.cloud_table.proofs.Filled.{stored, stored_on, room-reached}
 use Rattle.cloud_table.proofs.fill.Statement.{statement}
 use Rattle.cloud_table.proofs.fill.Tie as tie
 
-abbrev Inv : tie.invariant-loop
+abbrev Inv : tie.invariant-loop-i
 Inv table codes heights₀ i₀ heights i =
     (i ≤ length codes) × (i ≤ length heights₀) × (length heights ≡ length heights₀) × (heights ≡ stored codes heights₀ i)
 
-abbrev μ : tie.decreases-loop
+abbrev μ : tie.decreases-loop-i
 μ table codes heights₀ i₀ heights i = length codes - i
 
 -- in the loop both slices go on
-inside : (c : tie.In-loop Inv μ)
-    → (c.before.loop.i < length c.before.before.before.before.args.codes.now) × (c.before.loop.i < length c.before.loop.heights)
+inside : (c : tie.In-loop-i Inv μ)
+    → (c.loop-i.i < length c.args.codes.now) × (c.loop-i.i < length c.loop-i.heights)
 inside c =
-    let both = (and-eq-true_iff _ _).0 c.loop-test.true in
+    let both = (and-eq-true_iff _ _).0 c.loop-i-test.true in
     (ltb-true _ _ both.0, ltb-true _ _ both.1)
 
-again : tie.Need-loop-preserved Inv μ
+again : tie.Need-loop-i-preserved Inv μ
 again c =
-    let l = c.before.before.before.loop in
-    let args = c.before.before.before.before.before.before.args in
+    let l = c.loop-i in
+    let args = c.args in
     let in_both = inside c.before.before in (
       omega (arith, in_both.0),
       omega (arith, in_both.1, l.invariant.2),
@@ -41,9 +41,9 @@ again c =
 returns : tie.Need-returns Inv μ
 unfolding heights_over
 returns c =
-    let l = c.before.loop in
-    let args = c.before.before.before.before.args in
-    let end = room-reached args.codes.now args.heights.now l.i l.invariant.0 l.invariant.1 (rw l.invariant.2 at c.loop-test.false) in
+    let l = c.loop-i in
+    let args = c.args in
+    let end = room-reached args.codes.now args.heights.now l.i l.invariant.0 l.invariant.1 (rw l.invariant.2 at c.loop-i-test.false) in
     (end, rw (← end) l.invariant.3)
 
 pub fill_spec : {M : Type 1} → statement M
@@ -59,5 +59,5 @@ fill_spec =
     (λ c. search (rules, inside c.before.before))
     (λ c. omega (arith, inside c.before.before))
     again
-    (λ c. c.before.loop.invariant.2)
+    (λ c. c.loop-i.invariant.2)
     returns)

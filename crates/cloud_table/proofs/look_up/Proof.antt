@@ -7,10 +7,10 @@ use Rattle.cloud_table.proofs.Entries.{entry, over}
 use Rattle.cloud_table.proofs.look_up.Statement.{statement}
 use Rattle.cloud_table.proofs.look_up.Tie as tie
 
-returns : tie.Need-returns
-returns c = rw c.before.before.requires (entry _ (omega arith))
+returns : tie.Need-returns-then-code-lt1000
+returns c = rw c.requires (entry _ (omega arith))
 
-returns-2 : tie.Need-returns-2
+returns-2 : tie.Need-returns-else-code-lt1000
 returns-2 c = sym (over _ (omega arith))
 
 pub look_up_spec : {M : Type 1} → statement M

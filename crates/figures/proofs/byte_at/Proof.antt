@@ -12,4 +12,4 @@ byte_at_spec =
     tie.close
     (tie.spec
     (λ c. search rules) (λ c. search rules)
-    (λ c. sym (get_or-eq_default c.before.args.s.now 0 {n = c.before.args.i} (omega arith))))
+    (λ c. sym (get_or-eq_default c.args.s.now 0 {n = c.args.i} (omega arith))))

@@ -8,9 +8,9 @@ use Rattle.figures.proofs.Fields.{field_out, field_in}
 use Rattle.figures.proofs.field.Statement.{statement}
 use Rattle.figures.proofs.field.Tie as tie
 
-last : tie.Need-returns-5
+last : tie.Need-returns
 last c =
-    let a = c.before.before.before.before.before.before.before.args in
+    let a = c.args in
     rw (add-sub_cancel_left a.at a.width) at c.field_of.ensures
     ∙ field_in a.g.now a.at a.width (omega arith) (omega arith) (omega arith)
 

@@ -16,15 +16,15 @@ find_spec =
     (tie.spec
     (λ c κs. search rules) (λ c κs. search rules) (λ c κs. search rules) (λ c. search rules) (λ c. search rules) (λ c κs. search rules)
     (λ c.
-    let a = c.before.before.before.before.before.before.before.before.args in
-    find-fit row a.g.now a.place a.count c.before.before.before.before.before.before.fit-from.ensures (unfold row in omega arith)
-    (rw (← c.before.before.before.before.mosts.ensures, ← c.before.before.before.musts.ensures) c.found_at.ensures))
+    let a = c.args in
+    find-fit row a.g.now a.place a.count c.fit_from-fit.ensures (unfold row in omega arith)
+    (rw (← c.mosts-most.ensures, ← c.musts-must.ensures) c.found_at.ensures))
     (λ c κs. search rules)
     (λ c.
-    let a = c.before.before.before.before.before.args in
-    let e = c.before.fit-from2.result in
-    find_none row a.g.now a.place a.count c.before.before.before.fit-from.ensures e (unfold row in omega arith) c.before.fit-from2.ensures true (lt-ltb e (length row) (unfold row in omega arith)))
+    let a = c.args in
+    let e = c.fit_from.result in
+    find_none row a.g.now a.place a.count c.fit_from-fit.ensures e (unfold row in omega arith) c.fit_from.ensures true (lt-ltb e (length row) (unfold row in omega arith)))
     (λ c.
-    let a = c.before.before.before.before.before.args in
-    let e = c.before.fit-from2.result in
-    find_none row a.g.now a.place a.count c.before.before.before.fit-from.ensures e (unfold row in omega arith) c.before.fit-from2.ensures false (le-ltb e (length row) (unfold row in omega arith))))
+    let a = c.args in
+    let e = c.fit_from.result in
+    find_none row a.g.now a.place a.count c.fit_from-fit.ensures e (unfold row in omega arith) c.fit_from.ensures false (le-ltb e (length row) (unfold row in omega arith))))

@@ -13,10 +13,10 @@ use Rattle.metar_row.specs.Row.{row}
 use Rattle.metar_row.proofs.fit_from.Statement.{statement}
 use Rattle.metar_row.proofs.fit_from.Tie as tie
 
-abbrev Inv : tie.invariant-loop
+abbrev Inv : tie.invariant-loop-i
 Inv all place count g group i₀ k₀ i k = fit_from all place count (drop place (stands_of row g)) ≡ fit_from all i k (drop i (stands_of row g))
 
-abbrev μ : tie.decreases-loop
+abbrev μ : tie.decreases-loop-i
 μ all place count g group i₀ k₀ i k = 19 - i
 
 pub fit_from_spec : {M : Type 1} → statement M
@@ -26,16 +26,16 @@ fit_from_spec =
     (λ c κs. search rules) (λ c. refl)
     (λ c κs. search rules)
     (λ c.
-    let l = c.before.before.before.loop in
-    let a = c.before.before.before.before.before.before.args in
-    sym (l.invariant ∙ fit-here row a.g.now a.all l.i l.k (unfold row in omega arith) (rw (c.before.before.before.before.anew.ensures.bytes ∙ whole_part _ _ refl) at (sym c.before.is-fit.ensures ∙ c.if1.true))))
+    let l = c.loop-i in
+    let a = c.args in
+    sym (l.invariant ∙ fit-here row a.g.now a.all l.i l.k (unfold row in omega arith) (rw (c.anew-group.ensures.bytes ∙ whole_part _ _ refl) at (sym c.is_fit.ensures ∙ c.if-is_fit.true))))
     (λ c. omega arith)
     (λ c. omega arith)
     (λ c.
-    let l = c.before.before.before.loop in
-    let a = c.before.before.before.before.before.before.args in
-    l.invariant ∙ fit_next row a.g.now a.all l.i l.k (unfold row in omega arith) (rw (c.before.before.before.before.anew.ensures.bytes ∙ whole_part _ _ refl) at (sym c.before.is-fit.ensures ∙ c.if1.false)))
+    let l = c.loop-i in
+    let a = c.args in
+    l.invariant ∙ fit_next row a.g.now a.all l.i l.k (unfold row in omega arith) (rw (c.anew-group.ensures.bytes ∙ whole_part _ _ refl) at (sym c.is_fit.ensures ∙ c.if-is_fit.false)))
     (λ c.
-    let l = c.before.loop in
-    let a = c.before.before.before.before.args in
+    let l = c.loop-i in
+    let a = c.args in
     sym (l.invariant ∙ fit-end row a.g.now a.all l.i l.k (unfold row in omega arith))))

@@ -6,11 +6,11 @@ use Rattle.metar_row.proofs.is_word.Statement.{statement}
 use Rattle.metar_row.proofs.is_word.Tie as tie
 
 returns : tie.Need-returns
-returns c = word-is c.before.before.before.before.before.before.before.before.before.before.before.args.g.now c.before.before.before.before.before.before.before.before.has-pattern.ensures c.before.before.before.before.before.before.has-pattern2.ensures c.before.before.before.before.has-pattern3.ensures c.before.before.has-pattern4.ensures c.has-pattern5.ensures
+returns c = word-is c.args.g.now c.has_pattern-nosig.ensures c.has_pattern-becoming.ensures c.has_pattern-temporary.ensures c.has_pattern-shear.ensures c.has_pattern-remarks.ensures
 
 pub is_word_spec : {M : Type 1} → statement M
 is_word_spec =
     tie.close
     (tie.spec
-    (λ c. search rules) (λ c κs. search rules) (λ c. search rules) (λ c κs. search rules) (λ c. search rules) (λ c κs. search rules)
-    (λ c. search rules) (λ c κs. search rules) (λ c. search rules) (λ c κs. search rules) returns)
+    (λ c κs. search rules) (λ c κs. search rules) (λ c κs. search rules)
+    (λ c κs. search rules) (λ c κs. search rules) returns)

@@ -12,8 +12,8 @@ meet_spec =
     tie.close
     (tie.spec
     (λ c κs. search rules) (λ c. search rules) (λ c. search rules)
-    (λ c. met-end _ _ _ _ _ _ c.before.before.next-group.ensures c.enum_told.given.1)
+    (λ c. met-end _ _ _ _ _ _ c.next_group.ensures c.in_default.is)
     (λ c κs. search rules) (λ c κs. search rules) (λ c. search rules) (λ c κs. search rules) (λ c. search rules) (λ c. search rules) (λ c κs. search rules)
-    (λ c. met-turn _ _ _ _ _ _ c.before.before.before.before.before.before.before.before.next-group.ensures c.before.before.before.before.before.before.start.given.1 c.before.before.before.before.part.ensures c.before.before.before.turn_in.ensures c.before.enum-told2.given.1 c.meet-word.ensures)
-    (λ c. met-turn _ _ _ _ _ _ c.before.before.before.before.before.before.before.next-group.ensures c.before.before.before.before.before.start.given.1 c.before.before.before.part.ensures c.before.before.turn_in.ensures c.enum-told3.given.1 refl)
-    (λ c. met-turn _ _ _ _ _ _ c.before.before.before.before.before.before.before.before.before.next-group.ensures c.before.before.before.before.before.before.before.start.given.1 c.before.before.before.before.before.part.ensures c.before.before.before.before.turn_in.ensures c.before.before.turn.given.1 (rw (c.past-in.ensures c.before.before.before.before.before.before.before.before.before.before.before.args.word))))
+    (λ c. met-turn _ _ _ _ _ _ c.next_group.ensures c.in-Group.is c.part-g.ensures c.turn_in-turn.ensures c.in-Halt.is c.meet_word.ensures)
+    (λ c. met-turn _ _ _ _ _ _ c.next_group.ensures c.in-Group.is c.part-g.ensures c.turn_in-turn.ensures c.in-Refused.is refl)
+    (λ c. met-turn _ _ _ _ _ _ c.next_group.ensures c.in-Group.is c.part-g.ensures c.turn_in-turn.ensures c.in-At.is (rw (c.past_in.ensures c.args.word))))

@@ -10,9 +10,9 @@ meet_word_spec =
     tie.close
     (tie.spec
     (λ c κs. search rules)
-    (λ c. unfold word_move in rw (← c.before.is-stop-word.ensures, c.if1.true))
-    (λ c. search rules) (λ c κs. search rules)
-    (λ c. unfold word_move in rw (← c.before.before.before.before.is-stop-word.ensures, c.before.before.before.if1.false, ← c.before.has-pattern.ensures, c.if2.true))
-    (λ c. search rules) (λ c κs. search rules)
-    (λ c. unfold word_move in rw (← c.before.before.before.before.before.before.before.is-stop-word.ensures, c.before.before.before.before.before.before.if1.false, ← c.before.before.before.before.has-pattern.ensures, c.before.before.before.if2.false, ← c.before.has-pattern2.ensures, c.if3.true))
-    (λ c. unfold word_move in rw (← c.before.before.before.before.before.before.before.is-stop-word.ensures, c.before.before.before.before.before.before.if1.false, ← c.before.before.before.before.has-pattern.ensures, c.before.before.before.if2.false, ← c.before.has-pattern2.ensures, c.if3.false)))
+    (λ c. unfold word_move in rw (← c.is_stop_word.ensures, c.if-is_stop_word.true))
+    (λ c κs. search rules)
+    (λ c. unfold word_move in rw (← c.is_stop_word.ensures, c.if-is_stop_word.false, ← c.has_pattern.ensures, c.if-has_pattern.true))
+    (λ c κs. search rules)
+    (λ c. unfold word_move in rw (← c.is_stop_word.ensures, c.if-is_stop_word.false, ← c.has_pattern.ensures, c.if-has_pattern.false, ← c.has_pattern-2.ensures, c.if-has_pattern-2.true))
+    (λ c. unfold word_move in rw (← c.is_stop_word.ensures, c.if-is_stop_word.false, ← c.has_pattern.ensures, c.if-has_pattern.false, ← c.has_pattern-2.ensures, c.if-has_pattern-2.false)))

@@ -13,5 +13,5 @@ past_in_spec =
     tie.close
     (tie.spec
     (λ c. search rules)
-    (λ c w. rw (eq-eqb _ _ c.before.if1.true) c.go-past.ensures)
-    (λ c w. rw (ne_eqb _ _ c.if1.false) (row-endless (is_change w) _)))
+    (λ c w. rw (eq-eqb _ _ c.if-part-eq0.true) c.go_past.ensures)
+    (λ c w. rw (ne_eqb _ _ c.if-part-eq0.false) (row-endless (is_change w) _)))

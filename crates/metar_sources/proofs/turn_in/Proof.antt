@@ -10,5 +10,5 @@ turn_in_spec =
     tie.close
     (tie.spec
     (λ c κs. search rules) (λ c κs. search rules) (λ c κs. search rules)
-    (λ c. rw (eq-eqb _ _ c.before.if1.true) c.decide.ensures)
-    (λ c. rw (ne_eqb _ _ c.before.before.if1.false, ← c.before.is-change.ensures) c.decide2.ensures))
+    (λ c. rw (eq-eqb _ _ c.if-part-eq0.true) c.decide.ensures)
+    (λ c. rw (ne_eqb _ _ c.if-part-eq0.false, ← c.is_change.ensures) c.decide-else-part-eq0.ensures))

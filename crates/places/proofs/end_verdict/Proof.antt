@@ -9,6 +9,6 @@ end_verdict_spec =
     tie.close
     (tie.spec
     (λ c κs. search rules) (λ c. search rules) (λ c. search rules)
-    (λ c. rw (← c.before.before.before.tail.ensures, c.before.tail2.given.1))
-    (λ c. rw (← c.before.before.before.tail.ensures, c.before.enum_told.given.1, c.if1.true))
-    (λ c. rw (← c.before.before.before.tail.ensures, c.before.enum_told.given.1, c.if1.false)))
+    (λ c. rw (← c.tail-tail.ensures, c.in-Junk.is))
+    (λ c. rw (← c.tail-tail.ensures, c.in-Clear.is, c.if-lacking.true))
+    (λ c. rw (← c.tail-tail.ensures, c.in-Clear.is, c.if-lacking.false)))

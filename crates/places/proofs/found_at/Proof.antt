@@ -14,11 +14,11 @@ found_at_spec =
     (tie.spec
     (λ c κs. search rules) (λ c κs. search rules) (λ c κs. search rules)
     (λ c.
-    let a = c.before.before.before.before.before.before.before.args in
-    found-room a.most.now a.must.now a.place a.count a.fit c.before.before.before.before.standing-at.ensures c.before.before.before.most-at.ensures true (omega arith) (sym c.before.is-owed-before.ensures ∙ c.if2.true))
+    let a = c.args in
+    found-room a.most.now a.must.now a.place a.count a.fit c.standing_at-standing.ensures c.most_at.ensures true (omega arith) (sym c.is_owed_before.ensures ∙ c.if-is_owed_before.true))
     (λ c.
-    let a = c.before.before.before.before.before.before.before.args in
-    found-room a.most.now a.must.now a.place a.count a.fit c.before.before.before.before.standing-at.ensures c.before.before.before.most-at.ensures false (omega arith) (sym c.before.is-owed-before.ensures ∙ c.if2.false))
+    let a = c.args in
+    found-room a.most.now a.must.now a.place a.count a.fit c.standing_at-standing.ensures c.most_at.ensures false (omega arith) (sym c.is_owed_before.ensures ∙ c.if-is_owed_before.false))
     (λ c.
-    let a = c.before.before.before.before.before.args in
-    found-full a.most.now a.must.now a.place a.count a.fit c.before.before.standing-at.ensures c.before.most-at.ensures (omega arith)))
+    let a = c.args in
+    found-full a.most.now a.must.now a.place a.count a.fit c.standing_at-standing.ensures c.most_at.ensures (omega arith)))

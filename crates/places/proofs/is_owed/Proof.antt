@@ -7,4 +7,4 @@ use Rattle.places.proofs.is_owed.Statement.{statement}
 use Rattle.places.proofs.is_owed.Tie as tie
 
 pub is_owed_spec : {M : Type 1} → statement M
-is_owed_spec = tie.close (tie.spec (λ c κs. search rules) (λ c. c.is-owed-before.ensures ∙ owed_all c.before.before.args.must.now c.before.before.args.place c.before.before.args.count))
+is_owed_spec = tie.close (tie.spec (λ c κs. search rules) (λ c. c.is_owed_before.ensures ∙ owed_all c.args.must.now c.args.place c.args.count))

@@ -12,6 +12,6 @@ most_at_spec =
     tie.close
     (tie.spec
     (λ c. search rules)
-    (λ c. omega (arith, c.shared-slice-known.given c.before.before.args.place))
+    (λ c. omega (arith, c.shared_slice_known-1.given c.args.place))
     (λ c. search rules)
-    (λ c. sym (get_or-eq_default c.before.args.most.now 0 {n = c.before.args.place} (omega arith))))
+    (λ c. sym (get_or-eq_default c.args.most.now 0 {n = c.args.place} (omega arith))))

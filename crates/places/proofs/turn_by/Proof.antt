@@ -9,8 +9,8 @@ turn_by_spec =
     tie.close
     (tie.spec
     (λ c. search rules) (λ c. search rules) (λ c. search rules) (λ c. search rules) (λ c. search rules)
-    (λ c. rw c.before.found.given.1)
-    (λ c. rw c.enum_told.given.1)
-    (λ c. rw c.enum-told2.given.1)
-    (λ c. rw c.enum-told3.given.1)
-    (λ c. rw c.enum-told4.given.1))
+    (λ c. rw c.in-Take.is)
+    (λ c. rw c.in-Skips.is)
+    (λ c. rw c.in-Full.is)
+    (λ c. rw c.in-Earlier.is)
+    (λ c. rw c.in-Unknown.is))

@@ -4,4 +4,4 @@ use Rattle.places.proofs.turn_unknown.Statement.{statement}
 use Rattle.places.proofs.turn_unknown.Tie as tie
 
 pub turn_unknown_spec : {M : Type 1} → statement M
-turn_unknown_spec = tie.close (tie.spec (λ c. rw c.if1.true) (λ c. rw c.if1.false))
+turn_unknown_spec = tie.close (tie.spec (λ c. rw c.if-halts.true) (λ c. rw c.if-halts.false))

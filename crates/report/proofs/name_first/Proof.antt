@@ -7,14 +7,14 @@ use Rattle.report.proofs.Names.{end_is}
 use Rattle.report.proofs.name_first.Statement.{statement}
 use Rattle.report.proofs.name_first.Tie as tie
 
-returns : tie.Need-returns
-returns c = rw (when-end c.before.before.before.before.args.text.now 0 _ (sym c.enum_told.given.1 ∙ c.before.before.next-group.ensures))
+returns : tie.Need-returns-in-End
+returns c = rw (when-end c.args.text.now 0 _ (sym c.in-End.is ∙ c.next_group-first.ensures))
 
-returns-2 : tie.Need-returns-2
+returns-2 : tie.Need-returns-in-Group
 returns-2 c =
-    let t = c.before.before.before.before.before.before.before.args.text.now in
-    let f = when-group t 0 _ _ (sym c.before.before.before.first.given.1 ∙ c.before.before.before.before.before.next-group.ensures) in
-    rw (f.groups, end_is t _ _ f, ← c.before.part.ensures) c.name-group.ensures
+    let t = c.args.text.now in
+    let f = when-group t 0 _ _ (sym c.in-Group.is ∙ c.next_group-first.ensures) in
+    rw (f.groups, end_is t _ _ f, ← c.part.ensures) c.name_group.ensures
 
 pub name_first_spec : {M : Type 1} → statement M
 name_first_spec =

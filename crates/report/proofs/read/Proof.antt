@@ -8,4 +8,4 @@ pub read_spec : {M : Type 1} → statement M
 read_spec =
     tie.close
     (tie.spec
-    (λ c κs. search rules) (λ c. c.read-in.ensures))
+    (λ c κs. search rules) (λ c. c.read_in.ensures))

@@ -6,25 +6,25 @@ use Rattle.report.proofs.Readings.{as-surface, as-observed, as-forecast, as-refu
 use Rattle.report.proofs.read_in.Statement.{statement}
 use Rattle.report.proofs.read_in.Tie as tie
 
-returns : tie.Need-returns
+returns : tie.Need-returns-in-Surface
 returns c =
-    let a = c.before.before.before.before.before.before.before.args in
-    c.of-surface.ensures ∙ as-surface a.edition a.text.now _ _ (sym c.before.before.before.before.before.name.ensures ∙ c.before.before.before.named.given.1) c.before.read-from.ensures
+    let a = c.args in
+    c.of_surface.ensures ∙ as-surface a.edition a.text.now _ _ (sym c.name-named.ensures ∙ c.in-Surface.is) c.read_from-reading.ensures
 
-returns-2 : tie.Need-returns-2
+returns-2 : tie.Need-returns-in-Observed
 returns-2 c =
-    let a = c.before.before.before.before.before.before.before.args in
-    c.of-observed.ensures ∙ as-observed a.edition a.text.now _ _ (sym c.before.before.before.before.before.name.ensures ∙ c.before.before.before.named2.given.1) c.before.read-from2.ensures
+    let a = c.args in
+    c.of_observed.ensures ∙ as-observed a.edition a.text.now _ _ (sym c.name-named.ensures ∙ c.in-Observed.is) c.read_from-reading-in-Observed.ensures
 
-returns-3 : tie.Need-returns-3
+returns-3 : tie.Need-returns-in-Forecast
 returns-3 c =
-    let a = c.before.before.before.before.before.before.before.args in
-    c.of-forecast.ensures ∙ as-forecast a.edition a.text.now _ (sym c.before.before.before.before.before.name.ensures ∙ c.before.before.before.named3.given.1) c.before.read-from-in.ensures
+    let a = c.args in
+    c.of_forecast.ensures ∙ as-forecast a.edition a.text.now _ (sym c.name-named.ensures ∙ c.in-Forecast.is) c.read_from_in-reading.ensures
 
-returns-4 : tie.Need-returns-4
+returns-4 : tie.Need-returns-in-Refused
 returns-4 c =
-    let a = c.before.before.before.before.before.before.args in
-    c.refuse.ensures ∙ as-refused a.edition a.text.now _ _ (sym c.before.before.before.before.name.ensures ∙ c.before.before.named4.given.1)
+    let a = c.args in
+    c.refuse.ensures ∙ as-refused a.edition a.text.now _ _ (sym c.name-named.ensures ∙ c.in-Refused.is)
 
 pub read_in_spec : {M : Type 1} → statement M
 read_in_spec =

@@ -5,7 +5,7 @@ use Rattle.report.proofs.rest_in.Statement.{statement}
 use Rattle.report.proofs.rest_in.Tie as tie
 
 returns : tie.Need-returns
-returns c = rw (← c.before.rest-place-in.ensures) c.part_at.ensures
+returns c = rw (← c.rest_place_in-place.ensures) c.part_at.ensures
 
 pub rest_in_spec : {M : Type 1} → statement M
 rest_in_spec =

@@ -8,4 +8,4 @@ pub rest_place_spec : {M : Type 1} → statement M
 rest_place_spec =
     tie.close
     (tie.spec
-    (λ c κs. search rules) (λ c. c.rest-place-in.ensures))
+    (λ c κs. search rules) (λ c. c.rest_place_in.ensures))

@@ -5,11 +5,11 @@ use Rattle.report.specs.Read.{rest_place_in}
 use Rattle.report.proofs.rest_place_in.Statement.{statement}
 use Rattle.report.proofs.rest_place_in.Tie as tie
 
-returns : tie.Need-returns
-returns c = unfold rest_place_in in rw (← c.before.before.before.verdict-in.ensures, c.before.verdict.given.1)
+returns : tie.Need-returns-in-Accepted
+returns c = unfold rest_place_in in rw (← c.verdict_in-verdict.ensures, c.in-Accepted.is)
 
-returns-2 : tie.Need-returns-2
-returns-2 c = unfold rest_place_in in rw (← c.before.before.verdict-in.ensures, c.enum_told.given.1)
+returns-2 : tie.Need-returns-in-Refused
+returns-2 c = unfold rest_place_in in rw (← c.verdict_in-verdict.ensures, c.in-Refused.is)
 
 pub rest_place_in_spec : {M : Type 1} → statement M
 rest_place_in_spec =

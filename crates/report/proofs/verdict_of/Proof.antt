@@ -8,4 +8,4 @@ pub verdict_of_spec : {M : Type 1} → statement M
 verdict_of_spec =
     tie.close
     (tie.spec
-    (λ c κs. search rules) (λ c. c.verdict-in.ensures))
+    (λ c κs. search rules) (λ c. c.verdict_in.ensures))

@@ -6,7 +6,7 @@ use Rattle.report.proofs.which_stands.Statement.{statement}
 use Rattle.report.proofs.which_stands.Tie as tie
 
 returns : tie.Need-returns
-returns c = unfold stands_of in rw (← c.before.before.read.ensures, ← c.before.read2.ensures) c.judge-standing.ensures
+returns c = unfold stands_of in rw (← c.read-before.ensures, ← c.read-after.ensures) c.judge_standing.ensures
 
 pub which_stands_spec : {M : Type 1} → statement M
 which_stands_spec =

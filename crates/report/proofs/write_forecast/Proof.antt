@@ -6,18 +6,18 @@ use Rattle.report.proofs.Writes.{own-written, foreign-refused}
 use Rattle.report.proofs.write_forecast.Statement.{statement}
 use Rattle.report.proofs.write_forecast.Tie as tie
 
-returns : tie.Need-returns
+returns : tie.Need-returns-then-is_blank
 returns c =
-    let d = c.before.before.before.before.before in
-    let a = d.before.before.before.args in
+    let d = c in
+    let a = d.args in
     unfold written_in buffer_in in
-    own-written (judge_in a.edition a.report.forecast) (canonical_of a.report.forecast) a.out.now _ _ d.before.is-blank.ensures d.is-blank2.ensures c.before.before.before.before.if1.true c.before.before.write-in.ensures
+    own-written (judge_in a.edition a.report.forecast) (canonical_of a.report.forecast) a.out.now _ _ d.is_blank.ensures d.is_blank-2.ensures c.if-is_blank.true c.write_in.ensures
 
-returns-2 : tie.Need-returns-2
+returns-2 : tie.Need-returns
 returns-2 c =
-    let d = c.before in
-    let a = d.before.before.before.args in
-    foreign-refused (judge_in a.edition a.report.forecast) (canonical_of a.report.forecast) a.out.now _ _ d.before.is-blank.ensures d.is-blank2.ensures c.if1.false
+    let d = c in
+    let a = d.args in
+    foreign-refused (judge_in a.edition a.report.forecast) (canonical_of a.report.forecast) a.out.now _ _ d.is_blank.ensures d.is_blank-2.ensures c.if-is_blank.false
 
 pub write_forecast_spec : {M : Type 1} → statement M
 write_forecast_spec =

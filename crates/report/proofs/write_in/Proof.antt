@@ -6,17 +6,17 @@ use Rattle.report.proofs.Writes.{by_kind, no_kind}
 use Rattle.report.proofs.write_in.Statement.{statement}
 use Rattle.report.proofs.write_in.Tie as tie
 
-returns : tie.Need-returns
-returns c = no_kind c.before.before.before.args.edition c.before.before.before.args.report c.before.before.before.args.out.now c.enum_told.given.1
+returns : tie.Need-returns-in-Missing
+returns c = no_kind c.args.edition c.args.report c.args.out.now c.in-Missing.is
 
-returns-2 : tie.Need-returns-2
-returns-2 c = let a = c.before.before.before.before.before.before.before.args in by_kind a.edition a.report a.out.now kind.Surface c.before.before.before.before.enum-told2.given.1 (c.before.before.write-surface.ensures a.edition)
+returns-2 : tie.Need-returns-in-Surface
+returns-2 c = let a = c.args in by_kind a.edition a.report a.out.now kind.Surface c.in-Surface.is (c.write_surface.ensures a.edition)
 
-returns-3 : tie.Need-returns-3
-returns-3 c = let a = c.before.before.before.before.before.before.before.args in by_kind a.edition a.report a.out.now kind.Observed c.before.before.before.before.enum-told3.given.1 (c.before.before.write-observed.ensures a.edition)
+returns-3 : tie.Need-returns-in-Observed
+returns-3 c = let a = c.args in by_kind a.edition a.report a.out.now kind.Observed c.in-Observed.is (c.write_observed.ensures a.edition)
 
-returns-4 : tie.Need-returns-4
-returns-4 c = let a = c.before.before.before.before.before.before.before.args in by_kind a.edition a.report a.out.now kind.Forecast c.before.before.before.before.enum-told4.given.1 c.before.before.write-forecast.ensures
+returns-4 : tie.Need-returns-in-Forecast
+returns-4 c = let a = c.args in by_kind a.edition a.report a.out.now kind.Forecast c.in-Forecast.is c.write_forecast.ensures
 
 pub write_in_spec : {M : Type 1} → statement M
 write_in_spec =

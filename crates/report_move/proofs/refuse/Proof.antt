@@ -5,4 +5,4 @@ use Rattle.report_move.proofs.refuse.Statement.{statement}
 use Rattle.report_move.proofs.refuse.Tie as tie
 
 pub refuse_spec : {M : Type 1} → statement M
-refuse_spec = tie.close (tie.spec (λ c κs. search rules) (λ c. rw c.blank-report.ensures))
+refuse_spec = tie.close (tie.spec (λ c κs. search rules) (λ c. rw c.blank_report-report.ensures))

@@ -10,7 +10,7 @@ find_spec =
     tie.close
     (tie.spec
     (λ c κs. search rules) (λ c. search rules) (λ c. search rules) (λ c. search rules) (λ c κs. search rules) (λ c. search rules)
-    (λ c. unfold observed_at in rw (← c.before.before.before.read.ensures, c.enum_told.given.1))
-    (λ c. unfold observed_at in rw (← c.before.before.before.read.ensures, c.enum-told2.given.1))
-    (λ c. unfold observed_at in rw (← c.before.before.before.before.read.ensures, c.before.enum-told3.given.1) c.find.ensures)
-    (λ c. unfold observed_at in rw (← c.before.before.before.read.ensures, c.enum-told4.given.1)))
+    (λ c. unfold observed_at in rw (← c.read-reading.ensures, c.in-Missing.is))
+    (λ c. unfold observed_at in rw (← c.read-reading.ensures, c.in-Surface.is))
+    (λ c. unfold observed_at in rw (← c.read-reading.ensures, c.in-Observed.is) c.find.ensures)
+    (λ c. unfold observed_at in rw (← c.read-reading.ensures, c.in-Forecast.is)))

@@ -9,4 +9,4 @@ read_back_spec =
     tie.close
     (tie.spec
     (λ c κs. tt) (λ c. search rules)
-    (λ c. c.before.before.read-back-in.ensures))
+    (λ c. c.read_back_in.ensures))

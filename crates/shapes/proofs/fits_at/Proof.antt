@@ -10,4 +10,4 @@ fits_at_spec =
     tie.close
     (tie.spec
     (λ c κs. search rules) (λ c κs. search rules)
-    (λ c. unfold fits in rw (c.before.lowest.ensures, c.highest.ensures)))
+    (λ c. unfold fits in rw (c.lowest-l.ensures, c.highest-h.ensures)))

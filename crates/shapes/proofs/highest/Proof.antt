@@ -9,7 +9,7 @@ pub highest_spec : {M : Type 1} → statement M
 highest_spec =
     tie.close
     (tie.spec
-    (λ c. unfold high in rw c.match.keys1)
-    (λ c. unfold high in rw c.match.keys2)
-    (λ c. unfold high in rw c.match.keys3)
-    (λ c. unfold high in simp (ne_eqb _ _ c.match.rest.0.0.1, ne_eqb _ _ c.match.rest.0.1, ne_eqb _ _ c.match.rest.1)))
+    (λ c. unfold high in rw c.in-35.is)
+    (λ c. unfold high in rw c.in-64.is)
+    (λ c. unfold high in rw c.in-63.is)
+    (λ c. unfold high in simp (ne_eqb _ _ c.in_default.in_default-own.rest.0.0.1, ne_eqb _ _ c.in_default.in_default-own.rest.0.1, ne_eqb _ _ c.in_default.in_default-own.rest.1)))

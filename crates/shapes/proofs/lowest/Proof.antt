@@ -9,7 +9,7 @@ pub lowest_spec : {M : Type 1} → statement M
 lowest_spec =
     tie.close
     (tie.spec
-    (λ c. unfold low in rw c.match.keys1)
-    (λ c. unfold low in rw c.match.keys2)
-    (λ c. unfold low in rw c.match.keys3)
-    (λ c. unfold low in simp (ne_eqb _ _ c.match.rest.0.0.1, ne_eqb _ _ c.match.rest.0.1, ne_eqb _ _ c.match.rest.1)))
+    (λ c. unfold low in rw c.in-35.is)
+    (λ c. unfold low in rw c.in-64.is)
+    (λ c. unfold low in rw c.in-63.is)
+    (λ c. unfold low in simp (ne_eqb _ _ c.in_default.in_default-own.rest.0.0.1, ne_eqb _ _ c.in_default.in_default-own.rest.0.1, ne_eqb _ _ c.in_default.in_default-own.rest.1)))

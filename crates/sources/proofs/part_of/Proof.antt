@@ -9,5 +9,5 @@ part_of_spec =
     tie.close
     (tie.spec
     (λ c. search rules) (λ c κs. search rules) (λ c. search rules) (λ c κs. search rules)
-    (λ c. rw c.before.enum_told.given.1 c.part_at.ensures)
-    (λ c. rw c.before.before.source.given.1 c.part-at2.ensures))
+    (λ c. rw c.in-None.is c.part_at.ensures)
+    (λ c. rw c.in-Group.is c.part_at-in-Group.ensures))

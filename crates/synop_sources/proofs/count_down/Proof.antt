@@ -8,7 +8,7 @@ pub count_down_spec : {M : Type 1} → statement M
 count_down_spec =
     tie.close
     (tie.spec
-    (λ c. omega (arith, c.if2.true))
-    (λ c. rw c.before.if1.true)
-    (λ c. rw c.before.if1.true (omega (arith, c.if2.false)))
-    (λ c. rw c.if1.false))
+    (λ c. omega (arith, c.if-more-gt0.true))
+    (λ c. rw c.if-says.true)
+    (λ c. rw c.if-says.true (omega (arith, c.if-more-gt0.false)))
+    (λ c. rw c.if-says.false))

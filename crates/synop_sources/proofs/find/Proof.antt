@@ -16,11 +16,11 @@ use Rattle.synop_sources.proofs.Steps.{over_none, was-taken, was-opened}
 use Rattle.synop_sources.proofs.find.Statement.{statement}
 use Rattle.synop_sources.proofs.find.Tie as tie
 
-abbrev Inv : tie.invariant-loop
+abbrev Inv : tie.invariant-loop-place
 Inv text part spot ship here₀ stand₀ stood₀ from₀ here stand stood from =
     (looked (move ship) part spot text (mark_at here stand stood) from ≡ looked (move ship) part spot text start 0) × (ship ≡ ship_in text) × (here ≤ from)
 
-abbrev μ : tie.decreases-loop
+abbrev μ : tie.decreases-loop-place
 μ text part spot ship here₀ stand₀ stood₀ from₀ here stand stood from = length text - from
 
 -- what the walk of that kind finds is what the text's trail has
@@ -35,42 +35,42 @@ find_spec =
     (tie.spec
     Inv μ
     (λ c κs. search rules)
-    (λ c. (refl, c.is-ship.ensures, omega arith))
+    (λ c. (refl, c.is_ship-ship.ensures, omega arith))
     (λ c κs. search rules)
     (λ c. search rules)
     (λ c.
-    let l = c.before.before.before.loop in
-    over_none _ _ _ _ _ _ c.before.before.meet.ensures c.enum_told.given.1 _ _ ∙ whole_of _ _ _ l.invariant.1 l.invariant.0)
+    let l = c.loop-place in
+    over_none _ _ _ _ _ _ c.meet-met.ensures c.in-Over.is _ _ ∙ whole_of _ _ _ l.invariant.1 l.invariant.0)
     (λ c. search rules)
     (λ c κs. search rules)
     (λ c.
-    let l = c.before.before.before.before.before.before.loop in
-    let took = was-taken _ _ _ _ _ _ c.before.before.before.before.before.meet.ensures c.before.before.before.met.given.1 in
-    takes-found (move _) _ _ _ _ _ took.follows took.moves (rw (← c.before.is_same.ensures) c.if1.true) ∙ whole_of _ _ _ l.invariant.1 l.invariant.0)
+    let l = c.loop-place in
+    let took = was-taken _ _ _ _ _ _ c.meet-met.ensures c.in-Takes.is in
+    takes-found (move _) _ _ _ _ _ took.follows took.moves (rw (← c.is_same.ensures) c.if-part-here.true) ∙ whole_of _ _ _ l.invariant.1 l.invariant.0)
     (λ c.
-    let took = was-taken _ _ _ _ _ _ c.before.before.before.before.before.meet.ensures c.before.before.before.met.given.1 in
+    let took = was-taken _ _ _ _ _ _ c.meet-met.ensures c.in-Takes.is in
     omega (arith, took.few))
     (λ c.
-    let took = was-taken _ _ _ _ _ _ c.before.before.before.before.before.meet.ensures c.before.before.before.met.given.1 in
+    let took = was-taken _ _ _ _ _ _ c.meet-met.ensures c.in-Takes.is in
     omega (arith, took.follows.after, took.follows.some, took.follows.within))
     (λ c.
-    let l = c.before.before.before.before.before.before.loop in
-    let took = was-taken _ _ _ _ _ _ c.before.before.before.before.before.meet.ensures c.before.before.before.met.given.1 in
-    (takes-on (move _) _ _ _ _ _ took.follows took.moves (rw (← c.before.is_same.ensures) c.if1.false) ∙ l.invariant.0, l.invariant.1, omega (arith, l.invariant.2, took.follows.after, took.follows.some)))
+    let l = c.loop-place in
+    let took = was-taken _ _ _ _ _ _ c.meet-met.ensures c.in-Takes.is in
+    (takes-on (move _) _ _ _ _ _ took.follows took.moves (rw (← c.is_same.ensures) c.if-part-here.false) ∙ l.invariant.0, l.invariant.1, omega (arith, l.invariant.2, took.follows.after, took.follows.some)))
     (λ c. search rules)
     (λ c.
-    let l = c.before.before.before.before.loop in
-    let began = was-opened _ _ _ _ _ _ c.before.before.before.meet.ensures c.before.met2.given.1 in
+    let l = c.loop-place in
+    let began = was-opened _ _ _ _ _ _ c.meet-met.ensures c.in-Opens.is in
     omega (arith, l.invariant.2, began.follows.after, began.follows.some, began.follows.within))
     (λ c κs. search rules)
     (λ c.
-    let l = c.before.before.before.before.before.before.loop in
-    let began = was-opened _ _ _ _ _ _ c.before.before.before.before.before.meet.ensures c.before.before.before.met2.given.1 in
-    opens-found (move _) _ _ _ _ _ began.follows began.moves (rw (← c.before.is-same2.ensures) c.if2.true) ∙ whole_of _ _ _ l.invariant.1 l.invariant.0)
+    let l = c.loop-place in
+    let began = was-opened _ _ _ _ _ _ c.meet-met.ensures c.in-Opens.is in
+    opens-found (move _) _ _ _ _ _ began.follows began.moves (rw (← c.is_same-in-Opens.ensures) c.if-part-here-2.true) ∙ whole_of _ _ _ l.invariant.1 l.invariant.0)
     (λ c.
-    let began = was-opened _ _ _ _ _ _ c.before.before.before.before.before.meet.ensures c.before.before.before.met2.given.1 in
+    let began = was-opened _ _ _ _ _ _ c.meet-met.ensures c.in-Opens.is in
     omega (arith, began.follows.after, began.follows.some, began.follows.within))
     (λ c.
-    let l = c.before.before.before.before.before.before.loop in
-    let began = was-opened _ _ _ _ _ _ c.before.before.before.before.before.meet.ensures c.before.before.before.met2.given.1 in
-    (opens-on (move _) _ _ _ _ _ began.follows began.moves (rw (← c.before.is-same2.ensures) c.if2.false) ∙ l.invariant.0, l.invariant.1, omega (arith, l.invariant.2, began.follows.after, began.follows.some))))
+    let l = c.loop-place in
+    let began = was-opened _ _ _ _ _ _ c.meet-met.ensures c.in-Opens.is in
+    (opens-on (move _) _ _ _ _ _ began.follows began.moves (rw (← c.is_same-in-Opens.ensures) c.if-part-here-2.false) ∙ l.invariant.0, l.invariant.1, omega (arith, l.invariant.2, began.follows.after, began.follows.some))))

@@ -16,11 +16,11 @@ use Rattle.synop_sources.proofs.LayerWalks.{layered, layered-over, layered-here,
 use Rattle.synop_sources.proofs.find_layer.Statement.{statement}
 use Rattle.synop_sources.proofs.find_layer.Tie as tie
 
-abbrev Inv : tie.invariant-loop
+abbrev Inv : tie.invariant-loop-place
 Inv text number ship more₀ here₀ stand₀ stood₀ from₀ more here stand stood from =
     (layered ship text more here stand stood from ≡ layered ship text number 0 name_place 0 0) × (ship ≡ ship_in text) × (here ≤ from)
 
-abbrev μ : tie.decreases-loop
+abbrev μ : tie.decreases-loop-place
 μ text number ship more₀ here₀ stand₀ stood₀ from₀ more here stand stood from = length text - from
 
 -- what the walk of that kind finds is what the text's trail has
@@ -34,39 +34,39 @@ find_layer_spec =
     (tie.spec
     Inv μ
     (λ c κs. search rules)
-    (λ c. (refl, c.is-ship.ensures, omega arith))
+    (λ c. (refl, c.is_ship-ship.ensures, omega arith))
     (λ c κs. search rules)
     (λ c. search rules)
     (λ c.
-    let l = c.before.before.before.loop in
-    layered-over _ _ _ _ _ _ _ (was-over _ _ _ _ _ _ c.before.before.meet.ensures c.enum_told.given.1) ∙ whole_of _ _ l.invariant.1 l.invariant.0)
+    let l = c.loop-place in
+    layered-over _ _ _ _ _ _ _ (was-over _ _ _ _ _ _ c.meet-met.ensures c.in-Over.is) ∙ whole_of _ _ l.invariant.1 l.invariant.0)
     (λ c. search rules)
     (λ c κs. search rules)
     (λ c κs. search rules)
     (λ c.
-    let l = c.before.before.before.before.before.before.before.loop in
-    let took = was-taken _ _ _ _ _ _ c.before.before.before.before.before.before.meet.ensures c.before.before.before.before.met.given.1 in
-    layered-here _ _ _ _ _ _ _ took.follows took.moves c.before.before.part.ensures c.before.says-layer.ensures c.if1.true ∙ whole_of _ _ l.invariant.1 l.invariant.0)
+    let l = c.loop-place in
+    let took = was-taken _ _ _ _ _ _ c.meet-met.ensures c.in-Takes.is in
+    layered-here _ _ _ _ _ _ _ took.follows took.moves c.part.ensures c.says_layer-says.ensures c.if-says-more.true ∙ whole_of _ _ l.invariant.1 l.invariant.0)
     (λ c κs. search rules)
     (λ c.
-    let took = was-taken _ _ _ _ _ _ c.before.before.before.before.before.before.before.meet.ensures c.before.before.before.before.before.met.given.1 in
+    let took = was-taken _ _ _ _ _ _ c.meet-met.ensures c.in-Takes.is in
     omega (arith, took.few))
     (λ c.
-    let took = was-taken _ _ _ _ _ _ c.before.before.before.before.before.before.before.meet.ensures c.before.before.before.before.before.met.given.1 in
+    let took = was-taken _ _ _ _ _ _ c.meet-met.ensures c.in-Takes.is in
     omega (arith, took.follows.after, took.follows.some, took.follows.within))
     (λ c.
-    let l = c.before.before.before.before.before.before.before.before.loop in
-    let took = was-taken _ _ _ _ _ _ c.before.before.before.before.before.before.before.meet.ensures c.before.before.before.before.before.met.given.1 in
-    (layered-next _ _ _ _ _ _ _ took.follows took.moves c.before.before.before.part.ensures c.before.before.says-layer.ensures c.before.if1.false c.count_down.ensures ∙ l.invariant.0, l.invariant.1, omega (arith, l.invariant.2, took.follows.after, took.follows.some)))
+    let l = c.loop-place in
+    let took = was-taken _ _ _ _ _ _ c.meet-met.ensures c.in-Takes.is in
+    (layered-next _ _ _ _ _ _ _ took.follows took.moves c.part.ensures c.says_layer-says.ensures c.if-says-more.false c.count_down-more.ensures ∙ l.invariant.0, l.invariant.1, omega (arith, l.invariant.2, took.follows.after, took.follows.some)))
     (λ c. search rules)
     (λ c.
-    let l = c.before.before.before.before.loop in
-    let began = was-opened _ _ _ _ _ _ c.before.before.before.meet.ensures c.before.met2.given.1 in
+    let l = c.loop-place in
+    let began = was-opened _ _ _ _ _ _ c.meet-met.ensures c.in-Opens.is in
     omega (arith, l.invariant.2, began.follows.after, began.follows.some, began.follows.within))
     (λ c.
-    let began = was-opened _ _ _ _ _ _ c.before.before.before.meet.ensures c.before.met2.given.1 in
+    let began = was-opened _ _ _ _ _ _ c.meet-met.ensures c.in-Opens.is in
     omega (arith, began.follows.after, began.follows.some, began.follows.within))
     (λ c.
-    let l = c.before.before.before.before.loop in
-    let began = was-opened _ _ _ _ _ _ c.before.before.before.meet.ensures c.before.met2.given.1 in
+    let l = c.loop-place in
+    let began = was-opened _ _ _ _ _ _ c.meet-met.ensures c.in-Opens.is in
     (layered-opens _ _ _ _ _ _ _ began.follows began.moves ∙ l.invariant.0, l.invariant.1, omega (arith, l.invariant.2, began.follows.after, began.follows.some))))

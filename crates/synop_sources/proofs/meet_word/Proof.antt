@@ -9,5 +9,5 @@ meet_word_spec =
     tie.close
     (tie.spec
     (λ c κs. search rules)
-    (λ c. rw (← c.before.is-section3.ensures, c.if1.true))
-    (λ c. rw (← c.before.is-section3.ensures, c.if1.false)))
+    (λ c. rw (← c.is_section3-third.ensures, c.if-part-third.true))
+    (λ c. rw (← c.is_section3-third.ensures, c.if-part-third.false)))

@@ -41,6 +41,6 @@ part_of_spec =
     (tie.spec
     (λ c. search rules)
     (λ c. search rules)
-    (λ c. rw c.enum_told.given.1)
-    (λ c. rw c.enum-told2.given.1)
-    (λ c. first c.before.args.element c.match.keys3))
+    (λ c. rw c.in-Maximum.is)
+    (λ c. rw c.in-Minimum.is)
+    (λ c. first c.args.element c.in_default.in_default-own.keys3))

@@ -15,9 +15,9 @@ pub row_turn_spec : {M : Type 1} → statement M
 row_turn_spec =
     tie.close
     (tie.spec
-    (λ c. turn-past (row free) (has_any stop_words) _ _ _ (rw (row-length free) c.if1.true))
+    (λ c. turn-past (row free) (has_any stop_words) _ _ _ (rw (row-length free) c.if-place-ge10.true))
     (λ c κs. search rules)
-    (λ c. turn-halts (row free) (has_any stop_words) _ _ _ (rw (row-length free) (omega (arith, c.before.before.if1.false))) (sym c.before.is-stop-word.ensures ∙ c.if2.true))
+    (λ c. turn-halts (row free) (has_any stop_words) _ _ _ (rw (row-length free) (omega (arith, c.if-place-ge10.false))) (sym c.is_stop_word.ensures ∙ c.if-is_stop_word.true))
     (λ c κs. search rules)
     (λ c κs. search rules)
-    (λ c. turn-found (row free) (has_any stop_words) _ _ _ (rw (row-length free) (omega (arith, c.before.before.before.before.if1.false))) (sym c.before.before.before.is-stop-word.ensures ∙ c.before.before.if2.false) c.before.find.ensures c.turn_by.ensures))
+    (λ c. turn-found (row free) (has_any stop_words) _ _ _ (rw (row-length free) (omega (arith, c.if-place-ge10.false))) (sym c.is_stop_word.ensures ∙ c.if-is_stop_word.false) c.find.ensures c.turn_by.ensures))

@@ -8,6 +8,5 @@ pub says_layer_spec : {M : Type 1} → statement M
 says_layer_spec =
     tie.close
     (tie.spec
-    (λ c. search rules)
     (λ c κs. search rules)
-    (λ c. rw (← c.has-pattern.ensures)))
+    (λ c. rw (← c.has_pattern-none.ensures)))

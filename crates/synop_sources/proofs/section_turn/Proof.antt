@@ -11,5 +11,5 @@ section_turn_spec =
     (tie.spec
     (λ c κs. search rules)
     (λ c κs. search rules)
-    (λ c. rw (eq-eqb _ _ c.before.if1.true) c.row-turn.ensures)
-    (λ c. rw (ne_eqb _ _ c.before.if1.false) c.row-turn2.ensures))
+    (λ c. rw (eq-eqb _ _ c.if-place-eq18.true) c.row_turn.ensures)
+    (λ c. rw (ne_eqb _ _ c.if-place-eq18.false) c.row_turn-else-place-eq18.ensures))

@@ -1,7 +1,7 @@
 -- `taf_move::move_taf` meets its contract: what the writer judges first, then the times.
 -- Assumes nothing.
 use borrow.Author.Rules.{rules}
-use mathlib.Core.Path.{◌≡◌, sym, ◌∙◌}
+use mathlib.Core.Path.{sym, ◌∙◌}
 use Rattle.taf_move.proofs.Moving.{times-decide, writer-decides}
 use Rattle.taf_move.proofs.move_taf.Statement.{statement}
 use Rattle.taf_move.proofs.move_taf.Tie as tie
@@ -16,5 +16,5 @@ move_taf_spec =
     (λ c κs. search rules)
     (λ c. search rules)
     (λ c κs. search rules)
-    (λ c. times-decide _ _ _ _ (sym (rw c.before.before.before.before.other.ensures at c.before.before.before.judge.ensures) ∙ c.before.enum_told.given.1) c.move-times.ensures)
-    (λ c. writer-decides _ _ _ _ _ (sym (rw c.before.before.before.before.before.other.ensures at c.before.before.before.before.judge.ensures) ∙ c.before.before.judged.given.1) c.refuse.ensures))
+    (λ c. times-decide _ _ _ _ (sym (rw c.other-left.ensures at c.judge-judged.ensures) ∙ c.in-Fine.is) c.move_times.ensures)
+    (λ c. writer-decides _ _ _ _ _ (sym (rw c.other-left.ensures at c.judge-judged.ensures) ∙ c.in-Refused.is) c.refuse.ensures))

@@ -9,4 +9,4 @@ does_belong_spec =
     tie.close
     (tie.spec
     (λ c κs. search rules)
-    (λ c. rw c.does-join.ensures))
+    (λ c. rw c.does_join-joins.ensures))

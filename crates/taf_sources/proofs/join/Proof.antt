@@ -9,4 +9,4 @@ join_spec =
     tie.close
     (tie.spec
     (λ c κs. search rules)
-    (λ c. rw c.with-tempo.ensures))
+    (λ c. rw c.with_tempo-both.ensures))

@@ -13,13 +13,13 @@ meet_spec =
     tie.close
     (tie.spec
     (λ c κs. search rules) (λ c. search rules) (λ c. search rules)
-    (λ c. met-end _ _ _ _ _ _ _ c.before.before.next-group.ensures c.enum_told.given.1)
+    (λ c. met-end _ _ _ _ _ _ _ c.next_group.ensures c.in_default.is)
     (λ c κs. search rules) (λ c κs. search rules) (λ c κs. search rules)
-    (λ c. met-joined _ _ _ _ _ _ _ c.before.before.before.before.before.before.before.next-group.ensures c.before.before.before.before.before.start.given.1 c.before.before.before.part.ensures c.before.before.does-belong.ensures c.before.if1.true c.join.ensures)
+    (λ c. met-joined _ _ _ _ _ _ _ c.next_group.ensures c.in-Group.is c.part-g.ensures c.does_belong.ensures c.if-does_belong.true c.join.ensures)
     (λ c κs. search rules) (λ c κs. search rules) (λ c. search rules) (λ c κs. search rules) (λ c. search rules) (λ c. search rules) (λ c κs. search rules)
-    (λ c. omega (arith, turn-few _ _ _ _ _ c.before.before.before.before.decide.ensures c.before.before.turn.given.1))
-    (λ c. met-turn _ _ _ _ _ _ _ c.before.before.before.before.before.before.before.before.before.before.before.next-group.ensures c.before.before.before.before.before.before.before.before.before.start.given.1 c.before.before.before.before.before.before.before.part.ensures c.before.before.before.before.before.before.does-belong.ensures c.before.before.before.before.before.if1.false c.before.before.before.before.row_of.ensures c.before.before.before.decide.ensures c.before.enum-told2.given.1 (c.meet-word.ensures _))
-    (λ c. met-turn _ _ _ _ _ _ _ c.before.before.before.before.before.before.before.before.before.before.next-group.ensures c.before.before.before.before.before.before.before.before.start.given.1 c.before.before.before.before.before.before.part.ensures c.before.before.before.before.before.does-belong.ensures c.before.before.before.before.if1.false c.before.before.before.row_of.ensures c.before.before.decide.ensures c.enum-told3.given.1 refl)
+    (λ c. omega (arith, turn-few _ _ _ _ _ c.decide-turn.ensures c.in-At.is))
+    (λ c. met-turn _ _ _ _ _ _ _ c.next_group.ensures c.in-Group.is c.part-g.ensures c.does_belong.ensures c.if-does_belong.false c.row_of.ensures c.decide-turn.ensures c.in-Halt.is (c.meet_word.ensures _))
+    (λ c. met-turn _ _ _ _ _ _ _ c.next_group.ensures c.in-Group.is c.part-g.ensures c.does_belong.ensures c.if-does_belong.false c.row_of.ensures c.decide-turn.ensures c.in-Refused.is refl)
     (λ c.
-    let a = c.before.before.before.before.before.before.before.before.before.before.before.before.before.before.args in
-    met-turn _ _ _ _ _ _ _ c.before.before.before.before.before.before.before.before.before.before.before.before.next-group.ensures c.before.before.before.before.before.before.before.before.before.before.start.given.1 c.before.before.before.before.before.before.before.before.part.ensures c.before.before.before.before.before.before.before.does-belong.ensures c.before.before.before.before.before.before.if1.false c.before.before.before.before.before.row_of.ensures c.before.before.before.before.decide.ensures c.before.before.turn.given.1 (rw (c.go-past.ensures a.edition (row_of a.part a.opener)))))
+    let a = c.args in
+    met-turn _ _ _ _ _ _ _ c.next_group.ensures c.in-Group.is c.part-g.ensures c.does_belong.ensures c.if-does_belong.false c.row_of.ensures c.decide-turn.ensures c.in-At.is (rw (c.go_past.ensures a.edition (row_of a.part a.opener)))))

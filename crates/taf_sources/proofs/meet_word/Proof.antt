@@ -10,5 +10,5 @@ meet_word_spec =
     tie.close
     (tie.spec
     (λ c κs. search rules) (λ c. search rules) (λ c. search rules)
-    (λ c o. unfold word_move in rw (← c.before.before.before.open-change.ensures, c.before.opened.given.1))
-    (λ c o. unfold word_move in rw (← c.before.before.open-change.ensures, c.enum_told.given.1)))
+    (λ c o. unfold word_move in rw (← c.open_change-opened.ensures, c.in-Good.is))
+    (λ c o. unfold word_move in rw (← c.open_change-opened.ensures, c.in-Bad.is)))

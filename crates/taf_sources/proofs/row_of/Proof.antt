@@ -10,5 +10,5 @@ row_of_spec =
     tie.close
     (tie.spec
     (λ c κs. search rules)
-    (λ c. rw (eq-eqb _ _ c.if1.true))
-    (λ c. rw (ne_eqb _ _ c.before.if1.false) c.part_of.ensures))
+    (λ c. rw (eq-eqb _ _ c.if-part-eq0.true))
+    (λ c. rw (ne_eqb _ _ c.if-part-eq0.false) c.part_of.ensures))

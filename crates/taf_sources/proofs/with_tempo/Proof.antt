@@ -9,6 +9,6 @@ with_tempo_spec =
     tie.close
     (tie.spec
     (λ c. search rules) (λ c. search rules) (λ c. search rules) (λ c. search rules) (λ c. search rules) (λ c. search rules) (λ c. search rules) (λ c. search rules) (λ c. search rules)
-    (λ c. rw c.before.opener.given.1)
-    (λ c. rw c.before.opener2.given.1)
+    (λ c. rw c.in-Probable.is)
+    (λ c. rw c.in-ProbablyTemporary.is)
     (λ c. search rules))

@@ -10,4 +10,4 @@ change_of_spec =
     (tie.spec
     (λ c κs. search rules)
     (λ c κs. search rules)
-    (λ c. rw (c.change-span.ensures, c.before.is-from.ensures)))
+    (λ c. rw (c.change_span.ensures, c.is_from.ensures)))

@@ -10,4 +10,4 @@ days_in_spec =
     (tie.spec
     (λ c κs. search rules)
     (λ c κs. search rules)
-    (λ c. rw (c.is-missing-or-between2.ensures, c.before.is-missing-or-between.ensures)))
+    (λ c. rw (c.is_missing_or_between-2.ensures, c.is_missing_or_between.ensures)))

@@ -11,4 +11,4 @@ month_fits_spec =
     (tie.spec
     (λ c κs. search rules)
     (λ c κs. search rules)
-    (λ c. unfold month_fits in rw (c.changes-in.ensures, c.before.days-in.ensures)))
+    (λ c. unfold month_fits in rw (c.changes_in.ensures, c.days_in.ensures)))

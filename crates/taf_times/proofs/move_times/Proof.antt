@@ -12,10 +12,10 @@ move_times_spec =
     tie.close
     (tie.spec
     (λ c κs. search rules)
-    (λ c κs. (month-days _ _ (sym c.before.month-fits.ensures ∙ c.if1.true)).1)
-    (λ c κs. (month-days _ _ (sym c.before.before.before.month-fits.ensures ∙ c.before.before.if1.true)).1)
-    (λ c. unfold times_moved judge_times in rw (c.times-in.ensures, ← c.before.before.before.before.month-fits.ensures, c.before.before.before.if1.true, ← c.before.before.times-fit.ensures, c.before.if2.true))
+    (λ c κs. (month-days _ _ (sym c.month_fits.ensures ∙ c.if-month_fits.true)).1)
+    (λ c κs. (month-days _ _ (sym c.month_fits.ensures ∙ c.if-month_fits.true)).1)
+    (λ c. unfold times_moved judge_times in rw (c.times_in-forecast.ensures, ← c.month_fits.ensures, c.if-month_fits.true, ← c.times_fit.ensures, c.if-times_fit.true))
     (λ c κs. search rules)
-    (λ c. unfold times_moved judge_times in rw (c.refuse.ensures, ← c.before.before.before.before.month-fits.ensures, c.before.before.before.if1.true, ← c.before.before.times-fit.ensures, c.before.if2.false))
+    (λ c. unfold times_moved judge_times in rw (c.refuse.ensures, ← c.month_fits.ensures, c.if-month_fits.true, ← c.times_fit.ensures, c.if-times_fit.false))
     (λ c κs. search rules)
-    (λ c. unfold times_moved judge_times in rw (c.refuse2.ensures, ← c.before.before.month-fits.ensures, c.before.if1.false)))
+    (λ c. unfold times_moved judge_times in rw (c.refuse-2.ensures, ← c.month_fits.ensures, c.if-month_fits.false)))

@@ -11,4 +11,4 @@ moved_change_spec =
     (λ c κs. search rules)
     (λ c κs. search rules)
     (λ c κs. search rules)
-    (λ c. rw (c.change-in.ensures, c.before.change-of.ensures, c.before.before.is-from.ensures)))
+    (λ c. rw (c.change_in-moved.ensures, c.change_of.ensures, c.is_from.ensures)))

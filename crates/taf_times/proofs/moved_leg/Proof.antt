@@ -9,7 +9,7 @@ pub moved_leg_spec : {M : Type 1} → statement M
 moved_leg_spec =
     tie.close
     (tie.spec
-    (λ c. unfold moved_leg in rw c.if1.true)
+    (λ c. unfold moved_leg in rw c.if-leg.true)
     (λ c κs. search rules)
     (λ c κs. search rules)
-    (λ c. unfold moved_leg in rw (c.before.before.if1.false, c.period-in.ensures, c.before.period-span.ensures.0)))
+    (λ c. unfold moved_leg in rw (c.if-leg.false, c.period_in-moved.ensures, c.period_span.ensures.0)))

@@ -12,4 +12,4 @@ times_fit_spec =
     (λ c κs. search rules)
     (λ c κs. search rules)
     (λ c κs. search rules)
-    (λ c. unfold times_fit in rw (c.before.whole-fits.ensures, c.before.before.changes-fit.ensures, c.before.before.before.period-span.ensures.0)))
+    (λ c. unfold times_fit in rw (c.whole_fits.ensures, c.changes_fit-fits.ensures, c.period_span-w.ensures.0)))

@@ -12,4 +12,4 @@ times_in_spec =
     (λ c κs. search rules)
     (λ c κs. search rules)
     (λ c κs. search rules)
-    (λ c. unfold times_in moved_changes in rw (c.moved-each.ensures, c.before.moved-leg.ensures, c.before.before.period-span.ensures.0)))
+    (λ c. unfold times_in moved_changes in rw (c.moved_each-items.ensures, c.moved_leg-leg.ensures, c.period_span-w.ensures.0)))

@@ -12,10 +12,10 @@ use Rattle.text.specs.Bytes.{passes}
 use Rattle.text.proofs.are_all.Statement.{statement}
 use Rattle.text.proofs.are_all.Tie as tie
 
-abbrev Inv : tie.invariant-loop
+abbrev Inv : tie.invariant-loop-i
 Inv text run fine₀ i₀ fine i = every (passes run) text ≡ (fine && every (passes run) (drop i text))
 
-abbrev μ : tie.decreases-loop
+abbrev μ : tie.decreases-loop-i
 μ text run fine₀ i₀ fine i = length text - i
 
 pub are_all_spec : {M : Type 1} → statement M
@@ -25,11 +25,11 @@ are_all_spec =
     (λ c. refl)
     (λ c. search rules) (λ c κs. search rules) (λ c. search rules) (λ c. search rules)
     (λ c.
-    let d = c.before.before.before in
-    let a = d.before.before.args in
+    let d = c in
+    let a = d.args in
     let t = a.text.now in
     let P = passes a.run in
-    d.loop.invariant ∙ rw (every-at P t d.loop.i 0 c.before.before.loop-test.true, ← c.passes.ensures) (sym (and_assoc d.loop.fine c.passes.result (every P (drop (d.loop.i + 1) t)))))
+    d.loop-i.invariant ∙ rw (every-at P t d.loop-i.i 0 c.loop-i-test.true, ← c.passes-fine.ensures) (sym (and_assoc d.loop-i.fine c.passes-fine.result (every P (drop (d.loop-i.i + 1) t)))))
     (λ c.
-    let a = c.before.before.before.args in
-    sym (c.before.loop.invariant ∙ rw (every-end (passes a.run) a.text.now c.before.loop.i c.loop-test.false) (and-true c.before.loop.fine))))
+    let a = c.args in
+    sym (c.loop-i.invariant ∙ rw (every-end (passes a.run) a.text.now c.loop-i.i c.loop-i-test.false) (and-true c.loop-i.fine))))

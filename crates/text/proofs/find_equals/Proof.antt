@@ -20,14 +20,14 @@ find_equals_spec =
     tie.close
     (tie.spec
     (λ c κs. search rules) (λ c. search rules)
-    (λ c. omega (arith, last-le c.before.before.before.before.args.text.now))
+    (λ c. omega (arith, last-le c.args.text.now))
     (λ c.
-    let t = c.before.before.before.before.before.before.args.text.now in
-    sym (length-take-le (c.before.before.before.before.find-last-end.result - 1) t (omega (arith, last-le t))))
+    let t = c.args.text.now in
+    sym (length-take-le (c.find_last_end-end.result - 1) t (omega (arith, last-le t))))
     (λ c κs. search rules)
     (λ c.
-    let d = c.before.before.before in
-    let t = d.before.before.before.before.before.args.text.now in
-    sym (lead-before other t _ (omega (arith, last-le t)) (sym c.before.are_all.ensures ∙ c.if3.true) (ap not (eq-eqb _ 61 d.if2.true))))
+    let d = c in
+    let t = d.args.text.now in
+    sym (lead-before other t _ (omega (arith, last-le t)) (sym c.are_all.ensures ∙ c.if-are_all.true) (ap not (eq-eqb _ 61 d.if-text-last-eq61.true))))
     (λ c κs. search rules)
     (λ c. c.reach.ensures ∙ zero-add _))

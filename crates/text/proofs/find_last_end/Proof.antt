@@ -9,10 +9,10 @@ use Rattle.text.proofs.Leads.{last-back, last-here, last_none, last-whole}
 use Rattle.text.proofs.find_last_end.Statement.{statement}
 use Rattle.text.proofs.find_last_end.Tie as tie
 
-abbrev invariant-loop : tie.invariant-loop
+abbrev invariant-loop : tie.invariant-loop-end
 invariant-loop text end₀ end = (end ≤ length text) × (last_end (take end text) ≡ last_end text)
 
-abbrev decreases-loop : tie.decreases-loop
+abbrev decreases-loop : tie.decreases-loop-end
 decreases-loop text end₀ end = end
 
 pub find_last_end_spec : {M : Type 1} → statement M
@@ -21,12 +21,12 @@ find_last_end_spec =
     (tie.spec
     invariant-loop
     decreases-loop
-    (λ c. (search rules, last-whole c.before.args.text.now))
+    (λ c. (search rules, last-whole c.args.text.now))
     (λ c. search rules) (λ c. search rules) (λ c κs. search rules) (λ c. search rules) (λ c. search rules)
     (λ c.
-    let d = c.before.before.before in
-    (search rules, last-back d.before.before.before.args.text.now d.before.loop.end d.loop-test.true d.before.loop.invariant.0 (sym c.before.is-parting.ensures ∙ c.if1.true) ∙ d.before.loop.invariant.1))
+    let d = c in
+    (search rules, last-back d.args.text.now d.loop-end.end d.loop-end-test.true d.loop-end.invariant.0 (sym c.is_parting.ensures ∙ c.if-is_parting.true) ∙ d.loop-end.invariant.1))
     (λ c.
-    let d = c.before.before.before in
-    sym (last-here d.before.before.before.args.text.now d.before.loop.end d.loop-test.true d.before.loop.invariant.0 (sym c.before.is-parting.ensures ∙ c.if1.false)) ∙ d.before.loop.invariant.1)
-    (λ c. sym (last_none c.before.before.before.args.text.now c.before.loop.end c.loop-test.false) ∙ c.before.loop.invariant.1))
+    let d = c in
+    sym (last-here d.args.text.now d.loop-end.end d.loop-end-test.true d.loop-end.invariant.0 (sym c.is_parting.ensures ∙ c.if-is_parting.false)) ∙ d.loop-end.invariant.1)
+    (λ c. sym (last_none c.args.text.now c.loop-end.end c.loop-end-test.false) ∙ c.loop-end.invariant.1))

@@ -14,15 +14,15 @@ pub judge_bytes_spec : {M : Type 1} → statement M
 judge_bytes_spec =
     tie.close
     (tie.spec
-    (λ c. sym (bytes-none c.before.before.args.text.now c.if1.true))
-    (λ c. sym (bytes-long c.before.before.before.args.text.now c.if2.true))
+    (λ c. sym (bytes-none c.args.text.now c.if-text-eq0.true))
+    (λ c. sym (bytes-long c.args.text.now c.if-text-gt2048.true))
     (λ c κs. search rules) (λ c κs. search rules)
     (λ c.
-    let d = c.before.before in
-    let t = d.before.before.before.args.text.now in
-    sym (bytes-sound t d.before.if1.false d.if2.false (lead allowed t) refl (omega (arith, lead-all allowed t (sym c.before.are_all.ensures ∙ c.if3.true)))))
+    let d = c in
+    let t = d.args.text.now in
+    sym (bytes-sound t d.if-text-eq0.false d.if-text-gt2048.false (lead allowed t) refl (omega (arith, lead-all allowed t (sym c.are_all.ensures ∙ c.if-are_all.true)))))
     (λ c.
-    let d = c.before.before.before in
-    let t = d.before.before.before.args.text.now in
+    let d = c in
+    let t = d.args.text.now in
     let bad = c.reach.ensures ∙ zero-add _ in
-    sym (bytes-bad t d.before.if1.false d.if2.false _ bad (rw bad (lead-some allowed t (sym c.before.before.are_all.ensures ∙ c.before.if3.false))))))
+    sym (bytes-bad t d.if-text-eq0.false d.if-text-gt2048.false _ bad (rw bad (lead-some allowed t (sym c.are_all.ensures ∙ c.if-are_all.false))))))

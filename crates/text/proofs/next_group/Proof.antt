@@ -11,18 +11,18 @@ pub next_group_spec : {M : Type 1} → statement M
 next_group_spec =
     tie.close
     (tie.spec
-    (λ c. sym (next_past c.before.before.args.text.now _ c.if1.true))
+    (λ c. sym (next_past c.args.text.now _ c.if-text-at.true))
     (λ c κs. search rules)
     (λ c.
-    let a = c.before.before.before.before.args in
-    sym (next-end a.text.now a.at _ c.before.before.if1.false c.before.reach.ensures c.if2.true))
+    let a = c.args in
+    sym (next-end a.text.now a.at _ c.if-text-at.false c.reach-start.ensures c.if-text-start.true))
     (λ c. search rules) (λ c κs. search rules) (λ c κs. search rules)
     (λ c.
-    let d = c.before.before.before.before in
-    let a = d.before.before.before.before.args in
-    ap (Group d.before.reach.result) c.reach2.ensures
-    ∙ sym (next-group a.text.now a.at _ d.before.before.if1.false d.before.reach.ensures d.if2.false (sym c.before.before.is-inner.ensures ∙ c.before.if3.true)))
+    let d = c in
+    let a = d.args in
+    ap (Group d.reach-start.result) c.reach-end.ensures
+    ∙ sym (next-group a.text.now a.at _ d.if-text-at.false d.reach-start.ensures d.if-text-start.false (sym c.is_inner.ensures ∙ c.if-is_inner.true)))
     (λ c.
-    let d = c.before.before.before in
-    let a = d.before.before.before.before.args in
-    sym (next-stop a.text.now a.at _ d.before.before.if1.false d.before.reach.ensures d.if2.false (sym c.before.is-inner.ensures ∙ c.if3.false))))
+    let d = c in
+    let a = d.args in
+    sym (next-stop a.text.now a.at _ d.if-text-at.false d.reach-start.ensures d.if-text-start.false (sym c.is_inner.ensures ∙ c.if-is_inner.false))))

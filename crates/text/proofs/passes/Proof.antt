@@ -10,7 +10,7 @@ passes_spec =
     (tie.spec
     (λ c. search rules) (λ c κs. search rules) (λ c. search rules) (λ c κs. search rules) (λ c. search rules) (λ c. search rules)
     (λ c κs. search rules)
-    (λ c. rw c.before.enum_told.given.1 c.is-parting.ensures)
-    (λ c. rw c.before.enum-told2.given.1 c.is-inner.ensures)
-    (λ c. rw c.enum-told3.given.1)
-    (λ c. rw c.before.enum-told4.given.1 c.is-allowed.ensures))
+    (λ c. rw c.in-Parting.is c.is_parting.ensures)
+    (λ c. rw c.in-Inner.is c.is_inner.ensures)
+    (λ c. rw c.in-Other.is)
+    (λ c. rw c.in-Allowed.is c.is_allowed.ensures))

@@ -10,10 +10,10 @@ use Rattle.text.proofs.Leads.{lead-yes, lead-no, lead-end}
 use Rattle.text.proofs.reach.Statement.{statement}
 use Rattle.text.proofs.reach.Tie as tie
 
-abbrev invariant-loop : tie.invariant-loop
+abbrev invariant-loop : tie.invariant-loop-i
 invariant-loop text at run i₀ i = at + lead (passes run) (drop at text) ≡ i + lead (passes run) (drop i text)
 
-abbrev decreases-loop : tie.decreases-loop
+abbrev decreases-loop : tie.decreases-loop-i
 decreases-loop text at run i₀ i = length text - i
 
 pub reach_spec : {M : Type 1} → statement M
@@ -24,9 +24,9 @@ reach_spec =
     decreases-loop
     (λ c. search rules) (λ c. search rules) (λ c κs. search rules) (λ c. search rules) (λ c. search rules)
     (λ c.
-    let d = c.before.before.before in
-    omega (arith, lead-yes (passes d.before.before.before.args.run) d.before.before.before.args.text.now d.before.loop.i d.loop-test.true (sym c.before.passes.ensures ∙ c.if1.true)))
+    let d = c in
+    omega (arith, lead-yes (passes d.args.run) d.args.text.now d.loop-i.i d.loop-i-test.true (sym c.passes.ensures ∙ c.if-passes.true)))
     (λ c.
-    let d = c.before.before.before in
-    omega (arith, lead-no (passes d.before.before.before.args.run) d.before.before.before.args.text.now d.before.loop.i d.loop-test.true (sym c.before.passes.ensures ∙ c.if1.false)))
-    (λ c. omega (arith, lead-end (passes c.before.before.before.args.run) c.before.before.before.args.text.now c.before.loop.i c.loop-test.false)))
+    let d = c in
+    omega (arith, lead-no (passes d.args.run) d.args.text.now d.loop-i.i d.loop-i-test.true (sym c.passes.ensures ∙ c.if-passes.false)))
+    (λ c. omega (arith, lead-end (passes c.args.run) c.args.text.now c.loop-i.i c.loop-i-test.false)))

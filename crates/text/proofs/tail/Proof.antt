@@ -11,11 +11,11 @@ tail_spec =
     tie.close
     (tie.spec
     (λ c κs. search rules)
-    (λ c. sym (tail_none c.before.before.before.args.text.now _ c.before.find-equals.ensures c.if1.true))
+    (λ c. sym (tail_none c.args.text.now _ c.find_equals-equals.ensures c.if-text-equals.true))
     (λ c. search rules) (λ c κs. search rules)
     (λ c.
-    let d = c.before.before in
-    sym (tail-junk d.before.before.before.args.text.now _ d.before.find-equals.ensures _ d.if1.false c.before.reach.ensures c.if2.true))
+    let d = c in
+    sym (tail-junk d.args.text.now _ d.find_equals-equals.ensures _ d.if-text-equals.false c.reach-place.ensures c.if-place-text.true))
     (λ c.
-    let d = c.before.before in
-    sym (tail-clear d.before.before.before.args.text.now _ d.before.find-equals.ensures _ d.if1.false c.before.reach.ensures c.if2.false)))
+    let d = c in
+    sym (tail-clear d.args.text.now _ d.find_equals-equals.ensures _ d.if-text-equals.false c.reach-place.ensures c.if-place-text.false)))

@@ -13,21 +13,21 @@ trimmed_spec =
     (tie.spec
     (λ c κs. search rules) (λ c κs. search rules) (λ c κs. search rules)
     (λ c.
-    let d = c.before.before in
-    let none = trimmed-none d.before.before.before.args.text.now _ d.find-equals.ensures _ (d.before.reach.ensures ∙ zero-add _) c.before.if1.true in
+    let d = c in
+    let none = trimmed-none d.args.text.now _ d.find_equals-equals.ensures _ (d.reach-start.ensures ∙ zero-add _) c.if-equals-start.true in
     rw (none.0, none.1) c.no_part.ensures)
     (λ c. search rules) (λ c κs. search rules) (λ c κs. search rules) (λ c κs. search rules)
     (λ c.
-    let d = c.before.before.before in
-    let text = d.before.before.before.args.text.now in
-    let equals = d.find-equals.ensures in
-    let first = d.before.reach.ensures ∙ zero-add _ in
-    rw (trimmed-start text _ equals _ first c.before.before.if1.false, trimmed-equals text _ equals _ first c.before.before.if1.false c.before.if2.true)
+    let d = c in
+    let text = d.args.text.now in
+    let equals = d.find_equals-equals.ensures in
+    let first = d.reach-start.ensures ∙ zero-add _ in
+    rw (trimmed-start text _ equals _ first c.if-equals-start.false, trimmed-equals text _ equals _ first c.if-equals-start.false c.if-equals-text.true)
     c.part_at.ensures)
     (λ c.
-    let d = c.before.before.before.before in
-    let text = d.before.before.before.args.text.now in
-    let equals = d.find-equals.ensures in
-    let first = d.before.reach.ensures ∙ zero-add _ in
-    rw (trimmed-start text _ equals _ first c.before.before.before.if1.false, trimmed-last text _ equals _ first c.before.before.before.if1.false c.before.before.if2.false, ← c.before.find-last-end.ensures)
-    c.part-at2.ensures))
+    let d = c in
+    let text = d.args.text.now in
+    let equals = d.find_equals-equals.ensures in
+    let first = d.reach-start.ensures ∙ zero-add _ in
+    rw (trimmed-start text _ equals _ first c.if-equals-start.false, trimmed-last text _ equals _ first c.if-equals-start.false c.if-equals-text.false, ← c.find_last_end.ensures)
+    c.part_at-else-equals-text.ensures))

@@ -9,5 +9,5 @@ bytes_at_spec =
     tie.close
     (tie.spec
     (λ c. search rules) (λ c κs. search rules) (λ c. search rules) (λ c κs. search rules)
-    (λ c. rw c.before.before.cut.given.1 c.part_at.ensures)
-    (λ c. rw c.before.before.cut2.given.1 c.part-at2.ensures))
+    (λ c. rw c.in-Group.is c.part_at.ensures)
+    (λ c. rw c.in-End.is c.part_at-in-End.ensures))

@@ -8,4 +8,4 @@ instant_fits_spec =
     tie.close
     (tie.spec
     (λ c κs. tt) (λ c κs. tt) (λ c κs. tt)
-    (λ c. rw (c.is-up-to2.ensures, c.before.is-up-to.ensures, c.before.before.is-between.ensures)))
+    (λ c. rw (c.is_up_to-2.ensures, c.is_up_to.ensures, c.is_between.ensures)))

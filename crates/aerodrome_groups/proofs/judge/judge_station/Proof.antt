@@ -14,5 +14,5 @@ judge_station_spec =
     (λ c κs. tt)
     (λ c.
     unfold judge_station in
-    rw (← four-letters c.before.before.before.before.before.before.args.s.letters (search rules))
-    (rw (c.judge.ensures, c.before.before.before.before.is-letter.ensures, c.before.before.before.is-letter2.ensures, c.before.before.is-letter3.ensures, c.before.is-letter4.ensures))))
+    rw (← four-letters c.args.s.letters (search rules))
+    (rw (c.judge.ensures, c.is_letter.ensures, c.is_letter-2.ensures, c.is_letter-3.ensures, c.is_letter-4.ensures))))

@@ -9,4 +9,4 @@ judge_temperatures_spec =
     tie.close
     (tie.spec
     (λ c κs. tt) (λ c κs. tt) (λ c κs. tt)
-    (λ c. unfold judge_temperatures in rw (c.judge.ensures, c.before.before.tenths-fit.ensures, c.before.tenths-fit2.ensures)))
+    (λ c. unfold judge_temperatures in rw (c.judge.ensures, c.tenths_fit.ensures, c.tenths_fit-2.ensures)))

@@ -9,4 +9,4 @@ judge_time_spec =
     tie.close
     (tie.spec
     (λ c κs. tt) (λ c κs. tt)
-    (λ c. unfold judge_time in rw (c.judge.ensures, c.before.instant-fits.ensures)))
+    (λ c. unfold judge_time in rw (c.judge.ensures, c.instant_fits.ensures)))

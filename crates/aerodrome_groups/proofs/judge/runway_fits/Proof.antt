@@ -8,4 +8,4 @@ runway_fits_spec =
     tie.close
     (tie.spec
     (λ c κs. tt) (λ c κs. tt)
-    (λ c. rw (c.before.is-between.ensures, c.metres-fit.ensures)))
+    (λ c. rw (c.is_between.ensures, c.metres_fit.ensures)))

@@ -10,5 +10,5 @@ add_runway_spec =
     tie.close
     (tie.spec
     (λ c. search rules) (λ c. search rules) (λ c. search rules)
-    (λ c. rw (lt-ltb _ _ c.before.if1.true))
-    (λ c. rw (le-ltb _ _ c.if1.false)))
+    (λ c. rw (lt-ltb _ _ c.if-k-lt4.true))
+    (λ c. rw (le-ltb _ _ c.if-k-lt4.false)))

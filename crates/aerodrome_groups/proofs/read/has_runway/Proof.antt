@@ -9,4 +9,4 @@ use Rattle.aerodrome_groups.proofs.read.has_runway.Tie as tie
 
 pub has_runway_spec : {M : Type 1} → statement M
 unfolding has_shape
-has_runway_spec = tie.close (tie.spec (λ c κs. search rules) (λ c. ap (λ (s : Scan). s.fits) c.scan-runway.ensures))
+has_runway_spec = tie.close (tie.spec (λ c κs. search rules) (λ c. ap (λ (s : Scan). s.fits) c.scan_runway-s.ensures))

@@ -9,4 +9,4 @@ use Rattle.aerodrome_groups.proofs.read.has_temperatures.Tie as tie
 
 pub has_temperatures_spec : {M : Type 1} → statement M
 unfolding has_shape
-has_temperatures_spec = tie.close (tie.spec (λ c κs. search rules) (λ c. ap (λ (s : Scan). s.fits) c.scan-temperatures.ensures))
+has_temperatures_spec = tie.close (tie.spec (λ c κs. search rules) (λ c. ap (λ (s : Scan). s.fits) c.scan_temperatures-s.ensures))

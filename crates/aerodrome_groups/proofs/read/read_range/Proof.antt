@@ -10,9 +10,9 @@ read_range_spec =
     tie.close
     (tie.spec
     (λ c. search rules) (λ c κs. tt) (λ c κs. search rules) (λ c. search rules) (λ c. search rules) (λ c. search rules) (λ c. search rules) (λ c. search rules)
-    (λ c. rw (c.before.before.before.before.before.before.told.given.1, ← c.before.before.before.before.range-of.ensures, ← c.before.before.before.runway-reading.ensures, c.before.r.given.1))
-    (λ c. rw (c.before.before.before.before.before.told.given.1, ← c.before.before.before.range-of.ensures, ← c.before.before.runway-reading.ensures, c.enum_told.given.1))
-    (λ c. rw (c.before.enum-told2.given.1, c.if1.true))
-    (λ c. rw (c.before.enum-told2.given.1, ne_eqb _ _ c.if1.false))
-    (λ c. rw c.enum-told3.given.1)
-    (λ c. rw c.enum-told4.given.1))
+    (λ c. rw (c.in-Number.is, ← c.range_of.ensures, ← c.runway_reading-r.ensures, c.in-Is.is))
+    (λ c. rw (c.in-Number.is, ← c.range_of.ensures, ← c.runway_reading-r.ensures, c.in-Unused.is))
+    (λ c. rw (c.in-Missing.is, c.if-which-eq2.true))
+    (λ c. rw (c.in-Missing.is, ne_eqb _ _ c.if-which-eq2.false))
+    (λ c. rw c.in-Mixed.is)
+    (λ c. rw c.in-Other.is))

@@ -11,8 +11,8 @@ use Rattle.aerodrome_groups.proofs.Readings.{zero_value, scanned}
 use Rattle.aerodrome_groups.proofs.read.read_runway.Statement.{statement}
 use Rattle.aerodrome_groups.proofs.read.read_runway.Tie as tie
 
-value : (c : tie.After-scan-runway) (i : ℕ) → i < 8 → get_or c.scan-runway.result.values i zero_value ≡ value_at runway_shape c.before.before.args.g.now i
-value c i h = scanned runway_shape c.before.before.args.g.now c.scan-runway.result c.scan-runway.ensures i h
+value : (c : tie.After-scan_runway-s) (i : ℕ) → i < 8 → get_or c.scan_runway-s.result.values i zero_value ≡ value_at runway_shape c.args.g.now i
+value c i h = scanned runway_shape c.args.g.now c.scan_runway-s.result c.scan_runway-s.ensures i h
 
 pub read_runway_spec : {M : Type 1} → statement M
 unfolding read_runway
@@ -22,4 +22,4 @@ read_runway_spec =
     (λ c κs. tt) (λ c. search rules) (λ c. search rules) (λ c. search rules) (λ c. search rules) (λ c. search rules) (λ c κs. search rules)
     (λ c.
     let v = value c.before.before.before.before.before.before.before in
-    rw (v 0 (omega arith), v 1 (omega arith), v 3 (omega arith), v 4 (omega arith), v 5 (omega arith)) at c.runway-by.ensures))
+    rw (v 0 (omega arith), v 1 (omega arith), v 3 (omega arith), v 4 (omega arith), v 5 (omega arith)) at c.runway_by.ensures))

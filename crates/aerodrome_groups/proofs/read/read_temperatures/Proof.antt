@@ -11,8 +11,8 @@ use Rattle.aerodrome_groups.proofs.Readings.{zero_value, scanned}
 use Rattle.aerodrome_groups.proofs.read.read_temperatures.Statement.{statement}
 use Rattle.aerodrome_groups.proofs.read.read_temperatures.Tie as tie
 
-value : (c : tie.After-scan-temperatures) (i : ℕ) → i < 8 → get_or c.scan-temperatures.result.values i zero_value ≡ value_at temperatures_shape c.before.before.args.g.now i
-value c i h = scanned temperatures_shape c.before.before.args.g.now c.scan-temperatures.result c.scan-temperatures.ensures i h
+value : (c : tie.After-scan_temperatures-s) (i : ℕ) → i < 8 → get_or c.scan_temperatures-s.result.values i zero_value ≡ value_at temperatures_shape c.args.g.now i
+value c i h = scanned temperatures_shape c.args.g.now c.scan_temperatures-s.result c.scan_temperatures-s.ensures i h
 
 pub read_temperatures_spec : {M : Type 1} → statement M
 unfolding read_temperatures
@@ -22,4 +22,4 @@ read_temperatures_spec =
     (λ c κs. tt) (λ c. search rules) (λ c. search rules) (λ c. search rules) (λ c. search rules) (λ c κs. search rules)
     (λ c.
     let v = value c.before.before.before.before.before.before in
-    rw (v 0 (omega arith), v 1 (omega arith), v 3 (omega arith), v 4 (omega arith)) at c.temperatures-by.ensures))
+    rw (v 0 (omega arith), v 1 (omega arith), v 3 (omega arith), v 4 (omega arith)) at c.temperatures_by.ensures))

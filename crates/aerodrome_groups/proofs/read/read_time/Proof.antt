@@ -13,21 +13,21 @@ read_time_spec =
     tie.close
     (tie.spec
     (λ c κs. tt) (λ c. search rules)
-    (λ c. no-figure as_instant _ c.before.field.ensures c.match.keys2)
+    (λ c. no-figure as_instant _ c.field.ensures c.in_default.in_default-own.keys2)
     (λ c κs. tt) (λ c. search rules)
-    (λ c. let d = c.before.before.before in rw (← d.before.before.field.ensures, d.day.given.1) (no-figure as_instant _ c.before.field2.ensures c.match2.keys2))
+    (λ c. let d = c in rw (← d.field.ensures, d.in-Number.is) (no-figure as_instant _ c.field-2.ensures c.in_default-field.in_default-field-own.keys2))
     (λ c κs. tt) (λ c. search rules)
     (λ c.
-    let h = c.before.before.before in
-    let d = h.before.before.before.before in
-    rw (← d.before.before.field.ensures, d.day.given.1, ← h.before.before.field2.ensures, h.hour.given.1) (no-figure as_instant _ c.before.field3.ensures c.match3.keys2))
+    let h = c in
+    let d = h in
+    rw (← d.field.ensures, d.in-Number.is, ← h.field-2.ensures, h.in-Number-field.is) (no-figure as_instant _ c.field-3.ensures c.in_default-field-2.in_default-field-2-own.keys2))
     (λ c.
-    let m = c.before.before in
-    let h = m.before.before.before.before in
-    let d = h.before.before.before.before in
-    rw (← d.before.before.field.ensures, d.day.given.1, ← h.before.before.field2.ensures, h.hour.given.1, ← m.before.before.field3.ensures, m.minute.given.1, c.if1.true))
+    let m = c in
+    let h = m in
+    let d = h in
+    rw (← d.field.ensures, d.in-Number.is, ← h.field-2.ensures, h.in-Number-field.is, ← m.field-3.ensures, m.in-Number-field-2.is, c.if-day-hour.true))
     (λ c.
-    let m = c.before.before in
-    let h = m.before.before.before.before in
-    let d = h.before.before.before.before in
-    rw (← d.before.before.field.ensures, d.day.given.1, ← h.before.before.field2.ensures, h.hour.given.1, ← m.before.before.field3.ensures, m.minute.given.1, c.if1.false)))
+    let m = c in
+    let h = m in
+    let d = h in
+    rw (← d.field.ensures, d.in-Number.is, ← h.field-2.ensures, h.in-Number-field.is, ← m.field-3.ensures, m.in-Number-field-2.is, c.if-day-hour.false)))

@@ -13,12 +13,12 @@ runway_by_spec =
     tie.close
     (tie.spec
     (λ c. search rules)
-    (λ c. no-figure as_runway _ {e = c.before.args.n.field} refl c.match.keys2)
+    (λ c. no-figure as_runway _ {e = c.args.n.field} refl c.in_default.in_default-own.keys2)
     (λ c κs. search rules) (λ c. search rules) (λ c κs. search rules) (λ c κs. search rules) (λ c. search rules)
     (λ c.
-    let a = c.before.before.before.before.before.before.before.before.before.before.args in
-    rw (c.before.before.before.before.before.before.before.before.told.given.1, c.before.before.before.before.before.before.if1.true, range-good (read_range a.mark a.f) (sym c.before.before.before.r.given.1 ∙ c.before.before.before.before.before.read-range.ensures), c.before.side-of.ensures, c.course-of.ensures))
+    let a = c.args in
+    rw (c.in-Number.is, c.if-k.true, range-good (read_range a.mark a.f) (sym c.in-Good.is ∙ c.read_range-r.ensures), c.side_of-side.ensures, c.course_of-course.ensures))
     (λ c.
-    let a = c.before.before.before.before.before.before.before.before.args in
-    rw (c.before.before.before.before.before.before.told.given.1, c.before.before.before.before.if1.true, range-bad (read_range a.mark a.f) (sym c.before.r2.given.1 ∙ c.before.before.before.read-range.ensures)))
-    (λ c. rw (c.before.before.told.given.1, c.if1.false)))
+    let a = c.args in
+    rw (c.in-Number.is, c.if-k.true, range-bad (read_range a.mark a.f) (sym c.in-Bad.is ∙ c.read_range-r.ensures)))
+    (λ c. rw (c.in-Number.is, c.if-k.false)))

@@ -12,11 +12,11 @@ pub scan_runway_spec : {M : Type 1} → statement M
 scan_runway_spec =
     tie.close
     (tie.spec
-    (λ c κs. search rules) (λ c. search rules) (λ c κs. search rules) (λ c κs. search rules) (λ c. search rules) (λ c κs. search rules)
-    (λ c. search rules) (λ c κs. search rules) (λ c. search rules) (λ c κs. search rules) (λ c. search rules) (λ c κs. search rules)
-    (λ c κs. search rules) (λ c. search rules) (λ c κs. search rules) (λ c. search rules) (λ c κs. search rules) (λ c. search rules)
-    (λ c κs. search rules) (λ c κs. search rules) (λ c. search rules) (λ c κs. search rules) (λ c. search rules) (λ c κs. search rules)
-    (λ c. search rules) (λ c κs. search rules) (λ c κs. search rules)
+    (λ c κs. search rules) (λ c κs. search rules) (λ c κs. search rules) (λ c κs. search rules)
+    (λ c κs. search rules) (λ c κs. search rules) (λ c κs. search rules)
+    (λ c κs. search rules) (λ c κs. search rules) (λ c κs. search rules)
+    (λ c κs. search rules) (λ c κs. search rules) (λ c κs. search rules) (λ c κs. search rules)
+    (λ c κs. search rules) (λ c κs. search rules)
     (λ c.
     let course = c.before in
     let down = course.before.before in
@@ -32,15 +32,15 @@ scan_runway_spec =
     let right = centre.before.before in
     let no-side = right.before.before in
     let number = no-side.before in
-    let none = number.before.before in
-    let g = none.before.before.args.g.now in
+    let none = number in
+    let g = none.args.g.now in
     rw c.scanned.ensures
     (unfold leading split parts_of in
     scan-by-steps runway_shape g refl
-    (figures-step (no_step none.absent.ensures) 1 2 refl refl number.figures-or.ensures
-    then word-step (word-step (word-step (nothing-step no-side.nothing.ensures) refl right.word-or.ensures) refl centre.word-or2.ensures) refl side.word-or3.ensures
-    then word-step (no_step none.absent.ensures) refl stroke.word-or4.ensures
-    then word-step (word-step (nothing-step exact.nothing2.ensures) refl above.word-or5.ensures) refl mark.word-or6.ensures
-    then figures-step (no_step none.absent.ensures) 0 4 refl refl range.figures-or2.ensures
-    then word-step (word-step (word-step (nothing-step no-course.nothing3.ensures) refl no_change.word-or7.ensures) refl down.word-or8.ensures) refl course.word-or9.ensures
+    (figures-step (no_step none.absent-none.ensures) 1 2 refl refl number.figures_or-number.ensures
+    then word-step (word-step (word-step (nothing-step no-side.nothing-no_side.ensures) refl right.word_or-right.ensures) refl centre.word_or-centre.ensures) refl side.word_or-side.ensures
+    then word-step (no_step none.absent-none.ensures) refl stroke.word_or-stroke.ensures
+    then word-step (word-step (nothing-step exact.nothing-exact.ensures) refl above.word_or-above.ensures) refl mark.word_or-mark.ensures
+    then figures-step (no_step none.absent-none.ensures) 0 4 refl refl range.figures_or-range.ensures
+    then word-step (word-step (word-step (nothing-step no-course.nothing-no_course.ensures) refl no_change.word_or-no_change.ensures) refl down.word_or-down.ensures) refl course.word_or-course.ensures
     then end))))

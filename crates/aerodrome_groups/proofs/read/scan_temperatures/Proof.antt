@@ -12,8 +12,8 @@ pub scan_temperatures_spec : {M : Type 1} → statement M
 scan_temperatures_spec =
     tie.close
     (tie.spec
-    (λ c κs. search rules) (λ c κs. search rules) (λ c. search rules) (λ c κs. search rules) (λ c. search rules) (λ c κs. search rules)
-    (λ c. search rules) (λ c κs. search rules) (λ c κs. search rules) (λ c. search rules) (λ c κs. search rules) (λ c. search rules)
+    (λ c κs. search rules) (λ c κs. search rules) (λ c κs. search rules)
+    (λ c κs. search rules) (λ c κs. search rules) (λ c. search rules) (λ c κs. search rules)
     (λ c κs. search rules) (λ c κs. search rules)
     (λ c.
     let dew = c.before in
@@ -23,14 +23,14 @@ scan_temperatures_spec =
     let air = stroke.before.before in
     let air-sign = air.before.before in
     let air-plus = air-sign.before.before in
-    let none = air-plus.before in
-    let g = none.before.before.args.g.now in
-    rw (c.scanned.ensures, none.absent.ensures)
+    let none = air-plus in
+    let g = none.args.g.now in
+    rw (c.scanned.ensures, none.absent-none.ensures)
     (unfold leading split parts_of in
     scan-by-steps temperatures_shape g refl
-    (word-step (nothing-step air-plus.nothing.ensures) refl air-sign.word-or.ensures
-    then figures-step (no_step none.absent.ensures) 0 2 refl refl air.figures-or.ensures
-    then word-step (no_step none.absent.ensures) refl stroke.word-or2.ensures
-    then word-step (nothing-step dew-plus.nothing2.ensures) refl dew-sign.word-or3.ensures
-    then figures-step (no_step none.absent.ensures) 0 2 refl refl dew.figures-or2.ensures
+    (word-step (nothing-step air-plus.nothing-plus.ensures) refl air-sign.word_or-air_sign.ensures
+    then figures-step (no_step none.absent-none.ensures) 0 2 refl refl air.figures_or-air.ensures
+    then word-step (no_step none.absent-none.ensures) refl stroke.word_or-stroke.ensures
+    then word-step (nothing-step dew-plus.nothing-plus-2.ensures) refl dew-sign.word_or-dew_sign.ensures
+    then figures-step (no_step none.absent-none.ensures) 0 2 refl refl dew.figures_or-dew.ensures
     then end))))

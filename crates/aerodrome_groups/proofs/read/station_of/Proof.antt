@@ -12,5 +12,5 @@ station_of_spec =
     (λ c κs. tt) (λ c κs. tt) (λ c κs. tt) (λ c κs. tt)
     (λ c.
     unfold station_of in
-    rw (← four_bytes c.before.before.before.before.before.args.g.now)
-    (rw (c.before.before.before.byte_at.ensures, c.before.before.byte-at2.ensures, c.before.byte-at3.ensures, c.byte-at4.ensures))))
+    rw (← four_bytes c.args.g.now)
+    (rw (c.byte_at.ensures, c.byte_at-2.ensures, c.byte_at-3.ensures, c.byte_at-4.ensures))))

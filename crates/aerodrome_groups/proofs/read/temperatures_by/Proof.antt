@@ -13,9 +13,9 @@ temperatures_by_spec =
     (tie.spec
     (λ c κs. search rules) (λ c. search rules) (λ c κs. search rules) (λ c. search rules) (λ c. search rules) (λ c. search rules)
     (λ c.
-    let a = c.before.before.before.before.before.before.before.before.args in
-    rw (degrees-good (read_degrees a.m a.a) (sym c.before.before.before.before.before.x.given.1 ∙ c.before.before.before.before.before.before.before.read-degrees.ensures), degrees-good (read_degrees a.n a.b) (sym c.before.y.given.1 ∙ c.before.before.before.read-degrees2.ensures)))
+    let a = c.args in
+    rw (degrees-good (read_degrees a.m a.a) (sym c.in-Good.is ∙ c.read_degrees-x.ensures), degrees-good (read_degrees a.n a.b) (sym c.in-Good-y.is ∙ c.read_degrees-y.ensures)))
     (λ c.
-    let a = c.before.before.before.before.before.before.before.before.args in
-    rw (degrees-good (read_degrees a.m a.a) (sym c.before.before.before.before.before.x.given.1 ∙ c.before.before.before.before.before.before.before.read-degrees.ensures), degrees-bad (read_degrees a.n a.b) (sym c.before.y2.given.1 ∙ c.before.before.before.read-degrees2.ensures)))
-    (λ c. let a = c.before.before.before.before.args in rw (degrees-bad (read_degrees a.m a.a) (sym c.before.x2.given.1 ∙ c.before.before.before.read-degrees.ensures))))
+    let a = c.args in
+    rw (degrees-good (read_degrees a.m a.a) (sym c.in-Good.is ∙ c.read_degrees-x.ensures), degrees-bad (read_degrees a.n a.b) (sym c.in-Bad-y.is ∙ c.read_degrees-y.ensures)))
+    (λ c. let a = c.args in rw (degrees-bad (read_degrees a.m a.a) (sym c.in-Bad.is ∙ c.read_degrees-x.ensures))))

@@ -9,7 +9,7 @@ course_value_spec =
     tie.close
     (tie.spec
     (λ c. search rules) (λ c κs. tt) (λ c. search rules) (λ c κs. tt) (λ c. search rules) (λ c κs. tt) (λ c. search rules) (λ c κs. tt)
-    (λ c. rw c.before.enum_told.given.1 c.chosen.ensures)
-    (λ c. rw c.before.enum-told2.given.1 c.chosen2.ensures)
-    (λ c. rw c.before.enum-told3.given.1 c.chosen3.ensures)
-    (λ c. rw c.before.enum-told4.given.1 c.chosen4.ensures))
+    (λ c. rw c.in-None.is c.chosen.ensures)
+    (λ c. rw c.in-Up.is c.chosen-in-Up.ensures)
+    (λ c. rw c.in-Down.is c.chosen-in-Down.ensures)
+    (λ c. rw c.in-NoChange.is c.chosen-in-NoChange.ensures))

@@ -5,4 +5,4 @@ use Rattle.aerodrome_groups.proofs.write.field_of.Statement.{statement}
 use Rattle.aerodrome_groups.proofs.write.field_of.Tie as tie
 
 pub field_of_spec : {M : Type 1} → statement M
-field_of_spec = tie.close (tie.spec (λ c. search rules) (λ c. search rules) (λ c. search rules) (λ c. rw c.before.n.given.1))
+field_of_spec = tie.close (tie.spec (λ c. search rules) (λ c. search rules) (λ c. search rules) (λ c. rw c.in-Is.is))

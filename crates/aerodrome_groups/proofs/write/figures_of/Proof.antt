@@ -9,6 +9,6 @@ figures_of_spec =
     tie.close
     (tie.spec
     (λ c. search rules) (λ c κs. search rules) (λ c. search rules) (λ c κs. search rules) (λ c. search rules) (λ c κs. search rules)
-    (λ c. rw c.before.before.r.given.1 c.numbered.ensures)
-    (λ c. rw c.before.before.r2.given.1 c.numbered2.ensures)
-    (λ c. rw c.before.before.r3.given.1 c.numbered3.ensures))
+    (λ c. rw c.in-Below.is c.numbered.ensures)
+    (λ c. rw c.in-Exact.is c.numbered-in-Exact.ensures)
+    (λ c. rw c.in-Above.is c.numbered-in-Above.ensures))

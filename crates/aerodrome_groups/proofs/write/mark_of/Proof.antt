@@ -9,6 +9,6 @@ mark_of_spec =
     tie.close
     (tie.spec
     (λ c. search rules) (λ c κs. tt) (λ c. search rules) (λ c κs. tt) (λ c. search rules) (λ c κs. tt)
-    (λ c. rw c.before.enum_told.given.1 c.chosen.ensures)
-    (λ c. rw c.before.enum-told2.given.1 c.chosen2.ensures)
-    (λ c. rw c.before.enum-told3.given.1 c.chosen3.ensures))
+    (λ c. rw c.in-Below.is c.chosen.ensures)
+    (λ c. rw c.in-Exact.is c.chosen-in-Exact.ensures)
+    (λ c. rw c.in-Above.is c.chosen-in-Above.ensures))

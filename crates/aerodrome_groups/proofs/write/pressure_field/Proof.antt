@@ -9,5 +9,5 @@ pressure_field_spec =
     tie.close
     (tie.spec
     (λ c. search rules) (λ c. search rules) (λ c κs. search rules) (λ c. search rules) (λ c. search rules) (λ c. search rules)
-    (λ c. rw (c.before.before.before.before.before.n.given.1, ← c.before.before.before.pressure-figure.ensures, c.before.f.given.1))
-    (λ c. rw (c.before.before.before.before.n.given.1, ← c.before.before.pressure-figure.ensures, c.enum-told2.given.1)))
+    (λ c. rw (c.in-Is.is, ← c.pressure_figure-f.ensures, c.in-Is-f.is))
+    (λ c. rw (c.in-Is.is, ← c.pressure_figure-f.ensures, c.in-OutOfRange.is)))

@@ -11,8 +11,8 @@ pub put_qnh_spec : {M : Type 1} → statement M
 put_qnh_spec =
     tie.close
     (tie.spec
-    (λ c κs. tt) (λ c. search rules) (λ c κs. tt) (λ c κs. tt) (λ c κs. search rules) (λ c. search rules)
+    (λ c κs. tt) (λ c κs. tt) (λ c κs. tt) (λ c κs. search rules) (λ c. search rules)
     (λ c.
     unfold show_qnh in
-    rw (← c.before.before.before.pressure-field.ensures)
-    (write-group c.before.before.before.before.before.before.before.before.before.before.before.before.open-group.ensures (then c.before.before.before.before.before.before.before.put-text.ensures c.before.before.put-field.ensures))))
+    rw (← c.pressure_field.ensures)
+    (write-group c.open_group-opened.ensures (then c.put_text-begun.ensures c.put_field.ensures))))

@@ -12,10 +12,10 @@ put_runway_spec =
     tie.close
     (tie.spec
     (λ c κs. tt) (λ c κs. tt) (λ c κs. search rules) (λ c κs. tt) (λ c κs. tt) (λ c κs. tt) (λ c κs. tt) (λ c κs. tt)
-    (λ c. search rules) (λ c κs. search rules) (λ c. search rules)
+    (λ c κs. search rules) (λ c. search rules)
     (λ c.
     let told = c.before.before.before.before.before.before.before.before.before in
-    let first = told.before.before.before.before in
+    let first = told in
     unfold show_runway in
-    rw (← first.before.before.chosen.ensures, ← first.before.field_of.ensures, ← first.numbered.ensures, ← told.before.before.before.side-value.ensures, ← told.before.before.mark-value.ensures, ← told.before.range-value.ensures, ← told.course-value.ensures)
-    (write-group c.before.before.before.before.before.before.before.open-group.ensures (rw runway-text at c.before.before.put-shape.ensures))))
+    rw (← first.chosen-blank.ensures, ← first.field_of.ensures, ← first.numbered.ensures, ← told.side_value.ensures, ← told.mark_value.ensures, ← told.range_value.ensures, ← told.course_value.ensures)
+    (write-group c.open_group-opened.ensures (rw runway-text at c.put_shape.ensures))))

@@ -12,10 +12,10 @@ put_temperatures_spec =
     tie.close
     (tie.spec
     (λ c κs. tt) (λ c κs. search rules) (λ c κs. search rules) (λ c κs. search rules) (λ c κs. search rules) (λ c κs. tt)
-    (λ c. search rules) (λ c κs. search rules) (λ c. search rules)
+    (λ c κs. search rules) (λ c. search rules)
     (λ c.
-    let told = c.before.before.before.before.before.before.before.before.before in
-    let t = told.before.before.before.before.before.before.args.t in
+    let told = c in
+    let t = told.args.t in
     unfold show_temperatures in
-    rw (two-values t.air, two-values t.dew, ← told.before.before.before.before.chosen.ensures, ← told.before.before.before.minus-of.ensures, ← told.before.before.whole_of.ensures, ← told.before.minus-of2.ensures, ← told.whole-of2.ensures)
-    (write-group c.before.before.before.before.before.before.before.open-group.ensures (rw temperatures-text at c.before.before.put-shape.ensures))))
+    rw (two-values t.air, two-values t.dew, ← told.chosen-blank.ensures, ← told.minus_of.ensures, ← told.whole_of.ensures, ← told.minus_of-2.ensures, ← told.whole_of-2.ensures)
+    (write-group c.open_group-opened.ensures (rw temperatures-text at c.put_shape.ensures))))

@@ -17,7 +17,7 @@ put_time_spec =
     let third = last.before.before.before.before in
     let second = third.before.before.before.before in
     let first = second.before.before.before.before in
-    let opened = first.before.before.before.before in
+    let opened = first in
     unfold show_time in
-    write-group opened.open-group.ensures
-    (then (then (then first.put_two.ensures second.put-two2.ensures) third.put-two3.ensures) last.put_byte.ensures)))
+    write-group opened.open_group-opened.ensures
+    (then (then (then first.put_two-dated.ensures second.put_two-timed.ensures) third.put_two-told.ensures) last.put_byte.ensures)))

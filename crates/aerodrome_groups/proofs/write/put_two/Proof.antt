@@ -9,4 +9,4 @@ put_two_spec =
     tie.close
     (tie.spec
     (λ c κs. tt) (λ c κs. search rules) (λ c. search rules)
-    (λ c. rw (← c.before.before.before.field_of.ensures) c.before.before.put-field.ensures))
+    (λ c. rw (← c.field_of.ensures) c.put_field.ensures))

@@ -13,5 +13,5 @@ range_figure_spec =
     tie.close
     (tie.spec
     (λ c κs. tt) (λ c. search rules) (λ c. search rules)
-    (λ c. range-told _ (sym c.before.before.before.runway-figure.ensures ∙ c.before.f.given.1))
-    (λ c. last-class _ (omega (arith, range-beyond _ (sym c.before.before.runway-figure.ensures ∙ c.enum_told.given.1)))))
+    (λ c. range-told _ (sym c.runway_figure-f.ensures ∙ c.in-Is.is))
+    (λ c. last-class _ (omega (arith, range-beyond _ (sym c.runway_figure-f.ensures ∙ c.in-OutOfRange.is)))))

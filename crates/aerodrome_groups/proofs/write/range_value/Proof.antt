@@ -9,5 +9,5 @@ range_value_spec =
     tie.close
     (tie.spec
     (λ c. search rules) (λ c κs. search rules) (λ c. search rules) (λ c κs. tt) (λ c κs. search rules)
-    (λ c. rw c.before.enum_told.given.1 c.numbered.ensures)
-    (λ c. rw (c.before.before.before.range.given.1, ← c.before.range-figure.ensures) c.figures-of.ensures))
+    (λ c. rw c.in-Missing.is c.numbered.ensures)
+    (λ c. rw (c.in-Is.is, ← c.range_figure.ensures) c.figures_of.ensures))

@@ -9,7 +9,7 @@ side_value_spec =
     tie.close
     (tie.spec
     (λ c. search rules) (λ c κs. tt) (λ c. search rules) (λ c κs. tt) (λ c. search rules) (λ c κs. tt) (λ c. search rules) (λ c κs. tt)
-    (λ c. rw c.before.enum_told.given.1 c.chosen.ensures)
-    (λ c. rw c.before.enum-told2.given.1 c.chosen2.ensures)
-    (λ c. rw c.before.enum-told3.given.1 c.chosen3.ensures)
-    (λ c. rw c.before.enum-told4.given.1 c.chosen4.ensures))
+    (λ c. rw c.in-None.is c.chosen.ensures)
+    (λ c. rw c.in-Left.is c.chosen-in-Left.ensures)
+    (λ c. rw c.in-Centre.is c.chosen-in-Centre.ensures)
+    (λ c. rw c.in-Right.is c.chosen-in-Right.ensures))

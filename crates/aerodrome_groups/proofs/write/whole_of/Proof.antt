@@ -10,10 +10,10 @@ whole_of_spec =
     tie.close
     (tie.spec
     (λ c. search rules) (λ c κs. search rules) (λ c. search rules) (λ c κs. search rules) (λ c. search rules) (λ c κs. search rules) (λ c. search rules) (λ c κs. tt)
-    (λ c. rw c.before.enum_told.given.1 c.numbered.ensures)
+    (λ c. rw c.in-Missing.is c.numbered.ensures)
     (λ c.
-    rw (c.before.before.before.before.before.before.t.given.1, ← rw (same_bits c.before.before.before.before.before.known-told.given.0.1) at c.before.before.before.before.degrees-figure.ensures, c.before.before.d.given.1)
-    c.numbered2.ensures)
+    rw (c.in-Is.is, ← rw (same_bits c.in-Is.known_told-1-own.given.0.1) at c.degrees_figure-d.ensures, c.in-Is-d.is)
+    c.numbered-in-Is-d.ensures)
     (λ c.
-    rw (c.before.before.before.before.before.t.given.1, ← rw (same_bits c.before.before.before.before.known-told.given.0.1) at c.before.before.before.degrees-figure.ensures, c.before.enum-told2.given.1)
+    rw (c.in-Is.is, ← rw (same_bits c.in-Is.known_told-1-own.given.0.1) at c.degrees_figure-d.ensures, c.in-OutOfRange.is)
     c.chosen.ensures))

@@ -8,4 +8,4 @@ has_element_spec =
     tie.close
     (tie.spec
     (λ c κs. tt) (λ c κs. tt) (λ c κs. tt)
-    (λ c. rw (c.before.before.before.before.before.is-missing.ensures, c.before.before.before.before.is-missing2.ensures, c.before.before.before.is-layers.ensures)))
+    (λ c. rw (c.is_missing-blown.ensures, c.is_missing-unseen.ensures, c.is_layers-layers.ensures)))

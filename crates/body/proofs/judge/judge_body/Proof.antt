@@ -11,5 +11,5 @@ judge_body_spec =
     (λ c κs. tt) (λ c κs. tt) (λ c κs. tt) (λ c κs. tt) (λ c κs. tt) (λ c κs. tt) (λ c κs. tt)
     (λ c silent.
     unfold judge_body in
-    let a = c.before.before.before.before.before.before.before.args in
-    rw (c.and-then3.ensures, c.before.wind-judged.ensures a.may a.automatic silent, c.before.before.and-then2.ensures, c.before.before.before.visibility-judged.ensures a.may a.automatic silent, c.before.before.before.before.and_then.ensures, c.before.before.before.before.before.sky-judged.ensures a.required a.may a.automatic silent, c.before.before.before.before.before.before.weather-judged.ensures a.required silent)))
+    let a = c.args in
+    rw (c.and_then.ensures, c.wind_judged.ensures a.may a.automatic silent, c.and_then-from_view.ensures, c.visibility_judged.ensures a.may a.automatic silent, c.and_then-from_weather.ensures, c.sky_judged.ensures a.required a.may a.automatic silent, c.weather_judged-weather.ensures a.required silent)))

@@ -4,4 +4,4 @@ use Rattle.body.proofs.judge.sky_judged.Statement.{statement}
 use Rattle.body.proofs.judge.sky_judged.Tie as tie
 
 pub sky_judged_spec : {M : Type 1} → statement M
-sky_judged_spec = tie.close (tie.spec (λ c κs. tt) (λ c κs. tt) (λ c required nsw automatic silent. rw (c.judge-sky.ensures, c.before.is-cavok.ensures)))
+sky_judged_spec = tie.close (tie.spec (λ c κs. tt) (λ c κs. tt) (λ c required nsw automatic silent. rw (c.judge_sky.ensures, c.is_cavok.ensures)))

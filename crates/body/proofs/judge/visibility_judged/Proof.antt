@@ -8,4 +8,4 @@ visibility_judged_spec =
     tie.close
     (tie.spec
     (λ c κs. tt) (λ c κs. tt) (λ c κs. tt)
-    (λ c nsw automatic silent. rw (c.unless-absent.ensures, c.before.judge-visibility.ensures, c.before.before.is-missing.ensures)))
+    (λ c nsw automatic silent. rw (c.unless_absent.ensures, c.judge_visibility.ensures, c.is_missing.ensures)))

@@ -8,5 +8,5 @@ weather_judged_spec =
     tie.close
     (tie.spec
     (λ c κs. tt) (λ c κs. tt) (λ c κs. tt) (λ c κs. tt)
-    (λ c required silent. rw (c.judge-weathers.ensures, ← c.before.before.is-cavok.ensures, c.before.if1.true))
-    (λ c required silent. rw (c.judge.ensures, c.before.count-fits.ensures, ← c.before.before.before.is-cavok.ensures, c.before.before.if1.false)))
+    (λ c required silent. rw (c.judge_weathers.ensures, ← c.is_cavok-cavok.ensures, c.if-nsw-may.true))
+    (λ c required silent. rw (c.judge.ensures, c.count_fits.ensures, ← c.is_cavok-cavok.ensures, c.if-nsw-may.false)))

@@ -8,4 +8,4 @@ wind_judged_spec =
     tie.close
     (tie.spec
     (λ c κs. tt) (λ c κs. tt) (λ c κs. tt)
-    (λ c nsw automatic silent. rw (c.unless-absent.ensures, c.before.judge-wind.ensures, c.before.before.is-blank.ensures)))
+    (λ c nsw automatic silent. rw (c.unless_absent.ensures, c.judge_wind.ensures, c.is_blank.ensures)))

@@ -8,5 +8,5 @@ pub has_weather_or_nsw_spec : {M : Type 1} → statement M
 has_weather_or_nsw_spec =
     tie.close
     (tie.spec
-    (λ c. search rules) (λ c κs. search rules) (λ c κs. search rules)
-    (λ c. rw (c.has-weather.ensures, c.before.has-pattern.ensures)))
+    (λ c κs. search rules) (λ c κs. search rules)
+    (λ c. rw (c.has_weather-weather.ensures, c.has_pattern-nsw.ensures)))

@@ -12,5 +12,5 @@ meet_said_spec =
     tie.close
     (tie.spec
     (λ c. search rules)
-    (λ c. rw c.before.said.given.1)
-    (λ c. let a = c.before.args in ap (met_as a.start) (sym (not-refused _ a.said c.match.keys2))))
+    (λ c. rw c.in-Refused.is)
+    (λ c. let a = c.args in ap (met_as a.start) (sym (not-refused _ a.said c.in_default.in_default-own.keys2))))

@@ -12,8 +12,8 @@ say_spec =
     tie.close
     (tie.spec
     (λ c κs. search rules) (λ c κs. search rules) (λ c κs. search rules) (λ c κs. search rules) (λ c κs. search rules)
-    (λ c. rw (c.before.match.keys1, c.read-wind.ensures) (says-wind _ _ _ _ _ _))
-    (λ c. rw (c.before.match.keys2, c.read-visibility.ensures) (says-visibility _ _ _ _ _ _))
-    (λ c. rw c.before.match.keys3 c.say-weather-or-nsw.ensures)
-    (λ c. rw (c.before.before.before.before.match.keys4, c.read-sky.ensures, c.before.before.is-cavok.ensures) (says-sky _ _ _ _ _ _))
-    (λ c. let a = c.before.before.args in says_nothing _ _ _ _ _ _ a.place (beyond 0 4 a.place zero-le c.match.rest)))
+    (λ c. rw (c.in-0.is, c.read_wind.ensures) (says-wind _ _ _ _ _ _))
+    (λ c. rw (c.in-1.is, c.read_visibility.ensures) (says-visibility _ _ _ _ _ _))
+    (λ c. rw c.in-2.is c.say_weather_or_nsw.ensures)
+    (λ c. rw (c.in-3.is, c.read_sky.ensures, c.is_cavok-cavok.ensures) (says-sky _ _ _ _ _ _))
+    (λ c. let a = c.args in says_nothing _ _ _ _ _ _ a.place (beyond 0 4 a.place zero-le c.in_default.in_default-own.rest)))

@@ -13,14 +13,14 @@ say_weather_spec =
     (tie.spec
     (λ c κs. search rules) (λ c. search rules) (λ c. search rules)
     (λ c.
-    let d = c.before.before.before.before in
-    let a = d.before.before.args in
-    rw (weather-is (read_weather a.forecast a.automatic a.g.now) (sym c.before.before.read.given.1 ∙ d.read-weather.ensures), c.if1.true))
+    let d = c in
+    let a = d.args in
+    rw (weather-is (read_weather a.forecast a.automatic a.g.now) (sym c.in-Good.is ∙ d.read_weather-read.ensures), c.if-beside.true))
     (λ c.
-    let d = c.before.before.before.before in
-    let a = d.before.before.args in
-    rw (weather-is (read_weather a.forecast a.automatic a.g.now) (sym c.before.before.read.given.1 ∙ d.read-weather.ensures), c.if1.false))
+    let d = c in
+    let a = d.args in
+    rw (weather-is (read_weather a.forecast a.automatic a.g.now) (sym c.in-Good.is ∙ d.read_weather-read.ensures), c.if-beside.false))
     (λ c.
-    let d = c.before.before.before in
-    let a = d.before.before.args in
-    rw (weather-is (read_weather a.forecast a.automatic a.g.now) (sym c.before.read2.given.1 ∙ d.read-weather.ensures))))
+    let d = c in
+    let a = d.args in
+    rw (weather-is (read_weather a.forecast a.automatic a.g.now) (sym c.in-Bad.is ∙ d.read_weather-read.ensures))))

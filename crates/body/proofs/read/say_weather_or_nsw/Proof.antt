@@ -10,12 +10,12 @@ pub say_weather_or_nsw_spec : {M : Type 1} → statement M
 say_weather_or_nsw_spec =
     tie.close
     (tie.spec
-    (λ c κs. search rules) (λ c. search rules) (λ c κs. search rules) (λ c κs. search rules) (λ c κs. search rules)
+    (λ c κs. search rules) (λ c κs. search rules) (λ c κs. search rules) (λ c κs. search rules)
     (λ c.
-    let a = c.before.before.before.before.before.before.before.args in
-    rw (c.say-nsw.ensures, c.before.before.before.before.is-cavok.ensures)
-    (says-nsw a.forecast a.may a.automatic a.count a.g.now a.b (rw (← c.before.before.has-pattern.ensures) c.before.if1.true)))
+    let a = c.args in
+    rw (c.say_nsw.ensures, c.is_cavok-cavok.ensures)
+    (says-nsw a.forecast a.may a.automatic a.count a.g.now a.b (rw (← c.has_pattern.ensures) c.if-has_pattern.true)))
     (λ c.
-    let a = c.before.before.before.before.before.before.before.before.args in
-    rw (c.say-weather.ensures, c.before.before.before.before.before.is-cavok.ensures)
-    (says-weather a.forecast a.may a.automatic a.count a.g.now a.b (rw (← c.before.before.before.has-pattern.ensures) c.before.before.if1.false))))
+    let a = c.args in
+    rw (c.say_weather.ensures, c.is_cavok-cavok.ensures)
+    (says-weather a.forecast a.may a.automatic a.count a.g.now a.b (rw (← c.has_pattern.ensures) c.if-has_pattern.false))))

@@ -9,9 +9,9 @@ use Rattle.body.proofs.write.put_body.Tie as tie
 
 all : tie.Need-returns
 all c required nsw automatic silent =
-    rw (← c.before.before.before.before.before.before.before.before.before.before.before.before.before.before.before.before.is-blank.ensures, ← c.before.before.before.before.before.before.before.before.before.before.before.is-missing.ensures)
-    (write-groups _ _ c.before.before.before.before.before.before.before.before.before.before.before.before.before.before.before.put-wind-unless.ensures
-    (write-groups _ _ c.before.before.before.before.before.before.before.before.before.before.put-visibility-unless.ensures (write-groups _ _ c.before.before.before.before.before.before.put-weather-or-nsw.ensures (rw (append-nil _) c.before.before.put-sky.ensures))))
+    rw (← c.is_blank.ensures, ← c.is_missing.ensures)
+    (write-groups _ _ c.put_wind_unless-blown.ensures
+    (write-groups _ _ c.put_visibility_unless-seen.ensures (write-groups _ _ c.put_weather_or_nsw-weathered.ensures (rw (append-nil _) c.put_sky.ensures))))
 
 pub put_body_spec : {M : Type 1} → statement M
 put_body_spec =

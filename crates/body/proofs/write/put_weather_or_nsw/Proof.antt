@@ -9,5 +9,5 @@ pub put_weather_or_nsw_spec : {M : Type 1} → statement M
 put_weather_or_nsw_spec =
     tie.close
     (tie.spec
-    (λ c. search rules) (λ c κs. tt) (λ c κs. tt) (λ c. search rules)
-    (λ c. write-groups _ _ c.before.before.before.before.before.before.put_if.ensures c.before.before.put-weathers.ensures))
+    (λ c κs. tt) (λ c κs. tt) (λ c. search rules)
+    (λ c. write-groups _ _ c.put_if-cleared.ensures c.put_weathers.ensures))

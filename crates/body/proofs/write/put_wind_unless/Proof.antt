@@ -10,6 +10,6 @@ put_wind_unless_spec =
     tie.close
     (tie.spec
     (λ c κs. tt)
-    (λ c. rw c.if1.true (write-none _ _))
+    (λ c. rw c.if-left.true (write-none _ _))
     (λ c. search rules)
-    (λ c. rw c.before.before.before.before.if1.false c.before.before.put-wind.ensures))
+    (λ c. rw c.if-left.false c.put_wind.ensures))

@@ -24,16 +24,16 @@ at t = and 1 kinds.ps (is 1 kinds.ps μ t) f.Pre
 abbrev below : ℕ → In 1 kinds.ps
 below t = and 1 kinds.ps (falls 1 kinds.ps ◌<◌ μ t) f.Pre
 
-returns : (t : ℕ) → lts.Need-returns (below t, f.Post, byte.Asked, byte.Learnt) (at t) f.Post
+returns : (t : ℕ) → lts.Need-returns-then-width-eq0 (below t, f.Post, byte.Asked, byte.Learnt) (at t) f.Post
 unfolding figures
-returns t c = rw c.if1.true (put-none _ _)
+returns t c = rw c.if-width-eq0.true (put-none _ _)
 
-returns-2 : (t : ℕ) → lts.Need-returns-2 (below t, f.Post, byte.Asked, byte.Learnt) (at t) f.Post
+returns-2 : (t : ℕ) → lts.Need-returns (below t, f.Post, byte.Asked, byte.Learnt) (at t) f.Post
 unfolding figures
 returns-2 t c =
-    let a = c.before.before.before.before.before.before.before.before.before.before.args in
+    let a = c.args in
     let e : a.width ≡ suc (a.width - 1) = omega arith in
-    rw e (then c.before.before.before.before.before.before.put-figures.ensures c.before.before.put_byte.ensures)
+    rw e (then c.put_figures-last.ensures c.put_byte.ensures)
 
 pub +put_figures_spec : {M : Type 1} → statement M
 +put_figures_spec =

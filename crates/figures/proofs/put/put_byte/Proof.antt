@@ -16,5 +16,5 @@ put_byte_spec =
     (λ c. search rules) (λ c. search rules) (λ c. search rules)
     (λ c. record { next = unfold after in omega arith; text = unfold splice in refl })
     (λ c.
-    let a = c.before.args in
+    let a = c.args in
     record { next = unfold after in omega arith; text = sym (splice-out a.out.now a.at (a.b ∷ []) (omega arith)) }))

@@ -11,8 +11,8 @@ put_field_spec =
     tie.close
     (tie.spec
     (λ c. search rules) (λ c κs. search rules) (λ c. search rules) (λ c κs. search rules) (λ c. search rules) (λ c. search rules) (λ c. search rules)
-    (λ c. unfold field_text in rw c.before.before.before.before.before.f.given.1 c.before.before.put-number.ensures)
+    (λ c. unfold field_text in rw c.in-Number.is c.put_number.ensures)
     (λ c. search rules)
-    (λ c. unfold field_text in rw c.before.before.before.before.enum_told.given.1 c.before.before.put-slashes.ensures)
-    (λ c. unfold field_text in rw c.enum-told2.given.1 (put-none _ _))
-    (λ c. unfold field_text in rw c.enum-told3.given.1 (put-none _ _)))
+    (λ c. unfold field_text in rw c.in-Missing.is c.put_slashes.ensures)
+    (λ c. unfold field_text in rw c.in-Mixed.is (put-none _ _))
+    (λ c. unfold field_text in rw c.in-Other.is (put-none _ _)))

@@ -12,5 +12,5 @@ put_number_spec =
     tie.close
     (tie.spec
     (λ c κs. search rules) (λ c. search rules)
-    (λ c. unfold number_text in rw (le-leb _ _ c.before.before.before.before.if1.true) c.before.before.put-figures.ensures)
-    (λ c. unfold number_text in rw (lt-leb _ _ c.if1.false) (put-none _ _)))
+    (λ c. unfold number_text in rw (le-leb _ _ c.if-width-le5.true) c.put_figures.ensures)
+    (λ c. unfold number_text in rw (lt-leb _ _ c.if-width-le5.false) (put-none _ _)))

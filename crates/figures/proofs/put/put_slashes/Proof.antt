@@ -21,10 +21,9 @@ pub put_slashes_spec : {M : Type 1} → statement M
 put_slashes_spec =
     tie.close
     (tie.spec
-    (λ c. search rules)
-    (λ c. sym (ap length (first _ 5 47 c.before.before.if1.true) ∙ length-replicate _ 47))
+    (λ c. sym (ap length (first _ 5 47 c.if-width-le5.true) ∙ length-replicate _ 47))
     (λ c κs. search rules) (λ c. search rules)
     (λ c.
-    let fits = c.before.before.before.before.before.if1.true in
-    unfold slashes in rw (le-leb _ _ fits) (rw (first _ 5 47 fits) at c.before.before.put-text.ensures))
-    (λ c. unfold slashes in rw (lt-leb _ _ c.if1.false) (put-none _ _)))
+    let fits = c.if-width-le5.true in
+    unfold slashes in rw (le-leb _ _ fits) (rw (first _ 5 47 fits) at c.put_text.ensures))
+    (λ c. unfold slashes in rw (lt-leb _ _ c.if-width-le5.false) (put-none _ _)))

@@ -11,17 +11,17 @@ use Rattle.figures.proofs.Puts.{put-none, then, length-put}
 use Rattle.figures.proofs.put.put_text.Statement.{statement}
 use Rattle.figures.proofs.put.put_text.Tie as tie
 
-abbrev Inv : tie.invariant-loop
+abbrev Inv : tie.invariant-loop-i
 Inv out₀ at s next₀ i₀ out next i = (i ≤ length s) × Put out₀ at (take i s) next out
 
-abbrev μ : tie.decreases-loop
+abbrev μ : tie.decreases-loop-i
 μ out₀ at s next₀ i₀ out next i = length s - i
 
-again : tie.Need-loop-preserved Inv μ
+again : tie.Need-loop-i-preserved Inv μ
 again c =
-    let l = c.before.before.before.before.before.before.loop in
-    let s = c.before.before.before.before.before.before.before.before.before.args.s.now in
-    (omega arith, rw (add-one, take-suc s l.i 0 (omega arith)) (then l.invariant.1 c.before.before.put_byte.ensures))
+    let l = c.loop-i in
+    let s = c.args.s.now in
+    (omega arith, rw (add-one, take-suc s l.i 0 (omega arith)) (then l.invariant.1 c.put_byte-next.ensures))
 
 pub put_text_spec : {M : Type 1} → statement M
 put_text_spec =
@@ -30,7 +30,7 @@ put_text_spec =
     (λ c. (search rules, put-none _ _))
     (λ c. search rules) (λ c κs. search rules) (λ c. search rules) (λ c. search rules)
     again
-    (λ c. length-put c.before.loop.invariant.1)
+    (λ c. length-put c.loop-i.invariant.1)
     (λ c.
-    let s = c.before.before.before.before.args.s.now in
-    rw (take_all c.before.loop.i s (omega arith)) at c.before.loop.invariant.1))
+    let s = c.args.s.now in
+    rw (take_all c.loop-i.i s (omega arith)) at c.loop-i.invariant.1))

@@ -64,10 +64,10 @@ pub magnitude_spec : {M : Type 1} → statement M
 magnitude_spec =
     tie.close
     (tie.spec
-    (λ c. up_fits c.before.ranges.t c.if1.true)
-    (λ c. over-fits c.before.ranges.t c.if1.true)
-    (λ c. rw (last c.before.ranges.t c.if1.true) (tt, record { fits = omega (arith, c.before.ranges.t.sfits) }))
-    (λ c. rw (last c.before.ranges.t c.if1.true) (record { fits = omega (arith, c.before.ranges.t.sfits) }))
-    (λ c. whole c.before.ranges.t c.if1.false)
-    (λ c. ap (λ (z : ℤ). nat_abs z + 1) (last c.before.ranges.t c.if1.true) ∙ under c.before.args.t (below c.before.ranges.t c.if1.true))
+    (λ c. up_fits c.ranges.t c.if-t-lt0.true)
+    (λ c. over-fits c.ranges.t c.if-t-lt0.true)
+    (λ c. rw (last c.ranges.t c.if-t-lt0.true) (tt, record { fits = omega (arith, c.ranges.t.sfits) }))
+    (λ c. rw (last c.ranges.t c.if-t-lt0.true) (record { fits = omega (arith, c.ranges.t.sfits) }))
+    (λ c. whole c.ranges.t c.if-t-lt0.false)
+    (λ c. ap (λ (z : ℤ). nat_abs z + 1) (last c.ranges.t c.if-t-lt0.true) ∙ under c.args.t (below c.ranges.t c.if-t-lt0.true))
     (λ c. search rules))

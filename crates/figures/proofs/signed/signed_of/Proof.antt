@@ -30,11 +30,11 @@ signed_of_spec =
     tie.close
     (tie.spec
     (λ c. search rules)
-    (λ c. fits c.before.if1.true)
+    (λ c. fits c.if-m-le2147483647.true)
     (λ c.
-    let h = c.before.if1.true in
-    rw c.if2.true (ap Is (to_z-of_z w32 _ (fits h) ∙ minus h) ∙ signed-in true _ h))
+    let h = c.if-m-le2147483647.true in
+    rw c.if-minus.true (ap Is (to_z-of_z w32 _ (fits h) ∙ minus h) ∙ signed-in true _ h))
     (λ c.
-    let h = c.before.if1.true in
-    rw c.if2.false (ap Is (plus h) ∙ signed-in false _ h))
-    (λ c. unfold signed_of in rw (lt-leb _ _ c.if1.false)))
+    let h = c.if-m-le2147483647.true in
+    rw c.if-minus.false (ap Is (plus h) ∙ signed-in false _ h))
+    (λ c. unfold signed_of in rw (lt-leb _ _ c.if-m-le2147483647.false)))

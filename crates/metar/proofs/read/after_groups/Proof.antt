@@ -5,4 +5,4 @@ use Rattle.metar.proofs.read.after_groups.Statement.{statement}
 use Rattle.metar.proofs.read.after_groups.Tie as tie
 
 pub after_groups_spec : {M : Type 1} → statement M
-after_groups_spec = tie.close (tie.spec (λ c κs. search rules) (λ c κs. search rules) (λ c o. rw (c.end-verdict.ensures, c.before.owes.ensures o)))
+after_groups_spec = tie.close (tie.spec (λ c κs. search rules) (λ c κs. search rules) (λ c o. rw (c.end_verdict-verdict.ensures, c.owes.ensures o)))

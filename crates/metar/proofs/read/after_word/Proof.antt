@@ -7,8 +7,8 @@ use Rattle.metar.proofs.read.after_word.Tie as tie
 
 returns : tie.Need-returns
 returns c o =
-    let a = c.before.before.before.before.args in
-    word-leads a.text.now a.start a.end a.here.place a.here.count o c.before.before.part.ensures (c.before.owes.ensures o) c.meet-word.ensures
+    let a = c.args in
+    word-leads a.text.now a.start a.end a.here.place a.here.count o c.part-g.ensures (c.owes.ensures o) c.meet_word.ensures
 
 pub after_word_spec : {M : Type 1} → statement M
 after_word_spec = tie.close (tie.spec (λ c κs. search rules) (λ c κs. search rules) (λ c κs. search rules) returns)

@@ -9,7 +9,7 @@ follow_spec =
     tie.close
     (tie.spec
     (λ c. search rules) (λ c κs. search rules) (λ c. search rules) (λ c κs. search rules) (λ c. search rules) (λ c. search rules)
-    (λ c o. rw (c.before.enum_told.given.1, c.after-groups.ensures o))
-    (λ c o. rw c.before.before.met.given.1 (c.after-word.ensures o))
-    (λ c o. rw c.before.met2.given.1)
-    (λ c o. rw c.before.met3.given.1))
+    (λ c o. rw (c.in-Over.is, c.after_groups.ensures o))
+    (λ c o. rw c.in-Halt.is (c.after_word.ensures o))
+    (λ c o. rw c.in-Refused.is)
+    (λ c o. rw c.in-Says.is))

@@ -3,7 +3,6 @@
 use borrow.Author.Rules.{rules}
 use mathlib.Core.Path.{◌≡◌, refl, sym, ap, ◌∙◌}
 use mathlib.Core.List.{List}
-use mathlib.Core.Logic.{inl, inr}
 use Prim.Native.Nat.{ℕ, ◌+◌, ◌-◌, ◌≤◌, ◌<◌}
 use native.Mathlib.Omega.{arith}
 use lib.ListN.{length}
@@ -24,92 +23,93 @@ use Rattle.metar.specs.Read.{behind_name, reading, answer}
 use Rattle.metar.specs.Step.{alone, beside}
 use Rattle.metar.proofs.Steps.{others, one_part, leaves, blanked, unblanked}
 use Rattle.metar.proofs.read.read_from.Statement.{statement}
+use Rattle.metar.proofs.read.read_from.Lts.{then-is_refused_ahead, else-is_refused_ahead, then-is_refused, else-is_refused}
 use Rattle.metar.proofs.read.read_from.Tie as tie
 
-abbrev Inv : tie.invariant-loop
+abbrev Inv : tie.invariant-loop-next
 Inv text at special report₀ here₀ report here =
     Reached parts text one_part row (has_any words) 3 1 (set_special special blank_observation) at here.place here.count report here.from
 
-abbrev μ : tie.decreases-loop
+abbrev μ : tie.decreases-loop-next
 μ text at special report₀ here₀ report here = length text - here.from
 
 -- a group is taken: it lies ahead
-module _ (c : tie.After-struct-known Inv μ) where
+module _ (c : tie.After-struct_known-1 Inv μ) where
   abbrev text : List ℕ
-  text = c.before.before.before.before.before.before.before.before.before.before.args.text.now
+  text = c.args.text.now
 
   abbrev next : Saying
-  next = c.before.before.before.met.given.0.0
+  next = c.in-Says.next
 
-  ahead : (c.before.before.before.before.before.before.loop.here.from < next.end) × (next.end ≤ length text) × (next.count < 4)
-  ahead = group-ahead c.before.before.before.before.before.before.loop.invariant report_said _ c.before.before.before.before.before.meet.ensures (refl, refl, refl) c.before.before.before.met.given.1
+  ahead : (c.loop-next.here.from < next.end) × (next.end ≤ length text) × (next.count < 4)
+  ahead = group-ahead c.loop-next.invariant report_said _ c.meet-met.ensures (refl, refl, refl) c.in-Says.is
 
 -- and reading stands behind it, before what it says is stored
-module _ (c : tie.After-stand-at2 Inv μ) where
-  less : length (text c.before) - c.stand-at2.result.from < length (text c.before) - c.before.before.before.before.before.before.before.loop.here.from
-  less = rw c.stand-at2.ensures (omega (arith, ahead c.before))
+module _ (c : tie.After-stand_at-here-in-loop-next Inv μ) where
+  less : length (text c.before) - c.stand_at-here-in-loop-next.result.from < length (text c.before) - c.loop-next.here.from
+  less = rw c.stand_at-here-in-loop-next.ensures (omega (arith, ahead c.before))
 
   -- reading goes on with the record that has what the group says
   again : {y : Said} {a : Observation} → (next c.before).said ≡ y
-      → a ≡ report_said (next c.before).count (part_of (text c.before) (next c.before).start (next c.before).end) y c.before.before.before.before.before.before.before.loop.report
-      → Reached parts (text c.before) one_part row (has_any words) 3 1 (set_special c.before.before.before.before.before.before.before.before.before.before.before.args.special blank_observation) c.before.before.before.before.before.before.before.before.before.before.before.args.at c.stand-at2.result.place c.stand-at2.result.count a c.stand-at2.result.from
-  again tells put = rw c.stand-at2.ensures (reads_on c.before.before.before.before.before.before.before.loop.invariant report_said _ c.before.before.before.before.before.before.meet.ensures (refl, refl, refl) c.before.before.before.before.met.given.1 c.before.before.go-past.ensures tells put)
+      → a ≡ report_said (next c.before).count (part_of (text c.before) (next c.before).start (next c.before).end) y c.loop-next.report
+      → Reached parts (text c.before) one_part row (has_any words) 3 1 (set_special c.args.special blank_observation) c.args.at c.stand_at-here-in-loop-next.result.place c.stand_at-here-in-loop-next.result.count a c.stand_at-here-in-loop-next.result.from
+  again tells put = rw c.stand_at-here-in-loop-next.ensures (reads_on c.loop-next.invariant report_said _ c.meet-met.ensures (refl, refl, refl) c.in-Says.is c.go_past.ensures tells put)
 
 pub read_from_spec : {M : Type 1} → statement M
 read_from_spec =
     tie.close
     (tie.spec Inv μ
     (λ c κs. search rules) (λ c κs. search rules)
-    (λ c. let a = c.before.before.before.args in rw (c.stand-at.ensures, c.before.begin.ensures) (starts parts a.text.now one_part 3 1 _ a.at (λ u. (refl, refl))))
+    (λ c. let a = c.args in rw (c.stand_at-here.ensures, c.begin-report.ensures) (starts parts a.text.now one_part 3 1 _ a.at (λ u. (refl, refl))))
     (λ c κs. search rules) (λ c. search rules) (λ c κs. search rules) (λ c. search rules) (λ c. search rules) (λ c κs. search rules) (λ c κs. search rules) (λ c κs. search rules) (λ c κs. search rules)
     (λ c.
     unfold behind_name within comes in
-    let e = c.before.before.before in
-    let m = e.before.before.before.before in
-    let o = m.before.before.loop.report in
-    let v = e.read-on.result.verdict in
-    let t = e.read-on.result.trend in
-    let said = sym c.before.before.is-refused-ahead.ensures in
-    let answers : reading v (beside c.before.if1.report t) ≡ answer (outcome_of v (beside o t)) =
-    elim c.before.if1.branch [
-      | inl w ↦ blanked v o (said ∙ w.0.taken) (w.2 ∙ w.1.ensures) (e.read-on.ensures.blank (said ∙ w.0.taken))
-      | inr w ↦ unblanked v o (said ∙ w.0.left) w.1
+    let e = c in
+    let m = e in
+    let o = m.loop-next.report in
+    let v = e.read_on-ahead.result.verdict in
+    let t = e.read_on-ahead.result.trend in
+    let said = sym c.is_refused_ahead.ensures in
+    let answers : reading v (beside c.if-is_refused_ahead.report t) ≡ answer (outcome_of v (beside o t)) =
+    elim c.if-is_refused_ahead.branch [
+      | then-is_refused_ahead w ↦ blanked v o (said ∙ w.if-is_refused_ahead.true) (w.report-is ∙ w.blank_observation-report.ensures) (e.read_on-ahead.ensures.blank (said ∙ w.if-is_refused_ahead.true))
+      | else-is_refused_ahead w ↦ unblanked v o (said ∙ w.if-is_refused_ahead.false) w.report-is
     ] in
-    c.reading-with.ensures
+    c.reading_with.ensures
     ∙ answers
-    ∙ ap answer (sym (leaves m.before.before.loop.invariant m.before.meet.result m.before.meet.ensures m.match.keys2 ∙ e.before.before.before.follow.ensures o ∙ e.read-on.ensures.reads o)))
+    ∙ ap answer (sym (leaves m.loop-next.invariant m.meet-met.result m.meet-met.ensures m.in_default.in_default-own.keys2 ∙ e.follow-after.ensures o ∙ e.read_on-ahead.ensures.reads o)))
     (λ c κs. search rules) (λ c κs. search rules) (λ c κs. search rules) (λ c κs. search rules)
     (λ c.
     unfold behind_name within comes in
-    let e = c.before.before.before.before in
-    let m = e.before.before.before.before in
-    let o = m.before.before.loop.report in
-    let v = e.before.after.given.0.0 in
-    let t = c.before.blank-trend.result in
-    let said = sym c.before.before.before.is-refused.ensures in
-    let answers : reading v (beside c.before.before.if2.report t) ≡ answer (outcome_of v (beside o t)) =
-    elim c.before.before.if2.branch [
-      | inl w ↦ blanked v o (said ∙ w.0.taken) (w.2 ∙ w.1.ensures) c.before.blank-trend.ensures
-      | inr w ↦ unblanked v o (said ∙ w.0.left) w.1
+    let e = c in
+    let m = e in
+    let o = m.loop-next.report in
+    let v = e.in-End.verdict in
+    let t = c.blank_trend.result in
+    let said = sym c.is_refused.ensures in
+    let answers : reading v (beside c.if-is_refused.report t) ≡ answer (outcome_of v (beside o t)) =
+    elim c.if-is_refused.branch [
+      | then-is_refused w ↦ blanked v o (said ∙ w.if-is_refused.true) (w.report-is ∙ w.blank_observation-report-then-is_refused.ensures) c.blank_trend.ensures
+      | else-is_refused w ↦ unblanked v o (said ∙ w.if-is_refused.false) w.report-is
     ] in
-    let ends : after_part m.before.before.before.before.before.before.args.text.now 0 (alone o) e.before.before.before.follow.result ≡ outcome_of v (beside o t) =
-    rw (e.before.after.given.1, c.before.blank-trend.ensures) in
-    c.reading-of.ensures
+    let ends : after_part m.args.text.now 0 (alone o) e.follow-after.result ≡ outcome_of v (beside o t) =
+    rw (e.in-End.is, c.blank_trend.ensures) in
+    c.reading_of.ensures
     ∙ answers
-    ∙ ap answer (sym (leaves m.before.before.loop.invariant m.before.meet.result m.before.meet.ensures m.match.keys2 ∙ e.before.before.before.follow.ensures o ∙ ends)))
+    ∙ ap answer (sym (leaves m.loop-next.invariant m.meet-met.result m.meet-met.ensures m.in_default.in_default-own.keys2 ∙ e.follow-after.ensures o ∙ ends)))
     (λ c κs. search rules)
     (λ c. omega (arith, ahead c)) (λ c κs. search rules)
-    (λ c. search rules) (λ c. less c.before.before.before) (λ c. again c.before.before.before c.before.said.given.1 (unfold report_said in refl))
-    (λ c. search rules) (λ c. less c.before.before) (λ c. again c.before.before c.enum-told2.given.1 (unfold report_said in refl))
-    (λ c. search rules) (λ c κs. search rules) (λ c κs. search rules) (λ c. less c.before.before.before.before) (λ c. again c.before.before.before.before c.before.before.enum-told3.given.1 (unfold report_said in rw (c.station-of.ensures, c.before.part.ensures)))
-    (λ c. search rules) (λ c. less c.before.before.before) (λ c. again c.before.before.before c.before.said2.given.1 (unfold report_said in refl))
-    (λ c. search rules) (λ c. less c.before.before) (λ c. again c.before.before c.enum-told4.given.1 (unfold report_said in refl))
-    (λ c. search rules) (λ c. less c.before.before) (λ c. again c.before.before c.enum-told5.given.1 (unfold report_said in refl))
-    (λ c. search rules) (λ c. less c.before.before.before) (λ c. again c.before.before.before c.before.said3.given.1 (unfold report_said in refl))
-    (λ c. search rules) (λ c κs. search rules) (λ c. less c.before.before.before.before) (λ c. again c.before.before.before.before c.before.before.said4.given.1 (unfold report_said in rw c.add-runway.ensures))
-    (λ c. search rules) (λ c. less c.before.before.before) (λ c. again c.before.before.before c.before.said5.given.1 (unfold report_said in refl))
-    (λ c. search rules) (λ c. less c.before.before.before) (λ c. again c.before.before.before c.before.said6.given.1 (unfold report_said in refl))
-    (λ c. search rules) (λ c κs. search rules) (λ c. less c.before.before.before.before) (λ c. again c.before.before.before.before c.before.before.said7.given.1 (unfold report_said in rw c.add-weather.ensures))
-    (λ c. search rules) (λ c κs. search rules) (λ c. less c.before.before.before.before) (λ c. again c.before.before.before.before c.before.before.said8.given.1 (unfold report_said in rw c.add-state.ensures))
-    (λ c. search rules) (λ c κs. search rules) (λ c. less c.before.before.before) (λ c. again c.before.before.before c.before.enum-told6.given.1 (unfold report_said in rw c.close.ensures))
-    (λ c κs. search rules) (λ c. less c.before.before) (λ c. again c.before.before refl (rw c.put.ensures (others _ _ _ _ c.before.match3.keys14))))
+    (λ c. search rules) (λ c. less c.before) (λ c. again c.before c.in-Special.is (unfold report_said in refl))
+    (λ c. search rules) (λ c. less c.before) (λ c. again c.before c.in-Corrected.is (unfold report_said in refl))
+    (λ c. search rules) (λ c κs. search rules) (λ c κs. search rules) (λ c. less c.before.before.before) (λ c. again c.before.before.before c.in-Station.is (unfold report_said in rw (c.station_of-report.ensures, c.part.ensures)))
+    (λ c. search rules) (λ c. less c.before) (λ c. again c.before c.in-Time.is (unfold report_said in refl))
+    (λ c. search rules) (λ c. less c.before) (λ c. again c.before c.in-Nil.is (unfold report_said in refl))
+    (λ c. search rules) (λ c. less c.before) (λ c. again c.before c.in-Automatic.is (unfold report_said in refl))
+    (λ c. search rules) (λ c. less c.before) (λ c. again c.before c.in-Variation.is (unfold report_said in refl))
+    (λ c. search rules) (λ c κs. search rules) (λ c. less c.before.before.before) (λ c. again c.before.before.before c.in-Runway.is (unfold report_said in rw c.add_runway-report.ensures))
+    (λ c. search rules) (λ c. less c.before) (λ c. again c.before c.in-Temperatures.is (unfold report_said in refl))
+    (λ c. search rules) (λ c. less c.before) (λ c. again c.before c.in-Qnh.is (unfold report_said in refl))
+    (λ c. search rules) (λ c κs. search rules) (λ c. less c.before.before.before) (λ c. again c.before.before.before c.in-Recent.is (unfold report_said in rw c.add_weather-report.ensures))
+    (λ c. search rules) (λ c κs. search rules) (λ c. less c.before.before.before) (λ c. again c.before.before.before c.in-State.is (unfold report_said in rw c.add_state-report.ensures))
+    (λ c. search rules) (λ c κs. search rules) (λ c. less c.before.before.before) (λ c. again c.before.before.before c.in-Snoclo.is (unfold report_said in rw c.close-report.ensures))
+    (λ c κs. search rules) (λ c. less c.before.before.before) (λ c. again c.before.before.before refl (rw c.put-report.ensures (others _ _ _ _ c.in_default-said.in_default-said-own.keys14))))

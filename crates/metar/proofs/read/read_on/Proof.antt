@@ -12,11 +12,11 @@ read_on_spec =
     (λ c. search rules) (λ c κs. search rules) (λ c. search rules) (λ c κs. search rules) (λ c κs. search rules)
     (λ c.
     record {
-      reads = λ o. rw (c.before.before.next.given.1, c.blank-trend.ensures);
-      blank = λ is. c.blank-trend.ensures;
+      reads = λ o. rw (c.in-End.is, c.blank_trend-trend.ensures);
+      blank = λ is. c.blank_trend-trend.ensures;
     })
     (λ c.
     record {
-      reads = λ o. rw c.before.before.before.next2.given.1 (c.before.read-trend.ensures o ∙ c.unless-refused.ensures.same o);
-      blank = c.unless-refused.ensures.blank;
+      reads = λ o. rw c.in-Part.is (c.read_trend.ensures o ∙ c.unless_refused.ensures.same o);
+      blank = c.unless_refused.ensures.blank;
     }))

@@ -14,9 +14,9 @@ unless_refused_spec =
     (tie.spec
     (λ c κs. search rules) (λ c κs. search rules)
     (λ c.
-    let a = c.before.before.before.args.ahead in
+    let a = c.args.ahead in
     record {
-      same = λ o. refused-so a.verdict (beside o a.trend) (beside o c.blank-trend.result) (sym c.before.before.is-refused.ensures ∙ c.before.if1.true);
-      blank = λ is. c.blank-trend.ensures;
+      same = λ o. refused-so a.verdict (beside o a.trend) (beside o c.blank_trend-trend.result) (sym c.is_refused.ensures ∙ c.if-is_refused.true);
+      blank = λ is. c.blank_trend-trend.ensures;
     })
-    (λ c. record { same = λ o. refl; blank = λ is. absurd (false≢true (sym c.if1.false ∙ c.before.is-refused.ensures ∙ is)) }))
+    (λ c. record { same = λ o. refl; blank = λ is. absurd (false≢true (sym c.if-is_refused.false ∙ c.is_refused.ensures ∙ is)) }))

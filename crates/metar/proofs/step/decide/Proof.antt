@@ -17,12 +17,12 @@ pub decide_spec : {M : Type 1} → statement M
 decide_spec =
     tie.close
     (tie.spec
-    (λ c. turn-past row (has_any words) _ _ _ (rw row-length c.if1.true))
+    (λ c. turn-past row (has_any words) _ _ _ (rw row-length c.if-place-ge19.true))
     (λ c κs. search rules) (λ c κs. search rules) (λ c κs. search rules) (λ c κs. search rules)
     (λ c.
-    let f = c.before.before.before in
-    turn-nowhere row words _ _ _ (rw row-length (omega (arith, f.before.before.if1.false))) f.before.find.ensures (sym f.is-unknown.ensures ∙ c.before.before.if2.true) (c.turn-unknown.ensures ∙ ap turn_unknown c.before.is_Is_word.ensures))
+    let f = c in
+    turn-nowhere row words _ _ _ (rw row-length (omega (arith, f.if-place-ge19.false))) f.find-found.ensures (sym f.is_unknown.ensures ∙ c.if-is_unknown.true) (c.turn_unknown.ensures ∙ ap turn_unknown c.is_word.ensures))
     (λ c κs. search rules)
     (λ c.
-    let f = c.before.before in
-    turn-somewhere row words _ _ _ (rw row-length (omega (arith, f.before.before.if1.false))) f.before.find.ensures row-wordless row-covered (sym f.is-unknown.ensures ∙ c.before.if2.false) c.turn_by.ensures))
+    let f = c in
+    turn-somewhere row words _ _ _ (rw row-length (omega (arith, f.if-place-ge19.false))) f.find-found.ensures row-wordless row-covered (sym f.is_unknown.ensures ∙ c.if-is_unknown.false) c.turn_by.ensures))

@@ -13,10 +13,10 @@ say_recent_spec =
     (tie.spec
     (λ c κs. search rules) (λ c. search rules) (λ c. search rules)
     (λ c.
-    let d = c.before.before.before in
-    let a = d.before.before.args in
-    rw (weather-is (read_recent a.automatic a.g.now) (sym c.before.read.given.1 ∙ d.read-recent.ensures)))
+    let d = c in
+    let a = d.args in
+    rw (weather-is (read_recent a.automatic a.g.now) (sym c.in-Good.is ∙ d.read_recent-read.ensures)))
     (λ c.
-    let d = c.before.before.before in
-    let a = d.before.before.args in
-    rw (weather-is (read_recent a.automatic a.g.now) (sym c.before.read2.given.1 ∙ d.read-recent.ensures))))
+    let d = c in
+    let a = d.args in
+    rw (weather-is (read_recent a.automatic a.g.now) (sym c.in-Bad.is ∙ d.read_recent-read.ensures))))

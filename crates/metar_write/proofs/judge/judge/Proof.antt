@@ -9,5 +9,5 @@ judge_spec =
     tie.close
     (tie.spec
     (λ c κs. tt) (λ c κs. tt) (λ c κs. tt) (λ c κs. tt) (λ c κs. tt) (λ c κs. tt) (λ c κs. tt) (λ c κs. tt) (λ c κs. tt) (λ c κs. tt) (λ c κs. tt) (λ c κs. tt) (λ c κs. tt)
-    (λ c. unfold judge_of judge_head in rw (c.and-then3.ensures, c.before.and-then2.ensures, c.before.before.before.and_then.ensures, c.before.before.before.before.judge-time.ensures, c.before.before.before.before.before.judge-station.ensures, c.before.before.before.before.before.before.judge.ensures, c.before.before.before.before.before.before.before.is-blank.ensures, c.before.before.before.before.before.before.before.before.has-no-observation.ensures, c.before.before.if1.true))
-    (λ c. unfold judge_of judge_head in rw (c.and-then6.ensures, c.before.and-then5.ensures, c.before.before.and-then4.ensures, c.before.before.before.judge-trend.ensures, c.before.before.before.before.judge-observation.ensures, c.before.before.before.before.before.before.and_then.ensures, c.before.before.before.before.before.before.before.judge-time.ensures, c.before.before.before.before.before.before.before.before.judge-station.ensures, c.before.before.before.before.before.before.before.before.before.judge.ensures, c.before.before.before.before.before.before.before.before.before.before.is-blank.ensures, c.before.before.before.before.before.before.before.before.before.before.before.has-no-observation.ensures, c.before.before.before.before.before.if1.false)))
+    (λ c. unfold judge_of judge_head in rw (c.and_then-then-nil.ensures, c.and_then.ensures, c.and_then-head.ensures, c.judge_time.ensures, c.judge_station.ensures, c.judge-foreign.ensures, c.is_blank.ensures, c.has_no_observation.ensures, c.if-nil.true))
+    (λ c. unfold judge_of judge_head in rw (c.and_then-else-nil-2.ensures, c.and_then-else-nil.ensures, c.and_then-rest.ensures, c.judge_trend.ensures, c.judge_observation.ensures, c.and_then-head.ensures, c.judge_time.ensures, c.judge_station.ensures, c.judge-foreign.ensures, c.is_blank.ensures, c.has_no_observation.ensures, c.if-nil.false)))

@@ -13,5 +13,5 @@ judge_observation_spec =
     (λ c κs. tt) (λ c κs. tt) (λ c κs. tt) (λ c κs. tt) (λ c κs. tt) (λ c κs. tt) (λ c κs. tt) (λ c κs. tt)
     (λ c.
     unfold judge_observation in
-    let r = c.before.before.before.before.before.before.before.before.before.before.before.before.before.before.before.before.before.before.before.before.before.before.before.before.before.before.args.r in
-    rw (c.and-then9.ensures, c.before.wind-judged.ensures false r.automatic r.nil, c.before.before.and-then8.ensures, c.before.before.before.judge-variation.ensures, c.before.before.before.before.and-then7.ensures, c.before.before.before.before.before.visibility-judged.ensures false r.automatic r.nil, c.before.before.before.before.before.before.and-then6.ensures, c.before.before.before.before.before.before.before.judge-runways.ensures, c.before.before.before.before.before.before.before.before.and-then5.ensures, c.before.before.before.before.before.before.before.before.before.weather-judged.ensures true r.nil, c.before.before.before.before.before.before.before.before.before.before.and-then4.ensures, c.before.before.before.before.before.before.before.before.before.before.before.sky-judged.ensures true false r.automatic r.nil, c.before.before.before.before.before.before.before.before.before.before.before.before.and-then3.ensures, c.before.before.before.before.before.before.before.before.before.before.before.before.before.judge-temperatures.ensures, c.before.before.before.before.before.before.before.before.before.before.before.before.before.before.and-then2.ensures, c.before.before.before.before.before.before.before.before.before.before.before.before.before.before.before.judge-qnh.ensures, c.before.before.before.before.before.before.before.before.before.before.before.before.before.before.before.before.and_then.ensures, c.before.before.before.before.before.before.before.before.before.before.before.before.before.before.before.before.before.judge-states.ensures, c.before.before.before.before.before.before.before.before.before.before.before.before.before.before.before.before.before.before.judge-recents.ensures)))
+    let r = c.args.r in
+    rw (c.and_then.ensures, c.wind_judged.ensures false r.automatic r.nil, c.and_then-from_variation.ensures, c.judge_variation.ensures, c.and_then-from_view.ensures, c.visibility_judged.ensures false r.automatic r.nil, c.and_then-from_runways.ensures, c.judge_runways.ensures, c.and_then-from_weather.ensures, c.weather_judged.ensures true r.nil, c.and_then-from_sky.ensures, c.sky_judged.ensures true false r.automatic r.nil, c.and_then-from_air.ensures, c.judge_temperatures.ensures, c.and_then-from_qnh.ensures, c.judge_qnh.ensures, c.and_then-from_recents.ensures, c.judge_states.ensures, c.judge_recents.ensures)))

@@ -12,4 +12,4 @@ judge_change_spec =
     (λ c κs. tt) (λ c κs. tt) (λ c κs. tt) (λ c κs. tt) (λ c κs. tt) (λ c κs. tt) (λ c κs. tt) (λ c κs. tt) (λ c κs. tt) (λ c κs. tt)
     (λ c.
     unfold judge_change in
-    rw (c.and-then3.ensures, c.before.and-then2.ensures, c.before.before.and_then.ensures, c.before.before.before.judge-body.ensures false, c.before.before.before.before.judge3.ensures, c.before.before.before.before.before.has-element.ensures, c.before.before.before.before.before.before.judge2.ensures, c.before.before.before.before.before.before.before.hours-fit.ensures, c.before.before.before.before.before.before.before.before.judge.ensures, c.before.before.before.before.before.before.before.before.before.is_none.ensures)))
+    rw (c.and_then-2.ensures, c.and_then.ensures, c.and_then-whole.ensures, c.judge_body.ensures false, c.judge-told.ensures, c.has_element.ensures, c.judge-timed.ensures, c.hours_fit.ensures, c.judge-opened.ensures, c.is_none.ensures)))

@@ -13,5 +13,5 @@ judge_trend_spec =
     (λ c κs. search rules) (λ c κs. tt) (λ c κs. search rules) (λ c κs. search rules) (λ c κs. tt)
     (λ c.
     unfold judge_trend in
-    rw (c.and_then.ensures, c.before.before.judge.ensures, c.before.judge-each.ensures, c.before.before.before.is-blank-from.ensures, le-leb _ _ c.before.before.before.before.if1.true))
-    (λ c. unfold judge_trend in rw (c.judge2.ensures, lt-leb _ _ c.before.if1.false)))
+    rw (c.and_then.ensures, c.judge-listed.ensures, c.judge_each.ensures, c.is_blank_from.ensures, le-leb _ _ c.if-n-le3.true))
+    (λ c. unfold judge_trend in rw (c.judge.ensures, lt-leb _ _ c.if-n-le3.false)))

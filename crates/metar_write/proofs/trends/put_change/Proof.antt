@@ -13,5 +13,5 @@ put_change_spec =
     (tie.spec
     (λ c κs. tt) (λ c κs. tt) (λ c κs. tt) (λ c. search rules)
     (λ c.
-    rw (change-in-parts c.before.before.before.before.before.before.before.before.before.before.before.before.before.before.before.args.c)
-    (write-groups _ _ c.before.before.before.before.before.before.before.before.before.before.put_word.ensures (write-groups _ _ c.before.before.before.before.before.before.put-times.ensures (c.before.before.put-body.ensures false true false false)))))
+    rw (change-in-parts c.args.c)
+    (write-groups _ _ c.put_word-opened.ensures (write-groups _ _ c.put_times-timed.ensures (c.put_body.ensures false true false false)))))

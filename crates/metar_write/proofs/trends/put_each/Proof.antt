@@ -14,16 +14,16 @@ use Rattle.trend.specs.Write.{show_change, show_each}
 use Rattle.metar_write.proofs.trends.put_each.Statement.{statement}
 use Rattle.metar_write.proofs.trends.put_each.Tie as tie
 
-abbrev Inv : tie.invariant-loop
+abbrev Inv : tie.invariant-loop-i
 Inv out₀ at n items next₀ i₀ out next i = (i ≤ n) × Put out₀ at (written at (show_each (take i items))) next out
 
-abbrev μ : tie.decreases-loop
+abbrev μ : tie.decreases-loop-i
 μ out₀ at n items next₀ i₀ out next i = n - i
 
 -- there are three slots
 slots : (c : tie.Start Inv μ) → c.args.n ≤ length c.args.t.items
 slots c =
-    let three : length c.args.t.items ≡ 3 = simp length-map at c.well-formed.1.1.0.1.1.0.1.0.1 in
+    let three : length c.args.t.items ≡ 3 = c.well_formed.1.1.0.1.1.0.1.0.1 in
     omega (arith, c.requires)
 
 pub put_each_spec : {M : Type 1} → statement M
@@ -36,10 +36,10 @@ put_each_spec =
     let d = c.before.before.before.before.before.before in
     let s = d.before.before.before in (
       omega arith,
-      one_more show_change show_each refl (λ x xs. refl) s.args.t.items d.loop.i _ (omega (arith, slots s)) d.loop.invariant.1 c.before.before.put-change.ensures,
+      one_more show_change show_each refl (λ x xs. refl) d.args.t.items c.loop-i.i _ (omega (arith, slots s)) c.loop-i.invariant.1 c.put_change-next.ensures,
     ))
-    (λ c. length-put c.before.loop.invariant.1)
+    (λ c. length-put c.loop-i.invariant.1)
     (λ c.
     let d = c.before in
-    let all : d.loop.i ≡ d.before.before.before.args.n = omega arith in
-    rw all at d.loop.invariant.1))
+    let all : c.loop-i.i ≡ c.args.n = omega arith in
+    rw all at c.loop-i.invariant.1))

@@ -10,5 +10,5 @@ pub put_trend_spec : {M : Type 1} → statement M
 put_trend_spec =
     tie.close
     (tie.spec
-    (λ c. search rules) (λ c κs. tt) (λ c κs. search rules) (λ c. search rules)
-    (λ c. unfold show_trend in write-groups _ _ c.before.before.before.before.before.before.put_if.ensures c.before.before.put-each.ensures))
+    (λ c κs. tt) (λ c κs. search rules) (λ c. search rules)
+    (λ c. unfold show_trend in write-groups _ _ c.put_if-alone.ensures c.put_each.ensures))

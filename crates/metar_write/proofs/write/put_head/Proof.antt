@@ -11,17 +11,17 @@ use Rattle.metar_write.proofs.write.put_head.Tie as tie
 all : tie.Need-returns
 unfolding row
 all c =
-    write-groups _ _ c.before.before.before.before.before.before.before.before.before.before.before.before.before.before.before.before.before.before.before.before.before.before.before.before.before.put-name.ensures
-    (write-groups _ _ c.before.before.before.before.before.before.before.before.before.before.before.before.before.before.before.before.before.before.before.before.put_if.ensures
-    (write-groups _ _ c.before.before.before.before.before.before.before.before.before.before.before.before.before.before.before.before.put-station.ensures
-    (write-groups _ _ c.before.before.before.before.before.before.before.before.before.before.before.before.put-time.ensures
-    (write-groups _ _ c.before.before.before.before.before.before.before.put-if2.ensures
-    (rw (append-nil _) c.before.before.put-if3.ensures)))))
+    write-groups _ _ c.put_name-named.ensures
+    (write-groups _ _ c.put_if-marked.ensures
+    (write-groups _ _ c.put_station-sited.ensures
+    (write-groups _ _ c.put_time-timed.ensures
+    (write-groups _ _ c.put_if-ended.ensures
+    (rw (append-nil _) c.put_if.ensures)))))
 
 pub put_head_spec : {M : Type 1} → statement M
 put_head_spec =
     tie.close
     (tie.spec
-    (λ c κs. tt) (λ c. search rules) (λ c κs. tt) (λ c κs. tt) (λ c κs. tt) (λ c. search rules) (λ c κs. tt) (λ c. search rules) (λ c κs. tt)
+    (λ c κs. tt) (λ c κs. tt) (λ c κs. tt) (λ c κs. tt) (λ c κs. tt) (λ c κs. tt)
     (λ c. length-put (all c))
     all)

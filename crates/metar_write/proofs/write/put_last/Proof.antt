@@ -7,17 +7,17 @@ use Rattle.metar_row.specs.Row.{row}
 use Rattle.metar_write.proofs.write.put_last.Statement.{statement}
 use Rattle.metar_write.proofs.write.put_last.Tie as tie
 
-nil : tie.Need-returns
+nil : tie.Need-returns-then-nil
 unfolding row
-nil c = rw c.before.before.before.before.before.before.before.before.if1.true (write-groups _ _ c.before.before.before.before.before.before.put-recents.ensures (rw (append-nil _) c.before.before.put-states.ensures))
+nil c = rw c.if-nil.true (write-groups _ _ c.put_recents-rained.ensures (rw (append-nil _) c.put_states.ensures))
 
-all : tie.Need-returns-2
+all : tie.Need-returns-else-nil
 unfolding row
 all c =
-    rw c.before.before.before.before.before.before.before.before.before.before.before.before.before.before.before.before.if1.false
-    (write-groups _ _ c.before.before.before.before.before.before.before.before.before.before.before.before.before.before.put-temperatures.ensures
-    (write-groups _ _ c.before.before.before.before.before.before.before.before.before.before.put-qnh.ensures
-    (write-groups _ _ c.before.before.before.before.before.before.put-recents2.ensures (rw (append-nil _) c.before.before.put-states2.ensures))))
+    rw c.if-nil.false
+    (write-groups _ _ c.put_temperatures-warmed.ensures
+    (write-groups _ _ c.put_qnh-pressed.ensures
+    (write-groups _ _ c.put_recents-rained-else-nil.ensures (rw (append-nil _) c.put_states-else-nil.ensures))))
 
 pub put_last_spec : {M : Type 1} → statement M
 put_last_spec =

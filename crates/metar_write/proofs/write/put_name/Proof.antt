@@ -8,7 +8,7 @@ pub put_name_spec : {M : Type 1} → statement M
 put_name_spec =
     tie.close
     (tie.spec
-    (λ c. search rules) (λ c κs. tt) (λ c. search rules) (λ c κs. tt) (λ c. search rules)
-    (λ c. rw c.before.before.before.before.before.if1.true c.before.before.put-group.ensures)
+    (λ c κs. tt) (λ c κs. tt) (λ c. search rules)
+    (λ c. rw c.if-special.true c.put_group.ensures)
     (λ c. search rules)
-    (λ c. rw c.before.before.before.before.before.if1.false c.before.before.put-group2.ensures))
+    (λ c. rw c.if-special.false c.put_group-else-special.ensures))

@@ -8,9 +8,9 @@ use Rattle.metar_write.proofs.write.put_observation.Tie as tie
 
 all : tie.Need-returns
 all c =
-    rw (row-in-parts c.before.before.before.before.before.before.before.before.before.before.before.before.before.before.before.before.before.before.before.before.before.before.before.args.r)
-    (write-groups _ _ c.before.before.before.before.before.before.before.before.before.before.before.before.before.before.before.before.before.before.put-head.ensures
-    (write-groups _ _ c.before.before.before.before.before.before.before.before.before.before.before.before.before.before.put-seen.ensures (write-groups _ _ c.before.before.before.before.before.before.before.before.before.before.put-weather-or-nsw.ensures (write-groups _ _ c.before.before.before.before.before.before.put-sky.ensures c.before.before.put_last.ensures))))
+    rw (row-in-parts c.args.r)
+    (write-groups _ _ c.put_head-headed.ensures
+    (write-groups _ _ c.put_seen-seen.ensures (write-groups _ _ c.put_weather_or_nsw-weathered.ensures (write-groups _ _ c.put_sky-clouded.ensures c.put_last.ensures))))
 
 pub put_observation_spec : {M : Type 1} → statement M
 put_observation_spec =

@@ -12,4 +12,4 @@ put_report_spec =
     tie.close
     (tie.spec
     (λ c κs. tt) (λ c κs. search rules) (λ c κs. tt) (λ c. search rules)
-    (λ c. unfold groups_of in then (write-groups _ _ c.before.before.before.before.before.before.before.before.before.before.put-observation.ensures c.before.before.before.before.before.before.put-trend.ensures) c.before.before.close-report.ensures))
+    (λ c. unfold groups_of in then (write-groups _ _ c.put_observation-observed.ensures c.put_trend-told.ensures) c.close_report.ensures))

@@ -10,8 +10,8 @@ use Rattle.metar_write.proofs.write.put_seen.Tie as tie
 all : tie.Need-returns
 unfolding row
 all c =
-    write-groups _ _ c.before.before.before.before.before.before.before.before.before.before.before.before.before.before.put-wind-unless.ensures
-    (write-groups _ _ c.before.before.before.before.before.before.before.before.before.before.put-variation.ensures (write-groups _ _ c.before.before.before.before.before.before.put-visibility-unless.ensures (rw (append-nil _) c.before.before.put-runways.ensures)))
+    write-groups _ _ c.put_wind_unless-blown.ensures
+    (write-groups _ _ c.put_variation-varied.ensures (write-groups _ _ c.put_visibility_unless-seen.ensures (rw (append-nil _) c.put_runways.ensures)))
 
 pub put_seen_spec : {M : Type 1} → statement M
 put_seen_spec =

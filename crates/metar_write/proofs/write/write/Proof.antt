@@ -12,8 +12,8 @@ write_spec =
     tie.close
     (tie.spec
     (λ c κs. tt) (λ c. search rules)
-    (λ c κs. sym c.before.before.before.judge.ensures ∙ c.before.enum_told.given.1)
+    (λ c κs. sym c.judge-verdict.ensures ∙ c.in-Fine.is)
     (λ c. search rules) (λ c. search rules) (λ c. search rules)
     (λ c.
-    let d = c.before.before.before.before.before in
-    unfold written_of buffer_of in not-delivered (canonical_of d.args.r) d.args.out.now (sym c.before.before.before.judge.ensures ∙ c.before.verdict.given.1)))
+    let d = c in
+    unfold written_of buffer_of in not-delivered (canonical_of d.args.r) d.args.out.now (sym c.judge-verdict.ensures ∙ c.in-Refused.is)))

@@ -5,40 +5,47 @@ use Prim.Native.Nat.{ℕ, ◌≤◌}
 use native.Mathlib.Omega.{arith}
 use mathlib.Core.Path.{◌≡◌, sym}
 use mathlib.Core.List.{List, [], ◌∷◌, ◌++◌}
-use lib.ListN.{length, take, replicate, length-map}
+use lib.ListN.{length, take, replicate}
 use lib.Seq.{length-take-le}
-use denote.Struct.Struct.{Struct}
-use denote.Struct.Declared.{shape}
+use mir.Val.{Val}
+use denote.Array.{each as owned}
+use denote.Shadow.{shadow}
 use Rattle.figures.specs.Put.{Put}
 use Rattle.text.specs.Groups.{join, written}
 use Rattle.places.proofs.Delivered.{made, delivered}
 use Rattle.record.specs.declared.aerodrome.TrendChange.{TrendChange}
-use Rattle.record.specs.contracts.aerodrome.TrendChange.{the_type}
-use Rattle.record.specs.Arrays.{BodyArrays, MetarArrays}
-use Rattle.body.proofs.Arrays.{body-arrays, each_owned}
+use Rattle.record.specs.contracts.aerodrome.TrendChange.{the_row}
+use Rattle.record.specs.Arrays.{BodyArrays, MetarArrays, Each}
+use Rattle.body.proofs.Arrays.{body-arrays}
 use Rattle.metar.specs.Write.{groups_of, canonical_of, written_of, buffer_of}
 use Rattle.metar_laws.proofs.Canonical.{trend-listed, groups-sizes, length-canonical}
 use Rattle.metar_write.proofs.write.write_fine.Statement.{statement}
 use Rattle.metar_write.proofs.write.write_fine.Tie as tie
 
+-- owning a list of changes tells of the arrays of each body
+each-body : (xs : List TrendChange) (us : List Val) → shadow (owned (the_row).Denot (the_row).own_val xs us) → Each (λ (x : TrendChange). BodyArrays x.body) xs
+each-body [] us s = tt
+each-body (x ∷ xs) [] s = absurd s
+each-body (x ∷ xs) (u ∷ us) s = (body-arrays x.body _ s.0.1.1.1.1.0, each-body xs us s.1)
+
 -- an array's length is part of its type
 arrays : (c : tie.Start) → MetarArrays c.args.r
 arrays c =
     let r = c.args.r in
-    let observation = c.well-formed.0.1.1.0.1.1 in
+    let observation = c.well_formed.0.1.1.0.1.1 in
     let runways = observation.1.1.1.1.1.1.1.1 in
-    let items = c.well-formed.0.1.1.1.0.1.1.0 in
+    let items = c.well_formed.0.1.1.1.0.1.1.0 in
     record {
       observation =
           record {
-            letters = simp length-map at observation.1.1.0.1.1.0.1.0.1;
+            letters = observation.1.1.0.1.1.0.1.0.1;
             body = body-arrays r.observation.body _ observation.1.1.1.1.1.1.0;
-            runways = simp length-map at runways.0.1.1.0.1.0.1;
-            recents = simp length-map at runways.1.1.1.0.1.1.0.1.0.1;
-            states = simp length-map at runways.1.1.1.1.0.1.1.0.1.0.1;
+            runways = runways.0.1.1.0.1.0.1;
+            recents = runways.1.1.1.0.1.1.0.1.0.1;
+            states = runways.1.1.1.1.0.1.1.0.1.0.1;
           };
-      trend = simp length-map at items.1.0.1;
-      each = each_owned (Struct (shape the_type)) the_type.to (λ (x : TrendChange). BodyArrays x.body) (λ x us s. body-arrays x.body _ s.1.1.1.1.0) r.trend.items _ items.1.1;
+      trend = items.1.0.1;
+      each = each-body r.trend.items _ items.1.1;
     }
 
 -- the report as it is made over the array, which has room for the longest
@@ -52,10 +59,10 @@ write_fine_spec =
     tie.close
     (tie.spec
     (λ c. search rules)
-    (λ c κs. let d = c.before.before in (trend-listed d.args.r (arrays d) d.requires).few)
-    (λ c. (report c.before.before.before.before c.before.put-report.ensures).0)
-    (λ c. sym (length-take-le _ _ (report c.before.before.before.before.before c.before.before.put-report.ensures).0))
+    (λ c κs. let d = c.before.before in (trend-listed c.args.r (arrays d) c.requires).few)
+    (λ c. (report c.before.before.before.before c.put_report-end.ensures).0)
+    (λ c. sym (length-take-le _ _ (report c.before.before.before.before.before c.put_report-end.ensures).0))
     (λ c κs. tt) (λ c. search rules)
     (λ c.
     let d = c.before.before.before.before.before.before.before.before.before in
-    unfold written_of buffer_of canonical_of in delivered d.args.out.now d.requires (report d c.before.before.before.before.before.before.put-report.ensures).1 c.before.before.deliver.ensures))
+    unfold written_of buffer_of canonical_of in delivered c.args.out.now c.requires (report d c.put_report-end.ensures).1 c.deliver.ensures))

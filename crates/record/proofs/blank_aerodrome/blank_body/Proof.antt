@@ -4,4 +4,4 @@ use Rattle.record.proofs.blank_aerodrome.blank_body.Statement.{statement}
 use Rattle.record.proofs.blank_aerodrome.blank_body.Tie as tie
 
 pub blank_body_spec : {M : Type 1} → statement M
-blank_body_spec = tie.close (tie.spec (λ c κs. tt) (λ c κs. tt) (λ c κs. tt) (λ c. rw (c.blank-sky.ensures, c.before.blank-weathers.ensures, c.before.before.blank-wind.ensures)))
+blank_body_spec = tie.close (tie.spec (λ c κs. tt) (λ c κs. tt) (λ c κs. tt) (λ c. rw (c.blank_sky-sky.ensures, c.blank_weathers-weathers.ensures, c.blank_wind-wind.ensures)))

@@ -4,4 +4,4 @@ use Rattle.record.proofs.blank_aerodrome.blank_metar.Statement.{statement}
 use Rattle.record.proofs.blank_aerodrome.blank_metar.Tie as tie
 
 pub blank_metar_spec : {M : Type 1} → statement M
-blank_metar_spec = tie.close (tie.spec (λ c κs. tt) (λ c κs. tt) (λ c. rw (c.blank-trend.ensures, c.before.blank-observation.ensures)))
+blank_metar_spec = tie.close (tie.spec (λ c κs. tt) (λ c κs. tt) (λ c. rw (c.blank_trend-trend.ensures, c.blank_observation-observation.ensures)))

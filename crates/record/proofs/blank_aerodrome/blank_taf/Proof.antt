@@ -4,4 +4,4 @@ use Rattle.record.proofs.blank_aerodrome.blank_taf.Statement.{statement}
 use Rattle.record.proofs.blank_aerodrome.blank_taf.Tie as tie
 
 pub blank_taf_spec : {M : Type 1} → statement M
-blank_taf_spec = tie.close (tie.spec (λ c κs. tt) (λ c κs. tt) (λ c. rw (c.before.blank-leg.ensures, c.blank-change.ensures)))
+blank_taf_spec = tie.close (tie.spec (λ c κs. tt) (λ c κs. tt) (λ c. rw (c.blank_leg-leg.ensures, c.blank_change-change.ensures)))

@@ -4,4 +4,4 @@ use Rattle.record.proofs.blank_aerodrome.blank_trend.Statement.{statement}
 use Rattle.record.proofs.blank_aerodrome.blank_trend.Tie as tie
 
 pub blank_trend_spec : {M : Type 1} → statement M
-blank_trend_spec = tie.close (tie.spec (λ c κs. tt) (λ c. rw c.blank-trend-change.ensures))
+blank_trend_spec = tie.close (tie.spec (λ c κs. tt) (λ c. rw c.blank_trend_change-blank.ensures))

@@ -11,10 +11,10 @@ use Rattle.record.specs.Missing.{no_letters}
 use Rattle.record.proofs.letters.are_blank_from.Statement.{statement}
 use Rattle.record.proofs.letters.are_blank_from.Tie as tie
 
-abbrev Inv : tie.invariant-loop
+abbrev Inv : tie.invariant-loop-i
 Inv letters from i₀ i = no_letters (drop from letters) ≡ no_letters (drop i letters)
 
-abbrev μ : tie.decreases-loop
+abbrev μ : tie.decreases-loop-i
 μ letters from i₀ i = length letters - i
 
 pub are_blank_from_spec : {M : Type 1} → statement M
@@ -24,9 +24,9 @@ are_blank_from_spec =
     (λ c. refl)
     (λ c. search rules) (λ c. search rules) (λ c. search rules)
     (λ c.
-    let d = c.before.before.before in
-    d.loop.invariant ∙ every-next (λ b. eqb b 0) d.before.args.letters.now d.loop.i 0 (search rules) (eq-eqb _ 0 c.if1.true))
+    let d = c in
+    d.loop-i.invariant ∙ every-next (λ b. eqb b 0) d.args.letters.now d.loop-i.i 0 (search rules) (eq-eqb _ 0 c.if-letters-i-eq0.true))
     (λ c.
-    let d = c.before.before.before in
-    sym (d.loop.invariant ∙ every-stop (λ b. eqb b 0) d.before.args.letters.now d.loop.i 0 (search rules) (ne_eqb _ 0 c.if1.false)))
-    (λ c. sym (c.before.loop.invariant ∙ every-end (λ b. eqb b 0) c.before.before.args.letters.now c.before.loop.i (search rules))))
+    let d = c in
+    sym (d.loop-i.invariant ∙ every-stop (λ b. eqb b 0) d.args.letters.now d.loop-i.i 0 (search rules) (ne_eqb _ 0 c.if-letters-i-eq0.false)))
+    (λ c. sym (c.loop-i.invariant ∙ every-end (λ b. eqb b 0) c.args.letters.now c.loop-i.i (search rules))))

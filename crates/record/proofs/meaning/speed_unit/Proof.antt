@@ -9,7 +9,7 @@ speed_unit_spec =
     tie.close
     (tie.spec
     (λ c. search rules) (λ c. search rules)
-    (λ c. rw (c.before.before.iw.given.1, c.if1.true))
+    (λ c. rw (c.in-Is.is, c.if-n.true))
     (λ c. search rules)
-    (λ c. rw (c.before.before.before.iw.given.1, c.before.if1.false, c.if2.true))
-    (λ c. rw (c.before.before.before.iw.given.1, c.before.if1.false, c.if2.false)))
+    (λ c. rw (c.in-Is.is, c.if-n.false, c.if-n-2.true))
+    (λ c. rw (c.in-Is.is, c.if-n.false, c.if-n-2.false)))

@@ -5,7 +5,7 @@ use Rattle.report_record.proofs.answer.blank_report.Statement.{statement}
 use Rattle.report_record.proofs.answer.blank_report.Tie as tie
 
 returns : tie.Need-returns
-returns c = rw (c.blank-taf.ensures, c.before.blank-metar.ensures, c.before.before.blank-synop.ensures)
+returns c = rw (c.blank_taf-forecast.ensures, c.blank_metar-observed.ensures, c.blank_synop-surface.ensures)
 
 pub blank_report_spec : {M : Type 1} → statement M
 blank_report_spec =

@@ -5,7 +5,7 @@ use Rattle.report_record.proofs.answer.of_forecast.Statement.{statement}
 use Rattle.report_record.proofs.answer.of_forecast.Tie as tie
 
 returns : tie.Need-returns
-returns c = rw (c.blank-report.ensures, c.before.kind-by.ensures)
+returns c = rw (c.blank_report-report.ensures, c.kind_by.ensures)
 
 pub of_forecast_spec : {M : Type 1} → statement M
 of_forecast_spec =

@@ -5,7 +5,7 @@ use Rattle.report_record.proofs.answer.of_surface.Statement.{statement}
 use Rattle.report_record.proofs.answer.of_surface.Tie as tie
 
 returns : tie.Need-returns
-returns c = rw (c.blank-report.ensures, c.before.kind-by.ensures)
+returns c = rw (c.blank_report-report.ensures, c.kind_by.ensures)
 
 pub of_surface_spec : {M : Type 1} → statement M
 of_surface_spec =

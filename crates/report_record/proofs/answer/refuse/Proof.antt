@@ -5,7 +5,7 @@ use Rattle.report_record.proofs.answer.refuse.Statement.{statement}
 use Rattle.report_record.proofs.answer.refuse.Tie as tie
 
 returns : tie.Need-returns
-returns c = rw c.blank-report.ensures
+returns c = rw c.blank_report-report.ensures
 
 pub refuse_spec : {M : Type 1} → statement M
 refuse_spec =

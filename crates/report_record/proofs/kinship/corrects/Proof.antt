@@ -6,7 +6,7 @@ use Rattle.report_record.proofs.kinship.corrects.Statement.{statement}
 use Rattle.report_record.proofs.kinship.corrects.Tie as tie
 
 returns : tie.Need-returns
-returns c = unfold corrects in rw (c.taf-corrects.ensures, c.before.metar-corrects.ensures, c.before.before.is-forecast2.ensures, c.before.before.before.is-forecast.ensures, c.before.before.before.before.is-observed2.ensures, c.before.before.before.before.before.is-observed.ensures)
+returns c = unfold corrects in rw (c.taf_corrects.ensures, c.metar_corrects.ensures, c.is_forecast-2.ensures, c.is_forecast.ensures, c.is_observed-2.ensures, c.is_observed.ensures)
 
 pub corrects_spec : {M : Type 1} → statement M
 corrects_spec =

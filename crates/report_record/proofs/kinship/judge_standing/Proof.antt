@@ -7,14 +7,14 @@ use Rattle.report_record.specs.Kinship.{judge_standing}
 use Rattle.report_record.proofs.kinship.judge_standing.Statement.{statement}
 use Rattle.report_record.proofs.kinship.judge_standing.Tie as tie
 
-returns : tie.Need-returns
-returns c = unfold judge_standing in rw (← c.before.corrects.ensures, c.if1.true)
+returns : tie.Need-returns-then-corrects
+returns c = unfold judge_standing in rw (← c.corrects.ensures, c.if-corrects.true)
 
-returns-2 : tie.Need-returns-2
-returns-2 c = unfold judge_standing in rw (← c.before.before.before.before.corrects.ensures, c.before.before.before.if1.false, ← c.before.before.is-observed.ensures, ← c.before.is-forecast.ensures, c.if2.true)
+returns-2 : tie.Need-returns-then-is_observed-is_forecast
+returns-2 c = unfold judge_standing in rw (← c.corrects.ensures, c.if-corrects.false, ← c.is_observed.ensures, ← c.is_forecast.ensures, c.if-is_observed-is_forecast.true)
 
-returns-3 : tie.Need-returns-3
-returns-3 c = unfold judge_standing in rw (← c.before.before.before.before.corrects.ensures, c.before.before.before.if1.false, ← c.before.before.is-observed.ensures, ← c.before.is-forecast.ensures, c.if2.false)
+returns-3 : tie.Need-returns-else-is_observed-is_forecast
+returns-3 c = unfold judge_standing in rw (← c.corrects.ensures, c.if-corrects.false, ← c.is_observed.ensures, ← c.is_forecast.ensures, c.if-is_observed-is_forecast.false)
 
 pub judge_standing_spec : {M : Type 1} → statement M
 judge_standing_spec =

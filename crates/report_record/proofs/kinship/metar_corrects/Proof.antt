@@ -5,7 +5,7 @@ use Rattle.report_record.proofs.kinship.metar_corrects.Statement.{statement}
 use Rattle.report_record.proofs.kinship.metar_corrects.Tie as tie
 
 returns : tie.Need-returns
-returns c = rw (c.same-instant.ensures, c.before.same-station.ensures, c.before.before.before.is-alike.ensures)
+returns c = rw (c.same_instant.ensures, c.same_station.ensures, c.is_alike.ensures)
 
 pub metar_corrects_spec : {M : Type 1} → statement M
 metar_corrects_spec =

@@ -5,7 +5,7 @@ use Rattle.report_record.proofs.kinship.same_instant.Statement.{statement}
 use Rattle.report_record.proofs.kinship.same_instant.Tie as tie
 
 returns : tie.Need-returns
-returns c = rw (c.before.before.same_number.ensures, c.before.same-number2.ensures, c.same-number3.ensures)
+returns c = rw (c.same_number.ensures, c.same_number-2.ensures, c.same_number-3.ensures)
 
 pub same_instant_spec : {M : Type 1} → statement M
 same_instant_spec = tie.close (tie.spec (λ c κs. search rules) (λ c κs. search rules) (λ c κs. search rules) returns)

@@ -4,8 +4,8 @@ use borrow.Author.Rules.{rules}
 use Rattle.report_record.proofs.kinship.same_number.Statement.{statement}
 use Rattle.report_record.proofs.kinship.same_number.Tie as tie
 
-returns-4 : tie.Need-returns-4
-returns-4 c = rw (c.before.before.before.before.a.given.1, c.before.b.given.1)
+returns-4 : tie.Need-returns-in-Is-b-2
+returns-4 c = rw (c.in-Is.is, c.in-Is-b-2.is)
 
 pub same_number_spec : {M : Type 1} → statement M
 same_number_spec =

@@ -5,7 +5,7 @@ use Rattle.report_record.proofs.kinship.taf_corrects.Statement.{statement}
 use Rattle.report_record.proofs.kinship.taf_corrects.Tie as tie
 
 returns : tie.Need-returns
-returns c = rw (c.same-instant.ensures, c.before.same-station.ensures, c.before.before.is-corrected.ensures)
+returns c = rw (c.same_instant.ensures, c.same_station.ensures, c.is_corrected.ensures)
 
 pub taf_corrects_spec : {M : Type 1} → statement M
 taf_corrects_spec =

@@ -10,7 +10,7 @@ find_spec =
     tie.close
     (tie.spec
     (λ c κs. search rules) (λ c. search rules) (λ c. search rules) (λ c. search rules) (λ c. search rules) (λ c κs. search rules)
-    (λ c. unfold forecast_at in rw (← c.before.before.before.read-in.ensures, c.enum_told.given.1))
-    (λ c. unfold forecast_at in rw (← c.before.before.before.read-in.ensures, c.enum-told2.given.1))
-    (λ c. unfold forecast_at in rw (← c.before.before.before.read-in.ensures, c.enum-told3.given.1))
-    (λ c. unfold forecast_at in rw (← c.before.before.before.before.read-in.ensures, c.before.enum-told4.given.1) c.find.ensures))
+    (λ c. unfold forecast_at in rw (← c.read_in-reading.ensures, c.in-Missing.is))
+    (λ c. unfold forecast_at in rw (← c.read_in-reading.ensures, c.in-Surface.is))
+    (λ c. unfold forecast_at in rw (← c.read_in-reading.ensures, c.in-Observed.is))
+    (λ c. unfold forecast_at in rw (← c.read_in-reading.ensures, c.in-Forecast.is) c.find.ensures))

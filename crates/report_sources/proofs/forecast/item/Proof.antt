@@ -9,4 +9,4 @@ item_spec =
     tie.close
     (tie.spec
     (λ c κs. search rules) (λ c κs. search rules) (λ c κs. search rules)
-    (λ c. rw (← c.before.before.place_of.ensures, ← c.before.find.ensures) c.part_of.ensures))
+    (λ c. rw (← c.place_of-place.ensures, ← c.find-source.ensures) c.part_of.ensures))

@@ -9,4 +9,4 @@ opened_spec =
     tie.close
     (tie.spec
     (λ c κs. search rules) (λ c κs. search rules)
-    (λ c. rw (← c.before.find.ensures) c.part_of.ensures))
+    (λ c. rw (← c.find-source.ensures) c.part_of.ensures))

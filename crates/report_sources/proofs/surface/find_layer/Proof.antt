@@ -10,7 +10,7 @@ find_layer_spec =
     tie.close
     (tie.spec
     (λ c κs. search rules) (λ c. search rules) (λ c. search rules) (λ c κs. search rules) (λ c. search rules) (λ c. search rules)
-    (λ c. unfold surface_layer in rw (← c.before.before.before.read.ensures, c.enum_told.given.1))
-    (λ c. unfold surface_layer in rw (← c.before.before.before.before.read.ensures, c.before.enum-told2.given.1) c.find-layer.ensures)
-    (λ c. unfold surface_layer in rw (← c.before.before.before.read.ensures, c.enum-told3.given.1))
-    (λ c. unfold surface_layer in rw (← c.before.before.before.read.ensures, c.enum-told4.given.1)))
+    (λ c. unfold surface_layer in rw (← c.read-reading.ensures, c.in-Missing.is))
+    (λ c. unfold surface_layer in rw (← c.read-reading.ensures, c.in-Surface.is) c.find_layer.ensures)
+    (λ c. unfold surface_layer in rw (← c.read-reading.ensures, c.in-Observed.is))
+    (λ c. unfold surface_layer in rw (← c.read-reading.ensures, c.in-Forecast.is)))

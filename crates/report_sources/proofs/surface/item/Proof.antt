@@ -9,4 +9,4 @@ item_spec =
     tie.close
     (tie.spec
     (λ c κs. search rules) (λ c κs. search rules) (λ c κs. search rules) (λ c κs. search rules)
-    (λ c. rw (← c.before.before.before.part_of.ensures, ← c.before.before.place_of.ensures, ← c.before.find.ensures) c.part-of2.ensures))
+    (λ c. rw (← c.part_of-part.ensures, ← c.place_of-place.ensures, ← c.find-source.ensures) c.part_of.ensures))

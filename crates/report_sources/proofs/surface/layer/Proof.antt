@@ -9,4 +9,4 @@ layer_spec =
     tie.close
     (tie.spec
     (λ c κs. search rules) (λ c κs. search rules)
-    (λ c. rw (← c.before.find-layer.ensures) c.part_of.ensures))
+    (λ c. rw (← c.find_layer-source.ensures) c.part_of.ensures))

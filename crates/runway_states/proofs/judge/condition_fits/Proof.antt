@@ -10,4 +10,4 @@ condition_fits_spec =
     (tie.spec
     (λ c. search rules) (λ c. search rules) (λ c κs. tt) (λ c κs. tt) (λ c κs. tt) (λ c κs. tt)
     (λ c. search rules)
-    (λ c. rw (c.has-optional3.ensures, c.before.depth-fits.ensures, c.before.before.has-optional2.ensures, c.before.before.before.has-optional.ensures, c.before.before.before.before.before.c.given.1)))
+    (λ c. rw (c.has_optional-in-Covered-2.ensures, c.depth_fits.ensures, c.has_optional-in-Covered.ensures, c.has_optional.ensures, c.in-Covered.is)))

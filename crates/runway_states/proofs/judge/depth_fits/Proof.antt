@@ -9,6 +9,6 @@ depth_fits_spec =
     tie.close
     (tie.spec
     (λ c. search rules) (λ c. search rules) (λ c. search rules)
-    (λ c. rw c.enum_told.given.1)
-    (λ c. rw c.enum-told2.given.1)
-    (λ c. rw c.before.depth.given.1))
+    (λ c. rw c.in-Missing.is)
+    (λ c. rw c.in-Closed.is)
+    (λ c. rw c.in-Millimetres.is))

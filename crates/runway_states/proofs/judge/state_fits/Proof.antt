@@ -9,4 +9,4 @@ state_fits_spec =
     tie.close
     (tie.spec
     (λ c κs. tt) (λ c κs. tt)
-    (λ c. rw (c.condition-fits.ensures, c.before.has-present.ensures)))
+    (λ c. rw (c.condition_fits.ensures, c.has_present.ensures)))

@@ -9,4 +9,4 @@ are_listed_spec =
     tie.close
     (tie.spec
     (λ c κs. tt) (λ c κs. tt) (λ c κs. tt)
-    (λ c. rw (c.holds3.ensures, c.before.holds2.ensures, c.before.before.holds.ensures)))
+    (λ c. rw (c.holds-3.ensures, c.holds-2.ensures, c.holds.ensures)))

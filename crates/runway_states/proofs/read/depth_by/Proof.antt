@@ -9,7 +9,7 @@ pub depth_by_spec : {M : Type 1} → statement M
 depth_by_spec =
     tie.close
     (tie.spec
-    (λ c. rw c.if1.true)
+    (λ c. rw c.if-n-eq99.true)
     (λ c κs. search rules) (λ c. search rules) (λ c. search rules)
-    (λ c. rw (ne_eqb _ _ c.before.before.before.before.if1.false, ← c.before.before.before.depth-reading.ensures, c.before.r.given.1))
-    (λ c. rw (ne_eqb _ _ c.before.before.before.if1.false, ← c.before.before.depth-reading.ensures, c.enum_told.given.1)))
+    (λ c. rw (ne_eqb _ _ c.if-n-eq99.false, ← c.depth_reading-r.ensures, c.in-Is.is))
+    (λ c. rw (ne_eqb _ _ c.if-n-eq99.false, ← c.depth_reading-r.ensures, c.in-Unused.is)))

@@ -11,5 +11,5 @@ pub has_state_spec : {M : Type 1} → statement M
 has_state_spec =
     tie.close
     (tie.spec
-    (λ c. search rules) (λ c κs. search rules) (λ c. search rules) (λ c κs. search rules)
-    (λ c. unfold has_any in rw (c.before.before.has-pattern.ensures, c.has-pattern2.ensures, or-false)))
+    (λ c κs. search rules) (λ c κs. search rules)
+    (λ c. unfold has_any in rw (c.has_pattern-figures.ensures, c.has_pattern-cleared.ensures, or-false)))

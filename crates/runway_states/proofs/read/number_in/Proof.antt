@@ -9,7 +9,7 @@ number_in_spec =
     tie.close
     (tie.spec
     (λ c. search rules) (λ c. search rules) (λ c. search rules) (λ c. search rules)
-    (λ c. rw c.before.f.given.1)
-    (λ c. rw c.enum_told.given.1)
-    (λ c. rw c.enum-told2.given.1)
-    (λ c. rw c.enum-told3.given.1))
+    (λ c. rw c.in-Number.is)
+    (λ c. rw c.in-Missing.is)
+    (λ c. rw c.in-Mixed.is)
+    (λ c. rw c.in-Other.is))

@@ -12,5 +12,5 @@ read_state_spec =
     tie.close
     (tie.spec
     (λ c κs. search rules) (λ c. search rules) (λ c. search rules)
-    (λ c. rw (state-is (read_state c.before.before.before.before.before.args.g.now) (sym c.before.read.given.1 ∙ c.before.before.before.state-of.ensures)))
-    (λ c. rw (state-is (read_state c.before.before.before.before.before.args.g.now) (sym c.before.read2.given.1 ∙ c.before.before.before.state-of.ensures))))
+    (λ c. rw (state-is (read_state c.args.g.now) (sym c.in-Good.is ∙ c.state_of-read.ensures)))
+    (λ c. rw (state-is (read_state c.args.g.now) (sym c.in-Bad.is ∙ c.state_of-read.ensures))))

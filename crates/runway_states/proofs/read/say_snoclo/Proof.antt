@@ -9,5 +9,5 @@ pub say_snoclo_spec : {M : Type 1} → statement M
 say_snoclo_spec =
     tie.close
     (tie.spec
-    (λ c. rw c.if1.true)
-    (λ c. rw (ne_eqb _ _ c.if1.false)))
+    (λ c. rw c.if-states-eq0.true)
+    (λ c. rw (ne_eqb _ _ c.if-states-eq0.false)))

@@ -12,10 +12,10 @@ unfolding read_state
 state_of_spec =
     tie.close
     (tie.spec
-    (λ c κs. search rules) (λ c κs. tt) (λ c κs. tt) (λ c. search rules) (λ c κs. search rules)
-    (λ c. rw (← c.before.before.before.before.before.before.field.ensures, ← c.before.before.before.before.before.holds.ensures, c.before.before.before.before.if1.true, ← c.before.has-pattern.ensures, c.if2.true, c.before.before.before.number_in.ensures))
+    (λ c κs. search rules) (λ c κs. tt) (λ c κs. tt) (λ c κs. search rules)
+    (λ c. rw (← c.field-runway.ensures, ← c.holds.ensures, c.if-holds.true, ← c.has_pattern.ensures, c.if-has_pattern.true, c.number_in-runway.ensures))
     (λ c κs. search rules) (λ c κs. search rules) (λ c κs. search rules) (λ c κs. search rules) (λ c κs. tt) (λ c κs. search rules) (λ c. search rules) (λ c κs. tt) (λ c κs. tt) (λ c κs. tt) (λ c. search rules)
-    (λ c. rw (← c.before.before.before.before.before.before.before.before.before.before.before.before.before.before.before.before.before.before.before.field.ensures, ← c.before.before.before.before.before.before.before.before.before.before.before.before.before.before.before.before.before.before.holds.ensures, c.before.before.before.before.before.before.before.before.before.before.before.before.before.before.before.before.before.if1.true, ← c.before.before.before.before.before.before.before.before.before.before.before.before.before.before.has-pattern.ensures, c.before.before.before.before.before.before.before.before.before.before.before.before.before.if2.false, ← c.before.before.before.before.before.before.before.before.before.before.before.before.field2.ensures, ← c.before.before.before.before.before.before.before.before.before.before.before.field3.ensures, ← c.before.before.before.before.before.before.before.before.before.before.field4.ensures, ← c.before.before.before.before.before.before.before.before.before.field5.ensures, ← c.before.before.before.before.before.before.before.before.are-listed.ensures, c.before.before.before.before.before.before.before.if3.true, depth_is (read_depth c.before.before.before.before.before.before.before.before.before.before.field4.result) (sym c.before.before.before.before.read.given.1 ∙ c.before.before.before.before.before.before.read-depth.ensures), c.number-in4.ensures, c.before.number-in3.ensures, c.before.before.number-in2.ensures, c.before.before.before.before.before.before.before.before.before.before.before.before.before.before.before.before.number_in.ensures))
-    (λ c. rw (← c.before.before.before.before.before.before.before.before.before.before.before.before.before.before.before.before.field.ensures, ← c.before.before.before.before.before.before.before.before.before.before.before.before.before.before.before.holds.ensures, c.before.before.before.before.before.before.before.before.before.before.before.before.before.before.if1.true, ← c.before.before.before.before.before.before.before.before.before.before.before.has-pattern.ensures, c.before.before.before.before.before.before.before.before.before.before.if2.false, ← c.before.before.before.before.before.before.before.before.before.field2.ensures, ← c.before.before.before.before.before.before.before.before.field3.ensures, ← c.before.before.before.before.before.before.before.field4.ensures, ← c.before.before.before.before.before.before.field5.ensures, ← c.before.before.before.before.before.are-listed.ensures, c.before.before.before.before.if3.true, depth_is (read_depth c.before.before.before.before.before.before.before.field4.result) (sym c.before.read2.given.1 ∙ c.before.before.before.read-depth.ensures)))
-    (λ c. rw (← c.before.before.before.before.before.before.before.before.before.before.before.before.field.ensures, ← c.before.before.before.before.before.before.before.before.before.before.before.holds.ensures, c.before.before.before.before.before.before.before.before.before.before.if1.true, ← c.before.before.before.before.before.before.before.has-pattern.ensures, c.before.before.before.before.before.before.if2.false, ← c.before.before.before.before.before.field2.ensures, ← c.before.before.before.before.field3.ensures, ← c.before.before.before.field4.ensures, ← c.before.before.field5.ensures, ← c.before.are-listed.ensures, c.if3.false))
-    (λ c. rw (← c.before.before.field.ensures, ← c.before.holds.ensures, c.if1.false)))
+    (λ c. rw (← c.field-runway.ensures, ← c.holds.ensures, c.if-holds.true, ← c.has_pattern.ensures, c.if-has_pattern.false, ← c.field-deposit.ensures, ← c.field-extent.ensures, ← c.field-depth.ensures, ← c.field-braking.ensures, ← c.are_listed.ensures, c.if-are_listed.true, depth_is (read_depth c.field-depth.result) (sym c.in-Good.is ∙ c.read_depth-read.ensures), c.number_in-in-Good-2.ensures, c.number_in-in-Good.ensures, c.number_in.ensures, c.number_in-runway.ensures))
+    (λ c. rw (← c.field-runway.ensures, ← c.holds.ensures, c.if-holds.true, ← c.has_pattern.ensures, c.if-has_pattern.false, ← c.field-deposit.ensures, ← c.field-extent.ensures, ← c.field-depth.ensures, ← c.field-braking.ensures, ← c.are_listed.ensures, c.if-are_listed.true, depth_is (read_depth c.field-depth.result) (sym c.in-Bad.is ∙ c.read_depth-read.ensures)))
+    (λ c. rw (← c.field-runway.ensures, ← c.holds.ensures, c.if-holds.true, ← c.has_pattern.ensures, c.if-has_pattern.false, ← c.field-deposit.ensures, ← c.field-extent.ensures, ← c.field-depth.ensures, ← c.field-braking.ensures, ← c.are_listed.ensures, c.if-are_listed.false))
+    (λ c. rw (← c.field-runway.ensures, ← c.holds.ensures, c.if-holds.false)))

@@ -10,5 +10,5 @@ depth_field_spec =
     (tie.spec
     (λ c. search rules) (λ c. search rules) (λ c. search rules) (λ c κs. search rules) (λ c. search rules) (λ c. search rules)
     (λ c. search rules) (λ c. search rules)
-    (λ c. rw (c.before.before.before.before.before.depth.given.1, ← c.before.before.before.depth-figure.ensures, c.before.f.given.1))
-    (λ c. rw (c.before.before.before.before.depth.given.1, ← c.before.before.depth-figure.ensures, c.enum-told3.given.1)))
+    (λ c. rw (c.in-Millimetres.is, ← c.depth_figure-f.ensures, c.in-Is.is))
+    (λ c. rw (c.in-Millimetres.is, ← c.depth_figure-f.ensures, c.in-OutOfRange.is)))

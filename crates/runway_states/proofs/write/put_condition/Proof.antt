@@ -9,10 +9,10 @@ pub put_condition_spec : {M : Type 1} → statement M
 put_condition_spec =
     tie.close
     (tie.spec
-    (λ c. search rules) (λ c. search rules) (λ c κs. tt) (λ c. search rules) (λ c κs. tt) (λ c κs. search rules) (λ c κs. tt) (λ c κs. search rules) (λ c κs. tt) (λ c κs. search rules) (λ c κs. tt)
+    (λ c. search rules) (λ c κs. tt) (λ c. search rules) (λ c κs. tt) (λ c κs. search rules) (λ c κs. tt) (λ c κs. search rules) (λ c κs. tt) (λ c κs. search rules) (λ c κs. tt)
     (λ c. search rules)
-    (λ c. rw c.before.before.before.before.before.enum_told.given.1 c.before.before.put-text.ensures)
+    (λ c. rw c.in-Cleared.is c.put_text.ensures)
     (λ c. search rules)
     (λ c.
-    rw (c.before.before.before.before.before.before.before.before.before.before.before.before.before.before.before.before.before.before.before.before.c.given.1, ← c.before.before.before.before.before.before.before.before.before.before.before.before.before.before.before.before.before.field_of.ensures, ← c.before.before.before.before.before.before.before.before.before.before.before.before.field-of2.ensures, ← c.before.before.before.before.before.before.before.depth-field.ensures)
-    (then (then (then c.before.before.before.before.before.before.before.before.before.before.before.before.before.before.before.before.put-field.ensures c.before.before.before.before.before.before.before.before.before.before.before.put-field2.ensures) c.before.before.before.before.before.before.put-field3.ensures) c.before.before.put_two.ensures)))
+    rw (c.in-Covered.is, ← c.field_of.ensures, ← c.field_of-in-Covered.ensures, ← c.depth_field.ensures)
+    (then (then (then c.put_field-lain.ensures c.put_field-covered.ensures) c.put_field-deep.ensures) c.put_two.ensures)))

@@ -16,14 +16,14 @@ use Rattle.runway_states.specs.State.{show_state}
 use Rattle.runway_states.proofs.write.put_each.Statement.{statement}
 use Rattle.runway_states.proofs.write.put_each.Tie as tie
 
-abbrev Inv : tie.invariant-loop
+abbrev Inv : tie.invariant-loop-i
 Inv out₀ at count items end next₀ i₀ out next i = (i ≤ end) × (end ≡ min count 4) × Put out₀ at (written at (map show_state (take i items))) next out
 
-abbrev μ : tie.decreases-loop
+abbrev μ : tie.decreases-loop-i
 μ out₀ at count items end next₀ i₀ out next i = end - i
 
 -- there are four slots
-four : (c : tie.Start Inv μ) → length c.args.t3 ≡ 4
+four : (c : tie.Start Inv μ) → length c.args.items ≡ 4
 four c = search rules
 
 pub put_each_spec : {M : Type 1} → statement M
@@ -31,14 +31,14 @@ put_each_spec =
     tie.close
     (tie.spec Inv μ
     (λ c κs. tt)
-    (λ c. (omega arith, c.at-most-four.ensures, unfold written in put-none _ _))
+    (λ c. (omega arith, c.at_most_four-end.ensures, unfold written in put-none _ _))
     (λ c. search rules) (λ c. search rules) (λ c κs. search rules) (λ c. search rules) (λ c. search rules)
     (λ c. (
       omega arith,
-      c.before.before.before.before.before.before.before.at-most-four.ensures,
-      one_more (λ (w : RunwayState). show_state w ∷ []) (map show_state) refl (λ w ws. refl) c.before.before.before.before.before.before.before.before.before.args.t3 c.before.before.before.before.before.before.loop.i _ (omega (arith, four c.before.before.before.before.before.before.before.before.before)) c.before.before.before.before.before.before.loop.invariant.2 c.before.before.put-state.ensures,
+      c.at_most_four-end.ensures,
+      one_more (λ (w : RunwayState). show_state w ∷ []) (map show_state) refl (λ w ws. refl) c.args.items c.loop-i.i _ (omega (arith, four c.before.before.before.before.before.before.before.before.before)) c.loop-i.invariant.2 c.put_state-next.ensures,
     ))
-    (λ c. length-put c.before.loop.invariant.2)
+    (λ c. length-put c.loop-i.invariant.2)
     (λ c.
-    let all : c.before.loop.i ≡ min c.before.before.before.before.args.count 4 = omega arith in
-    rw (all, take-most 4 c.before.before.before.before.args.t3 c.before.before.before.before.args.count (four c.before.before.before.before)) at c.before.loop.invariant.2))
+    let all : c.loop-i.i ≡ min c.args.count 4 = omega arith in
+    rw (all, take-most 4 c.args.items c.args.count (four c.before.before.before.before)) at c.loop-i.invariant.2))

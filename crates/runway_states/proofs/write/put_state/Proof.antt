@@ -12,4 +12,4 @@ put_state_spec =
     tie.close
     (tie.spec
     (λ c κs. tt) (λ c κs. tt) (λ c κs. tt) (λ c. search rules)
-    (λ c. unfold show_state in write-group c.before.before.before.before.before.before.before.before.before.before.open-group.ensures (then c.before.before.before.before.before.before.put_two.ensures c.before.before.put-condition.ensures)))
+    (λ c. unfold show_state in write-group c.open_group-opened.ensures (then c.put_two-named.ensures c.put_condition.ensures)))

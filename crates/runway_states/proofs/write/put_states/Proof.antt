@@ -10,5 +10,5 @@ pub put_states_spec : {M : Type 1} → statement M
 put_states_spec =
     tie.close
     (tie.spec
-    (λ c κs. search rules) (λ c. search rules) (λ c κs. tt) (λ c. search rules)
-    (λ c. unfold show_states in write-groups _ _ c.before.before.before.before.before.before.before.put-each.ensures c.before.before.put_if.ensures))
+    (λ c κs. search rules) (λ c κs. tt) (λ c. search rules)
+    (λ c. unfold show_states in write-groups _ _ c.put_each-told.ensures c.put_if.ensures))

@@ -28,14 +28,14 @@ degrees_figure_spec =
     (tie.spec
     (λ c κs. search rules) (λ c κs. search rules) (λ c. search rules) (λ c. search rules)
     (λ c.
-    let f = c.before.before.before.before.ranges.tenths in
-    below-zero _ _ (size f c.before.before.before.magnitude.ensures) (sign f c.before.before.is_negative.ensures c.before.if1.true) (omega arith))
+    let f = c.ranges.tenths in
+    below-zero _ _ (size f c.magnitude-m.ensures) (sign f c.is_negative.ensures c.if-is_negative.true) (omega arith))
     (λ c.
-    let f = c.before.before.before.before.ranges.tenths in
-    too-cold _ _ (size f c.before.before.before.magnitude.ensures) (sign f c.before.before.is_negative.ensures c.before.if1.true) c.if2.false)
+    let f = c.ranges.tenths in
+    too-cold _ _ (size f c.magnitude-m.ensures) (sign f c.is_negative.ensures c.if-is_negative.true) c.if-m-le995.false)
     (λ c.
-    let f = c.before.before.before.before.ranges.tenths in
-    from_zero _ _ (size f c.before.before.before.magnitude.ensures) (sign f c.before.before.is_negative.ensures c.before.if1.false) (omega arith))
+    let f = c.ranges.tenths in
+    from_zero _ _ (size f c.magnitude-m.ensures) (sign f c.is_negative.ensures c.if-is_negative.false) (omega arith))
     (λ c.
-    let f = c.before.before.before.before.ranges.tenths in
-    too-hot _ _ (size f c.before.before.before.magnitude.ensures) (sign f c.before.before.is_negative.ensures c.before.if1.false) c.if3.false))
+    let f = c.ranges.tenths in
+    too-hot _ _ (size f c.magnitude-m.ensures) (sign f c.is_negative.ensures c.if-is_negative.false) c.if-m-le994.false))

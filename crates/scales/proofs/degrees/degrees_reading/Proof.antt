@@ -13,5 +13,5 @@ degrees_reading_spec =
     (tie.spec
     (λ c κs. search rules) (λ c. search rules) (λ c κs. search rules)
     (λ c. too-great _ _ (omega arith))
-    (λ c. c.tenths-of.ensures ∙ minus-zero _ _ (omega arith) c.before.if2.true)
-    (λ c. c.tenths-of2.ensures ∙ whole-read _ _ (omega arith) c.before.if2.false))
+    (λ c. c.tenths_of.ensures ∙ minus-zero _ _ (omega arith) c.if-minus-whole.true)
+    (λ c. c.tenths_of-else-minus-whole.ensures ∙ whole-read _ _ (omega arith) c.if-minus-whole.false))

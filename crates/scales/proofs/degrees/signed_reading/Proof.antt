@@ -13,7 +13,7 @@ signed_reading_spec =
     (tie.spec
     (λ c κs. search rules) (λ c κs. search rules)
     (λ c. many-figures _ _ (omega arith))
-    (λ c. c.tenths-of.ensures ∙ plus-read _ _ c.before.if2.true (omega arith))
-    (λ c. minus-none _ _ c.before.if3.true c.if4.true)
-    (λ c. c.tenths-of2.ensures ∙ minus-read _ _ c.before.before.if3.true c.before.if4.false (omega arith))
-    (λ c. no_sign _ _ c.before.if2.false c.if3.false))
+    (λ c. c.tenths_of.ensures ∙ plus-read _ _ c.if-sign-eq0.true (omega arith))
+    (λ c. minus-none _ _ c.if-sign-eq1.true c.if-figures-eq0.true)
+    (λ c. c.tenths_of-else-figures-eq0.ensures ∙ minus-read _ _ c.if-sign-eq1.true c.if-figures-eq0.false (omega arith))
+    (λ c. no_sign _ _ c.if-sign-eq0.false c.if-sign-eq1.false))

@@ -35,5 +35,5 @@ tenths_of_spec =
     tie.close
     (tie.spec
     (λ c κs. search rules) (λ c. search rules) (λ c. search rules)
-    (λ c. is _ _ c.before.before.before.before.requires c.before.before.before.Signed-of.ensures _ c.before.t.given.1)
-    (λ c. never _ _ c.before.before.before.requires c.before.before.Signed-of.ensures c.enum_told.given.1))
+    (λ c. is _ _ c.requires c.signed_of.ensures _ c.in-Is.is)
+    (λ c. never _ _ c.requires c.signed_of.ensures c.in-TooLarge.is))

@@ -16,4 +16,4 @@ direction_figure_spec =
     (λ c κs. search rules)
     (λ c. none_written _ (omega arith))
     (λ c. north-written _ (omega arith))
-    (λ c. ap figure.Is c.tens-of.ensures.0 ∙ tens-written _ (omega arith) (omega arith)))
+    (λ c. ap figure.Is c.tens_of.ensures.0 ∙ tens-written _ (omega arith) (omega arith)))

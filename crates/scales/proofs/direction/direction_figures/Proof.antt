@@ -9,8 +9,8 @@ use Rattle.scales.proofs.DirectionLaws.{figure-most, two-figures}
 use Rattle.scales.proofs.direction.direction_figures.Statement.{statement}
 use Rattle.scales.proofs.direction.direction_figures.Tie as tie
 
-most : (c : tie.After-known-told) → c.before.f.given.0.0 ≤ 36
-most c = figure-most _ _ (sym c.before.before.before.direction-figure.ensures ∙ c.before.f.given.1)
+most : (c : tie.In-Is) → c.in-Is.figure ≤ 36
+most c = figure-most _ _ (sym c.direction_figure-f.ensures ∙ c.in-Is.is)
 
 pub direction_figures_spec : {M : Type 1} → statement M
 unfolding field_text
@@ -25,7 +25,7 @@ direction_figures_spec =
     (λ c. search rules)
     (λ c.
     let known = c.before.before.before in
-    let tens = c.before.before.tens-of.ensures in
-    rw (← known.before.before.before.direction-figure.ensures, known.before.f.given.1, c.before.figure-byte.ensures, c.figure-byte2.ensures, tens.0, tens.1)
+    let tens = c.tens_of-tens.ensures in
+    rw (← known.direction_figure-f.ensures, known.in-Is.is, c.figure_byte.ensures, c.figure_byte-in-Is.ensures, tens.0, tens.1)
     (two-figures _ (omega (arith, most known))))
-    (λ c. rw (← c.before.before.direction-figure.ensures, c.enum_told.given.1) refl))
+    (λ c. rw (← c.direction_figure-f.ensures, c.in-OutOfRange.is) refl))

@@ -12,6 +12,6 @@ direction_reading_spec =
     tie.close
     (tie.spec
     (λ c. search rules)
-    (λ c. none_read _ (inl c.if1.true))
+    (λ c. none_read _ (inl c.if-tens-eq0.true))
     (λ c. read _ (omega arith) (omega arith))
     (λ c. none_read _ (inr (omega arith))))

@@ -25,7 +25,7 @@ bands_figure_spec =
     (tie.spec
     (λ c κs. search rules)
     (λ c. search rules)
-    (λ c. omega (arith, low _ (sym c.before.before.before.base-figure.ensures ∙ c.before.base.given.1)))
+    (λ c. omega (arith, low _ (sym c.base_figure-base.ensures ∙ c.in-Is.is)))
     (λ c. search rules)
-    (λ c. figure-bands _ (sym c.before.before.before.base-figure.ensures ∙ c.before.base.given.1))
-    (λ c. out-bands _ (sym c.before.before.base-figure.ensures ∙ c.enum_told.given.1)))
+    (λ c. figure-bands _ (sym c.base_figure-base.ensures ∙ c.in-Is.is))
+    (λ c. out-bands _ (sym c.base_figure-base.ensures ∙ c.in-OutOfRange.is)))

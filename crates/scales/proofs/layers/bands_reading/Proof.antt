@@ -13,4 +13,4 @@ bands_reading_spec =
     (tie.spec
     (λ c κs. search rules)
     (λ c. unused-bands _ (omega arith))
-    (λ c. c.base-reading.ensures ∙ read-bands _ (omega arith)))
+    (λ c. c.base_reading.ensures ∙ read-bands _ (omega arith)))

@@ -17,5 +17,5 @@ steps_reading_spec =
     (λ c. unused-reading _ 30 (omega arith) (λ l m. omega arith))
     (λ c. by-ten-reading _ 30 (omega arith) (omega arith))
     (λ c. by-fifty-reading _ 30 (omega arith) (omega arith))
-    (λ c. over-reading _ 30 c.if5.true)
+    (λ c. over-reading _ 30 c.if-figure-eq89.true)
     (λ c. unused-reading _ 30 (omega arith) (λ l m. omega arith)))

@@ -50,7 +50,7 @@ cloud_reading_spec =
     (tie.spec
     (λ c. search rules) (λ c. search rules)
     (λ c. by-30 _ (omega arith))
-    (λ c. by-300 _ (omega arith) (omega arith) c.if3.true)
-    (λ c. unused _ (omega arith) (λ e. omega arith) (inl c.if3.false))
-    (λ c. over _ c.if4.true)
-    (λ c. unused _ (omega arith) c.if4.false (inr (omega arith))))
+    (λ c. by-300 _ (omega arith) (omega arith) c.if-figure-eq0.true)
+    (λ c. unused _ (omega arith) (λ e. omega arith) (inl c.if-figure-eq0.false))
+    (λ c. over _ c.if-figure-eq999.true)
+    (λ c. unused _ (omega arith) c.if-figure-eq999.false (inr (omega arith))))

@@ -67,6 +67,6 @@ exact_reading_spec =
     (λ c κs. search rules) (λ c κs. search rules) (λ c κs. search rules)
     (λ c. unused _ (inl (omega arith)))
     (λ c. c.multiple.ensures ∙ by-25 _ (omega arith) (omega arith))
-    (λ c. c.multiple2.ensures ∙ by-50 _ (omega arith) (omega arith))
-    (λ c. c.multiple3.ensures ∙ by-100 _ (omega arith) (omega arith))
+    (λ c. c.multiple-then-figure-lt800.ensures ∙ by-50 _ (omega arith) (omega arith))
+    (λ c. c.multiple-then-figure-le2000.ensures ∙ by-100 _ (omega arith) (omega arith))
     (λ c. unused _ (inr (omega arith))))

@@ -17,5 +17,5 @@ land_reading_spec =
     (λ c. unused-reading _ 100 (omega arith) (λ l m. omega arith))
     (λ c. by-ten-reading _ 100 (omega arith) (omega arith))
     (λ c. by-fifty-reading _ 100 (omega arith) (omega arith))
-    (λ c. over-reading _ 100 c.if5.true)
+    (λ c. over-reading _ 100 c.if-figure-eq89.true)
     (λ c. unused-reading _ 100 (omega arith) (λ l m. omega arith)))

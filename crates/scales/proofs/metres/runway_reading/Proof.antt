@@ -33,8 +33,8 @@ runway_reading_spec =
     tie.close
     (tie.spec
     (λ c. search rules) (λ c. search rules) (λ c κs. search rules) (λ c. search rules)
-    (λ c. rw c.before.before.range.given.1 (below _ c.if1.true))
-    (λ c. rw c.before.before.range.given.1 (not-below _ c.if1.false))
-    (λ c. rw c.before.before.range2.given.1 c.exact-reading.ensures)
-    (λ c. rw c.before.before.range3.given.1 (above _ c.if2.true))
-    (λ c. rw c.before.before.range3.given.1 (not-above _ c.if2.false)))
+    (λ c. rw c.in-Below.is (below _ c.if-figure-eq50.true))
+    (λ c. rw c.in-Below.is (not-below _ c.if-figure-eq50.false))
+    (λ c. rw c.in-Exact.is c.exact_reading.ensures)
+    (λ c. rw c.in-Above.is (above _ c.if-figure-eq2000.true))
+    (λ c. rw c.in-Above.is (not-above _ c.if-figure-eq2000.false)))

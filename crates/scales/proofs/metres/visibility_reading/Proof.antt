@@ -70,7 +70,7 @@ visibility_reading_spec =
     (tie.spec
     (λ c κs. search rules) (λ c κs. search rules) (λ c κs. search rules)
     (λ c. c.multiple.ensures ∙ by-50 _ (omega arith))
-    (λ c. c.multiple2.ensures ∙ by-100 _ (omega arith) (omega arith))
-    (λ c. c.multiple3.ensures ∙ by-1000 _ (omega arith) (omega arith))
-    (λ c. over _ c.if4.true)
-    (λ c. unused _ (omega arith) c.if4.false))
+    (λ c. c.multiple-then-figure-lt5000.ensures ∙ by-100 _ (omega arith) (omega arith))
+    (λ c. c.multiple-then-figure-le9000.ensures ∙ by-1000 _ (omega arith) (omega arith))
+    (λ c. over _ c.if-figure-eq9999.true)
+    (λ c. unused _ (omega arith) c.if-figure-eq9999.false))

@@ -12,9 +12,9 @@ rain_figure_spec =
     tie.close
     (tie.spec
     (λ c. search rules) (λ c. search rules) (λ c. search rules) (λ c. search rules)
-    (λ c. rw c.enum_told.given.1 trace-written)
-    (λ c. rw c.before.before.rain.given.1 (none_written _ (inl c.if1.true)))
-    (λ c. rw c.before.before.before.rain.given.1 (tenths-written _ (omega arith) (omega arith)))
-    (λ c. rw c.before.before.before.before.rain.given.1 (whole-written _ (omega arith) (omega arith)))
-    (λ c. rw c.before.before.before.before.before.rain.given.1 (most-written _ (omega arith) (omega arith)))
-    (λ c. rw c.before.before.before.before.before.rain.given.1 (none_written _ (inr (omega arith)))))
+    (λ c. rw c.in-Trace.is trace-written)
+    (λ c. rw c.in-Tenths.is (none_written _ (inl c.if-tenths-eq0.true)))
+    (λ c. rw c.in-Tenths.is (tenths-written _ (omega arith) (omega arith)))
+    (λ c. rw c.in-Tenths.is (whole-written _ (omega arith) (omega arith)))
+    (λ c. rw c.in-Tenths.is (most-written _ (omega arith) (omega arith)))
+    (λ c. rw c.in-Tenths.is (none_written _ (inr (omega arith)))))

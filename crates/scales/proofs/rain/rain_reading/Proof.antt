@@ -12,8 +12,8 @@ rain_reading_spec =
     tie.close
     (tie.spec
     (λ c. search rules) (λ c. search rules)
-    (λ c. none_read _ (inl c.if1.true))
+    (λ c. none_read _ (inl c.if-figure-eq0.true))
     (λ c. whole-read _ (omega arith) (omega arith))
-    (λ c. trace-read _ c.if3.true)
+    (λ c. trace-read _ c.if-figure-eq990.true)
     (λ c. tenths-read _ (omega arith) (omega arith))
     (λ c. none_read _ (inr (omega arith))))

@@ -12,7 +12,7 @@ bands_foot_spec =
     tie.close
     (tie.spec
     (λ c κs. search rules) (λ c. search rules) (λ c. search rules)
-    (λ c. open-bands _ (sym c.before.before.bands-figure.ensures ∙ c.enum_told.given.1))
+    (λ c. open-bands _ (sym c.bands_figure.ensures ∙ c.in_default.is))
     (λ c κs. search rules) (λ c. search rules) (λ c. search rules)
-    (λ c. absurd (always-told bands-laws _ c.before.before.before.before.before.before.bands-figure.ensures c.before.before.before.before.figure.given.1 c.before.before.bands-reading.ensures c.enum-told2.given.1))
-    (λ c. foot-told bands-laws _ c.before.before.before.before.before.before.before.bands-figure.ensures c.before.before.before.before.before.figure.given.1 c.before.before.before.bands-reading.ensures c.before.foot.given.1))
+    (λ c. absurd (always-told bands-laws _ c.bands_figure.ensures c.in-Is.is c.bands_reading.ensures c.in_default-bands_reading.is))
+    (λ c. foot-told bands-laws _ c.bands_figure.ensures c.in-Is.is c.bands_reading.ensures c.in-Is-bands_reading.is))

@@ -10,5 +10,5 @@ class_height_spec =
     (tie.spec
     (λ c. search rules) (λ c. search rules) (λ c κs. search rules) (λ c. search rules) (λ c κs. search rules)
     (λ c. search rules)
-    (λ c. rw (c.before.before.height.given.1, c.steps-foot.ensures))
-    (λ c. rw (c.before.before.height2.given.1, c.bands-foot.ensures)))
+    (λ c. rw (c.in-Steps.is, c.steps_foot.ensures))
+    (λ c. rw (c.in-Bands.is, c.bands_foot.ensures)))

@@ -10,6 +10,6 @@ not_above_spec =
     (tie.spec
     (λ c. search rules) (λ c. search rules) (λ c. search rules) (λ c. search rules) (λ c. search rules) (λ c. search rules) (λ c. search rules) (λ c. search rules) (λ c. search rules)
     (λ c. search rules) (λ c. search rules)
-    (λ c. rw (c.before.second.given.1, c.before.before.before.before.first.given.1))
+    (λ c. rw (c.in-Steps-second.is, c.in-Steps.is))
     (λ c. search rules) (λ c. search rules) (λ c. search rules)
-    (λ c. rw (c.before.second2.given.1, c.before.before.before.before.first2.given.1)))
+    (λ c. rw (c.in-Bands-second-2.is, c.in-Bands.is)))

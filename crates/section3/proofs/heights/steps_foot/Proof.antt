@@ -12,7 +12,7 @@ steps_foot_spec =
     tie.close
     (tie.spec
     (λ c κs. search rules) (λ c. search rules) (λ c. search rules)
-    (λ c. open-steps _ (sym c.before.before.steps-figure.ensures ∙ c.enum_told.given.1))
+    (λ c. open-steps _ (sym c.steps_figure.ensures ∙ c.in_default.is))
     (λ c κs. search rules) (λ c. search rules) (λ c. search rules)
-    (λ c. absurd (always-told steps-laws _ c.before.before.before.before.before.before.steps-figure.ensures c.before.before.before.before.figure.given.1 c.before.before.steps-reading.ensures c.enum-told2.given.1))
-    (λ c. foot-told steps-laws _ c.before.before.before.before.before.before.before.steps-figure.ensures c.before.before.before.before.before.figure.given.1 c.before.before.before.steps-reading.ensures c.before.foot.given.1))
+    (λ c. absurd (always-told steps-laws _ c.steps_figure.ensures c.in-Is.is c.steps_reading.ensures c.in_default-steps_reading.is))
+    (λ c. foot-told steps-laws _ c.steps_figure.ensures c.in-Is.is c.steps_reading.ensures c.in-Is-steps_reading.is))

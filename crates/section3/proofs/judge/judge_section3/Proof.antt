@@ -9,4 +9,4 @@ judge_section3_spec =
     tie.close
     (tie.spec
     (λ c κs. tt) (λ c κs. tt) (λ c κs. tt) (λ c κs. tt) (λ c κs. tt)
-    (λ c. unfold judge_section3 in rw (c.and-then2.ensures, c.before.judge-air2.ensures, c.before.before.and_then.ensures, c.before.before.before.judge-layers.ensures, c.before.before.before.before.judge-air.ensures)))
+    (λ c. unfold judge_section3 in rw (c.and_then.ensures, c.judge_air-2.ensures, c.and_then-lower.ensures, c.judge_layers.ensures, c.judge_air.ensures)))

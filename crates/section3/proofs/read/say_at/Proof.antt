@@ -15,7 +15,7 @@ say_at_spec =
     tie.close
     (tie.spec
     (λ c κs. search rules) (λ c κs. search rules) (λ c κs. search rules) (λ c κs. search rules) (λ c κs. search rules)
-    (λ c. let a = c.before.before.before.before.args in says_at 0 a.g.now a.layers c.before.before.match.keys1 (rw c.before.read-air.ensures at c.told-by.ensures) (λ k s is. unfold row in refl))
-    (λ c. let a = c.before.before.before.before.args in says_at 1 a.g.now a.layers c.before.before.match.keys2 (rw c.before.read-minimum.ensures at c.told-by2.ensures) (λ k s is. unfold row in refl))
-    (λ c. let a = c.before.before.before.args in says_at 2 a.g.now a.layers c.before.match.keys3 c.say-layer.ensures (λ k s is. unfold row in ap (λ (x : CloudLayers). with_told (layer_at x a.g.now) s) is))
-    (λ c. let a = c.before.before.args in says_nothing a.place a.g.now a.layers (beyond 0 3 a.place zero-le c.match.rest)))
+    (λ c. let a = c.args in says_at 0 a.g.now a.layers c.in-0.is (rw c.read_air.ensures at c.told_by.ensures) (λ k s is. unfold row in refl))
+    (λ c. let a = c.args in says_at 1 a.g.now a.layers c.in-1.is (rw c.read_minimum.ensures at c.told_by-in-1.ensures) (λ k s is. unfold row in refl))
+    (λ c. let a = c.args in says_at 2 a.g.now a.layers c.in-2.is c.say_layer.ensures (λ k s is. unfold row in ap (λ (x : CloudLayers). with_told (layer_at x a.g.now) s) is))
+    (λ c. let a = c.args in says_nothing a.place a.g.now a.layers (beyond 0 3 a.place zero-le c.in_default.in_default-own.rest)))

@@ -11,10 +11,10 @@ pub say_layer_spec : {M : Type 1} → statement M
 say_layer_spec =
     tie.close
     (tie.spec
-    (λ c. search rules) (λ c κs. search rules)
-    (λ c. layer-none _ _ (sym c.before.has-pattern.ensures ∙ c.if1.true))
-    (λ c. layer-fifth c.before.before.before.before.before.args.layers _ (sym c.before.before.has-pattern.ensures ∙ c.before.if1.false) (omega (arith, c.if2.true)))
+    (λ c κs. search rules)
+    (λ c. layer-none _ _ (sym c.has_pattern.ensures ∙ c.if-has_pattern.true))
+    (λ c. layer-fifth c.args.layers _ (sym c.has_pattern.ensures ∙ c.if-has_pattern.false) (omega (arith, c.if-count-ge4.true)))
     (λ c κs. search rules) (λ c κs. search rules) (λ c. search rules) (λ c κs. search rules)
-    (λ c. layer-follows c.before.before.before.before.before.before.before.before.before.before.before.before.before.args.layers _ (sym c.before.before.before.before.before.before.before.before.before.before.has-pattern.ensures ∙ c.before.before.before.before.before.before.before.before.before.if1.false) (omega (arith, c.before.before.before.before.before.before.before.before.if2.false)) (rw c.before.before.before.before.before.before.read-layer.ensures at c.before.before.before.before.before.told-by.ensures) _ c.before.before.before.told.given.1 (sym c.before.may-follow.ensures ∙ c.if3.true))
-    (λ c. layer-falls c.before.before.before.before.before.before.before.before.before.before.before.before.before.args.layers _ (sym c.before.before.before.before.before.before.before.before.before.before.has-pattern.ensures ∙ c.before.before.before.before.before.before.before.before.before.if1.false) (omega (arith, c.before.before.before.before.before.before.before.before.if2.false)) (rw c.before.before.before.before.before.before.read-layer.ensures at c.before.before.before.before.before.told-by.ensures) _ c.before.before.before.told.given.1 (sym c.before.may-follow.ensures ∙ c.if3.false))
-    (λ c. layer-other c.before.before.before.before.before.before.before.before.before.args.layers _ (sym c.before.before.before.before.before.before.has-pattern.ensures ∙ c.before.before.before.before.before.if1.false) (omega (arith, c.before.before.before.before.if2.false)) (rw c.before.before.read-layer.ensures at c.before.told-by.ensures) c.match.keys2))
+    (λ c. layer-follows c.args.layers _ (sym c.has_pattern.ensures ∙ c.if-has_pattern.false) (omega (arith, c.if-count-ge4.false)) (rw c.read_layer.ensures at c.told_by-told.ensures) _ c.in-Layer.is (sym c.may_follow.ensures ∙ c.if-may_follow.true))
+    (λ c. layer-falls c.args.layers _ (sym c.has_pattern.ensures ∙ c.if-has_pattern.false) (omega (arith, c.if-count-ge4.false)) (rw c.read_layer.ensures at c.told_by-told.ensures) _ c.in-Layer.is (sym c.may_follow.ensures ∙ c.if-may_follow.false))
+    (λ c. layer-other c.args.layers _ (sym c.has_pattern.ensures ∙ c.if-has_pattern.false) (omega (arith, c.if-count-ge4.false)) (rw c.read_layer.ensures at c.told_by-told.ensures) c.in_default.in_default-own.keys2))

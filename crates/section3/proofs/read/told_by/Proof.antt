@@ -43,8 +43,8 @@ told_by_spec =
     tie.close
     (tie.spec
     (λ c. search rules) (λ c. search rules) (λ c. search rules)
-    (λ c. rw c.before.said.given.1)
-    (λ c. rw (c.before.before.said2.given.1, c.if1.true))
-    (λ c. rw (c.before.before.said2.given.1, c.if1.false))
-    (λ c. rw c.before.said3.given.1)
-    (λ c. others c.before.args.lowest c.before.args.said c.match.keys4))
+    (λ c. rw c.in-Refused.is)
+    (λ c. rw (c.in-Air.is, c.if-lowest.true))
+    (λ c. rw (c.in-Air.is, c.if-lowest.false))
+    (λ c. rw c.in-Layer.is)
+    (λ c. others c.args.lowest c.args.said c.in_default.in_default-own.keys4))

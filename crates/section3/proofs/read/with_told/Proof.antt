@@ -10,6 +10,6 @@ with_told_spec =
     (tie.spec
     (λ c. search rules) (λ c. search rules) (λ c. search rules) (λ c. search rules) (λ c. search rules) (λ c κs. search rules)
     (λ c. search rules) (λ c. search rules)
-    (λ c. rw c.before.told.given.1)
-    (λ c. rw c.before.told2.given.1)
-    (λ c. rw (c.before.before.told3.given.1, c.add-layer.ensures)))
+    (λ c. rw c.in-Maximum.is)
+    (λ c. rw c.in-Minimum.is)
+    (λ c. rw (c.in-Layer.is, c.add_layer-layers.ensures)))

@@ -13,10 +13,10 @@ pub decide_spec : {M : Type 1} → statement M
 decide_spec =
     tie.close
     (tie.spec
-    (λ c. turn-past row halts _ _ _ (rw row-length c.if1.true))
+    (λ c. turn-past row halts _ _ _ (rw row-length c.if-place-ge3.true))
     (λ c κs. search rules)
-    (λ c. halts-word _ _ _ (omega (arith, c.before.before.if1.false)) (sym c.before.is-stop-word.ensures ∙ c.if2.true))
+    (λ c. halts-word _ _ _ (omega (arith, c.if-place-ge3.false)) (sym c.is_stop_word.ensures ∙ c.if-is_stop_word.true))
     (λ c κs. search rules)
-    (λ c. halts-none _ _ _ (omega (arith, c.before.before.before.before.if1.false)) (sym c.before.shape_of.ensures ∙ c.if3.true))
+    (λ c. halts-none _ _ _ (omega (arith, c.if-place-ge3.false)) (sym c.shape_of-shape.ensures ∙ c.if-shape-eq3.true))
     (λ c κs. search rules)
-    (λ c. goes _ _ _ (omega (arith, c.before.before.before.before.before.if1.false)) (sym c.before.before.before.before.is-stop-word.ensures ∙ c.before.before.before.if2.false) (λ e. c.before.if3.false (c.before.before.shape_of.ensures ∙ e)) (rw (← c.before.before.shape_of.ensures) c.turn-of.ensures)))
+    (λ c. goes _ _ _ (omega (arith, c.if-place-ge3.false)) (sym c.is_stop_word.ensures ∙ c.if-is_stop_word.false) (λ e. c.if-shape-eq3.false (c.shape_of-shape.ensures ∙ e)) (rw (← c.shape_of-shape.ensures) c.turn_of.ensures)))

@@ -8,9 +8,9 @@ pub turn_of_spec : {M : Type 1} → statement M
 turn_of_spec =
     tie.close
     (tie.spec
-    (λ c. rw (lt-ltb _ _ c.if1.true))
-    (λ c. rw (le-ltb _ _ c.before.if1.false, lt-ltb _ _ c.if2.true))
-    (λ c. rw (le-ltb _ _ c.before.before.before.if1.false, le-ltb _ _ c.before.before.if2.false, eq-eqb _ _ c.before.if3.true, lt-ltb _ _ c.if4.true))
-    (λ c. rw (le-ltb _ _ c.before.before.before.if1.false, le-ltb _ _ c.before.before.if2.false, eq-eqb _ _ c.before.if3.true, le-ltb _ _ c.if4.false))
-    (λ c. rw (le-ltb _ _ c.before.before.before.if1.false, le-ltb _ _ c.before.before.if2.false, ne_eqb _ _ c.before.if3.false, eq-eqb _ _ c.if5.true))
-    (λ c. rw (le-ltb _ _ c.before.before.before.if1.false, le-ltb _ _ c.before.before.if2.false, ne_eqb _ _ c.before.if3.false, ne_eqb _ _ c.if5.false)))
+    (λ c. rw (lt-ltb _ _ c.if-shape-place.true))
+    (λ c. rw (le-ltb _ _ c.if-shape-place.false, lt-ltb _ _ c.if-place-shape.true))
+    (λ c. rw (le-ltb _ _ c.if-shape-place.false, le-ltb _ _ c.if-place-shape.false, eq-eqb _ _ c.if-place-eq2.true, lt-ltb _ _ c.if-count-lt2048.true))
+    (λ c. rw (le-ltb _ _ c.if-shape-place.false, le-ltb _ _ c.if-place-shape.false, eq-eqb _ _ c.if-place-eq2.true, le-ltb _ _ c.if-count-lt2048.false))
+    (λ c. rw (le-ltb _ _ c.if-shape-place.false, le-ltb _ _ c.if-place-shape.false, ne_eqb _ _ c.if-place-eq2.false, eq-eqb _ _ c.if-count-eq0.true))
+    (λ c. rw (le-ltb _ _ c.if-shape-place.false, le-ltb _ _ c.if-place-shape.false, ne_eqb _ _ c.if-place-eq2.false, ne_eqb _ _ c.if-count-eq0.false)))

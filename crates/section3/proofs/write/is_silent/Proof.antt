@@ -4,4 +4,4 @@ use Rattle.section3.proofs.write.is_silent.Statement.{statement}
 use Rattle.section3.proofs.write.is_silent.Tie as tie
 
 pub is_silent_spec : {M : Type 1} → statement M
-is_silent_spec = tie.close (tie.spec (λ c κs. tt) (λ c κs. tt) (λ c. rw (c.is-missing2.ensures, c.before.is-missing.ensures)))
+is_silent_spec = tie.close (tie.spec (λ c κs. tt) (λ c κs. tt) (λ c. rw (c.is_missing-2.ensures, c.is_missing.ensures)))

@@ -14,10 +14,10 @@ pub put_section3_spec : {M : Type 1} → statement M
 put_section3_spec =
     tie.close
     (tie.spec
-    (λ c κs. search rules) (λ c. search rules) (λ c κs. search rules) (λ c κs. search rules) (λ c κs. search rules) (λ c κs. search rules) (λ c. search rules)
+    (λ c κs. search rules) (λ c κs. search rules) (λ c κs. search rules) (λ c κs. search rules) (λ c κs. search rules) (λ c. search rules)
     (λ c.
-    let s = c.before.before.before.before.before.before.before.before.before.before.before.before.before.before.before.before.before.before.before.before.before.before.before.args.s in
+    let s = c.args.s in
     unfold show_section3 row show_layers in
     rw (append-nil (map show_layer (take s.layers.count s.layers.items)))
-    (write-groups _ _ (rw c.before.before.before.before.before.before.before.before.before.before.before.before.before.before.before.before.is-silent.ensures at c.before.before.before.before.before.before.before.before.before.before.before.before.before.before.put_if.ensures)
-    (write-groups _ _ c.before.before.before.before.before.before.before.before.before.before.put-air.ensures (write-groups _ _ c.before.before.before.before.before.before.put-minimum.ensures c.before.before.put-layers.ensures)))))
+    (write-groups _ _ (rw c.is_silent.ensures at c.put_if-opened.ensures)
+    (write-groups _ _ c.put_air-highest.ensures (write-groups _ _ c.put_minimum-lowest.ensures c.put_layers.ensures)))))

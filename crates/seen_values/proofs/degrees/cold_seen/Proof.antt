@@ -12,8 +12,8 @@ cold_seen_spec =
     tie.close
     (tie.spec
     (λ c κs. search rules) (λ c κs. search rules) (λ c κs. search rules) (λ c. search rules) (λ c. search rules) (λ c κs. search rules) (λ c κs. search rules)
-    (λ c. c.spread.ensures ∙ at_zero _ _ _ _ c.before.if1.true)
-    (λ c. c.nothing.ensures ∙ near-zero _ _ _ _ c.before.before.if1.false (omega arith))
-    (λ c. c.nothing2.ensures ∙ too_far _ _ _ _ (omega arith) (omega arith))
-    (λ c. c.spread2.ensures ∙ whole-degree _ _ _ _ (omega arith) (omega arith) (omega arith) c.before.if4.true)
-    (λ c. c.nothing3.ensures ∙ no-degree _ _ _ _ (omega arith) (omega arith) (omega arith) c.before.if4.false))
+    (λ c. c.spread.ensures ∙ at_zero _ _ _ _ c.if-m-eq3.true)
+    (λ c. c.nothing.ensures ∙ near-zero _ _ _ _ c.if-m-eq3.false (omega arith))
+    (λ c. c.nothing-then-m-gt990.ensures ∙ too_far _ _ _ _ (omega arith) (omega arith))
+    (λ c. c.spread-then-m-eq0.ensures ∙ whole-degree _ _ _ _ (omega arith) (omega arith) (omega arith) c.if-m-eq0.true)
+    (λ c. c.nothing-else-m-eq0.ensures ∙ no-degree _ _ _ _ (omega arith) (omega arith) (omega arith) c.if-m-eq0.false))

@@ -13,8 +13,8 @@ degrees_seen_spec =
     (tie.spec
     (λ c κs. search rules) (λ c κs. search rules) (λ c κs. search rules) (λ c κs. search rules)
     (λ c.
-    c.cold-seen.ensures
-    ∙ below-zero (to_z-of_z c.before.before.before.before.ranges.tenths) c.before.before.before.magnitude.ensures c.before.before.is_negative.ensures c.before.if1.true)
+    c.cold_seen.ensures
+    ∙ below-zero (to_z-of_z c.ranges.tenths) c.magnitude-m.ensures c.is_negative.ensures c.if-is_negative.true)
     (λ c.
-    c.warm-seen.ensures
-    ∙ from_zero (to_z-of_z c.before.before.before.before.ranges.tenths) c.before.before.before.magnitude.ensures c.before.before.is_negative.ensures c.before.if1.false))
+    c.warm_seen.ensures
+    ∙ from_zero (to_z-of_z c.ranges.tenths) c.magnitude-m.ensures c.is_negative.ensures c.if-is_negative.false))

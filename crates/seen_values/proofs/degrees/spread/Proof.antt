@@ -9,4 +9,4 @@ spread_spec =
     tie.close
     (tie.spec
     (λ c κs. search rules) (λ c κs. search rules)
-    (λ c. rw (c.before.signed-reading.ensures, c.signed-reading2.ensures)))
+    (λ c. rw (c.signed_reading.ensures, c.signed_reading-2.ensures)))

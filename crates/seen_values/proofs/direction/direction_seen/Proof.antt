@@ -11,6 +11,6 @@ direction_seen_spec =
     tie.close
     (tie.spec
     (λ c. search rules) (λ c. search rules)
-    (λ c. direction-out _ c.if1.true)
-    (λ c. direction-tens _ (omega arith) c.if2.true)
-    (λ c. direction-part _ (omega arith) c.if2.false))
+    (λ c. direction-out _ c.if-degrees-gt359.true)
+    (λ c. direction-tens _ (omega arith) c.if-degrees-eq0.true)
+    (λ c. direction-part _ (omega arith) c.if-degrees-eq0.false))

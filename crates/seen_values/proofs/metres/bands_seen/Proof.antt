@@ -7,4 +7,4 @@ use Rattle.seen_values.proofs.metres.bands_seen.Statement.{statement}
 use Rattle.seen_values.proofs.metres.bands_seen.Tie as tie
 
 pub bands_seen_spec : {M : Type 1} → statement M
-bands_seen_spec = tie.close (tie.spec (λ c κs. search rules) (λ c. c.base-seen.ensures ∙ bands-seen _))
+bands_seen_spec = tie.close (tie.spec (λ c κs. search rules) (λ c. c.base_seen.ensures ∙ bands-seen _))

@@ -13,6 +13,6 @@ pub base_seen_spec : {M : Type 1} → statement M
 base_seen_spec =
     tie.close
     (tie.spec
-    (λ c. search rules) (λ c. search rules) (λ c κs. search rules) (λ c κs. search rules) (λ c. search rules) (λ c κs. search rules) (λ c κs. search rules) (λ c. search rules)
-    (λ c. c.if-foot.ensures ∙ by-figure base base-laws base-rounds _ _ base-follows _ c.before.before.before.before.before.base-figure.ensures c.before.before.before.figure.given.1 c.before.base-reading.ensures c.before.before.before.before.before.before.class-by.ensures)
-    (λ c. by-none base base-laws base-rounds _ _ base-follows _ c.before.before.base-figure.ensures c.enum_told.given.1))
+    (λ c κs. search rules) (λ c κs. search rules) (λ c. search rules) (λ c κs. search rules) (λ c κs. search rules) (λ c. search rules)
+    (λ c. c.if_foot.ensures ∙ by-figure base base-laws base-rounds _ _ base-follows _ c.base_figure.ensures c.in-Is.is c.base_reading.ensures c.class_by-class.ensures)
+    (λ c. by-none base base-laws base-rounds _ _ base-follows _ c.base_figure.ensures c.in-OutOfRange.is))

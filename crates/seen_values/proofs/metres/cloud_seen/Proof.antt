@@ -13,6 +13,6 @@ pub cloud_seen_spec : {M : Type 1} → statement M
 cloud_seen_spec =
     tie.close
     (tie.spec
-    (λ c. search rules) (λ c. search rules) (λ c κs. search rules) (λ c κs. search rules) (λ c. search rules) (λ c κs. search rules) (λ c κs. search rules) (λ c. search rules)
-    (λ c. c.if-foot.ensures ∙ by-figure cloud cloud-laws cloud-rounds _ _ cloud-follows _ c.before.before.before.before.before.cloud-figure.ensures c.before.before.before.figure.given.1 c.before.cloud-reading.ensures c.before.before.before.before.before.before.class-by.ensures)
-    (λ c. by-none cloud cloud-laws cloud-rounds _ _ cloud-follows _ c.before.before.cloud-figure.ensures c.enum_told.given.1))
+    (λ c κs. search rules) (λ c κs. search rules) (λ c. search rules) (λ c κs. search rules) (λ c κs. search rules) (λ c. search rules)
+    (λ c. c.if_foot.ensures ∙ by-figure cloud cloud-laws cloud-rounds _ _ cloud-follows _ c.cloud_figure.ensures c.in-Is.is c.cloud_reading.ensures c.class_by-class.ensures)
+    (λ c. by-none cloud cloud-laws cloud-rounds _ _ cloud-follows _ c.cloud_figure.ensures c.in-OutOfRange.is))

@@ -12,6 +12,6 @@ pub depth_seen_spec : {M : Type 1} → statement M
 depth_seen_spec =
     tie.close
     (tie.spec
-    (λ c. search rules) (λ c. search rules) (λ c κs. search rules) (λ c κs. search rules) (λ c. search rules) (λ c κs. search rules) (λ c κs. search rules) (λ c. search rules)
-    (λ c. c.if-foot.ensures ∙ by-figure depth depth-laws depth-rounds _ _ depth-follows _ c.before.before.before.before.before.depth-figure.ensures c.before.before.before.figure.given.1 c.before.depth-reading.ensures c.before.before.before.before.before.before.class-by.ensures)
-    (λ c. by-none depth depth-laws depth-rounds _ _ depth-follows _ c.before.before.depth-figure.ensures c.enum_told.given.1))
+    (λ c κs. search rules) (λ c κs. search rules) (λ c. search rules) (λ c κs. search rules) (λ c κs. search rules) (λ c. search rules)
+    (λ c. c.if_foot.ensures ∙ by-figure depth depth-laws depth-rounds _ _ depth-follows _ c.depth_figure.ensures c.in-Is.is c.depth_reading.ensures c.class_by-class.ensures)
+    (λ c. by-none depth depth-laws depth-rounds _ _ depth-follows _ c.depth_figure.ensures c.in-OutOfRange.is))

@@ -13,6 +13,6 @@ pub land_seen_spec : {M : Type 1} → statement M
 land_seen_spec =
     tie.close
     (tie.spec
-    (λ c. search rules) (λ c. search rules) (λ c κs. search rules) (λ c κs. search rules) (λ c. search rules) (λ c κs. search rules) (λ c κs. search rules) (λ c. search rules)
-    (λ c. c.if-foot.ensures ∙ by-figure land land-laws land-rounds _ _ land-follows _ c.before.before.before.before.before.land-figure.ensures c.before.before.before.figure.given.1 c.before.land-reading.ensures c.before.before.before.before.before.before.class-by.ensures)
-    (λ c. by-none land land-laws land-rounds _ _ land-follows _ c.before.before.land-figure.ensures c.enum_told.given.1))
+    (λ c κs. search rules) (λ c κs. search rules) (λ c. search rules) (λ c κs. search rules) (λ c κs. search rules) (λ c. search rules)
+    (λ c. c.if_foot.ensures ∙ by-figure land land-laws land-rounds _ _ land-follows _ c.land_figure.ensures c.in-Is.is c.land_reading.ensures c.class_by-class.ensures)
+    (λ c. by-none land land-laws land-rounds _ _ land-follows _ c.land_figure.ensures c.in-OutOfRange.is))

@@ -10,6 +10,6 @@ pub runway_seen_spec : {M : Type 1} → statement M
 runway_seen_spec =
     tie.close
     (tie.spec
-    (λ c. search rules) (λ c. search rules) (λ c κs. search rules) (λ c κs. search rules) (λ c. search rules) (λ c κs. search rules) (λ c κs. search rules) (λ c. search rules)
-    (λ c. c.if-foot.ensures ∙ by-range _ _ runway-follows _ c.before.before.before.before.before.runway-figure.ensures c.before.before.before.figure.given.1 c.before.runway-reading.ensures c.before.before.before.before.before.before.class-by.ensures)
-    (λ c. by-no-range _ _ runway-follows _ c.before.before.runway-figure.ensures c.enum_told.given.1))
+    (λ c κs. search rules) (λ c κs. search rules) (λ c. search rules) (λ c κs. search rules) (λ c κs. search rules) (λ c. search rules)
+    (λ c. c.if_foot.ensures ∙ by-range _ _ runway-follows _ c.runway_figure.ensures c.in-Is.is c.runway_reading.ensures c.class_by-class.ensures)
+    (λ c. by-no-range _ _ runway-follows _ c.runway_figure.ensures c.in-OutOfRange.is))

@@ -13,6 +13,6 @@ pub sea_seen_spec : {M : Type 1} → statement M
 sea_seen_spec =
     tie.close
     (tie.spec
-    (λ c. search rules) (λ c. search rules) (λ c κs. search rules) (λ c κs. search rules) (λ c. search rules) (λ c κs. search rules) (λ c κs. search rules) (λ c. search rules)
-    (λ c. c.if-foot.ensures ∙ by-figure sea sea-laws sea-rounds _ _ sea-follows _ c.before.before.before.before.before.sea-figure.ensures c.before.before.before.figure.given.1 c.before.sea-reading.ensures c.before.before.before.before.before.before.class-by.ensures)
-    (λ c. by-none sea sea-laws sea-rounds _ _ sea-follows _ c.before.before.sea-figure.ensures c.enum_told.given.1))
+    (λ c κs. search rules) (λ c κs. search rules) (λ c. search rules) (λ c κs. search rules) (λ c κs. search rules) (λ c. search rules)
+    (λ c. c.if_foot.ensures ∙ by-figure sea sea-laws sea-rounds _ _ sea-follows _ c.sea_figure.ensures c.in-Is.is c.sea_reading.ensures c.class_by-class.ensures)
+    (λ c. by-none sea sea-laws sea-rounds _ _ sea-follows _ c.sea_figure.ensures c.in-OutOfRange.is))

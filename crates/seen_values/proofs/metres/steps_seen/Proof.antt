@@ -12,6 +12,6 @@ pub steps_seen_spec : {M : Type 1} → statement M
 steps_seen_spec =
     tie.close
     (tie.spec
-    (λ c. search rules) (λ c. search rules) (λ c κs. search rules) (λ c κs. search rules) (λ c. search rules) (λ c κs. search rules) (λ c κs. search rules) (λ c. search rules)
-    (λ c. c.if-foot.ensures ∙ by-figure layer_steps steps-laws steps-rounds _ _ steps-follows _ c.before.before.before.before.before.steps-figure.ensures c.before.before.before.figure.given.1 c.before.steps-reading.ensures c.before.before.before.before.before.before.class-by.ensures)
-    (λ c. by-none layer_steps steps-laws steps-rounds _ _ steps-follows _ c.before.before.steps-figure.ensures c.enum_told.given.1))
+    (λ c κs. search rules) (λ c κs. search rules) (λ c. search rules) (λ c κs. search rules) (λ c κs. search rules) (λ c. search rules)
+    (λ c. c.if_foot.ensures ∙ by-figure layer_steps steps-laws steps-rounds _ _ steps-follows _ c.steps_figure.ensures c.in-Is.is c.steps_reading.ensures c.class_by-class.ensures)
+    (λ c. by-none layer_steps steps-laws steps-rounds _ _ steps-follows _ c.steps_figure.ensures c.in-OutOfRange.is))

@@ -13,6 +13,6 @@ pub visibility_seen_spec : {M : Type 1} → statement M
 visibility_seen_spec =
     tie.close
     (tie.spec
-    (λ c. search rules) (λ c. search rules) (λ c κs. search rules) (λ c κs. search rules) (λ c. search rules) (λ c κs. search rules) (λ c κs. search rules) (λ c. search rules)
-    (λ c. c.if-foot.ensures ∙ by-figure visibility visibility-laws visibility-rounds _ _ visibility-follows _ c.before.before.before.before.before.visibility-figure.ensures c.before.before.before.figure.given.1 c.before.visibility-reading.ensures c.before.before.before.before.before.before.class-by.ensures)
-    (λ c. by-none visibility visibility-laws visibility-rounds _ _ visibility-follows _ c.before.before.visibility-figure.ensures c.enum_told.given.1))
+    (λ c κs. search rules) (λ c κs. search rules) (λ c. search rules) (λ c κs. search rules) (λ c κs. search rules) (λ c. search rules)
+    (λ c. c.if_foot.ensures ∙ by-figure visibility visibility-laws visibility-rounds _ _ visibility-follows _ c.visibility_figure.ensures c.in-Is.is c.visibility_reading.ensures c.class_by-class.ensures)
+    (λ c. by-none visibility visibility-laws visibility-rounds _ _ visibility-follows _ c.visibility_figure.ensures c.in-OutOfRange.is))

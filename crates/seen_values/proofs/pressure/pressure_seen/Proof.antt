@@ -11,6 +11,6 @@ pressure_seen_spec =
     tie.close
     (tie.spec
     (λ c. search rules)
-    (λ c. pressure-far _ c.if1.true)
-    (λ c. pressure-whole _ (omega arith) c.if2.true)
-    (λ c. pressure-part _ (omega arith) c.if2.false))
+    (λ c. pressure-far _ c.if-tenths-gt99999.true)
+    (λ c. pressure-whole _ (omega arith) c.if-tenths-eq0.true)
+    (λ c. pressure-part _ (omega arith) c.if-tenths-eq0.false))

@@ -11,5 +11,5 @@ rain_seen_spec =
     tie.close
     (tie.spec
     (λ c. search rules) (λ c. search rules) (λ c κs. search rules)
-    (λ c. rw c.enum_told.given.1)
-    (λ c. rw (c.before.before.rain.given.1, c.tenths-seen.ensures)))
+    (λ c. rw c.in-Trace.is)
+    (λ c. rw (c.in-Tenths.is, c.tenths_seen.ensures)))

@@ -11,10 +11,10 @@ tenths_seen_spec =
     tie.close
     (tie.spec
     (λ c. search rules) (λ c. search rules)
-    (λ c. rain-zero _ c.if1.true)
+    (λ c. rain-zero _ c.if-tenths-eq0.true)
     (λ c. rain-tenth _ (omega arith) (omega arith))
-    (λ c. rain-one _ c.if3.true)
-    (λ c. rain-last _ c.if4.true)
-    (λ c. rain-beyond _ c.if5.true)
-    (λ c. rain-whole _ (omega arith) (omega arith) c.if6.true)
-    (λ c. rain-part _ (omega arith) (omega arith) c.if6.false))
+    (λ c. rain-one _ c.if-tenths-eq10.true)
+    (λ c. rain-last _ c.if-tenths-eq9890.true)
+    (λ c. rain-beyond _ c.if-tenths-gt9890.true)
+    (λ c. rain-whole _ (omega arith) (omega arith) c.if-tenths-eq0-2.true)
+    (λ c. rain-part _ (omega arith) (omega arith) c.if-tenths-eq0-2.false))

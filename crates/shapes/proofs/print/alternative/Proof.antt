@@ -12,16 +12,16 @@ use Rattle.shapes.proofs.Splits.{all_from, piece-this, piece-past, piece-later}
 use Rattle.shapes.proofs.print.alternative.Statement.{statement}
 use Rattle.shapes.proofs.print.alternative.Tie as tie
 
-abbrev Inv : tie.invariant-loop
+abbrev Inv : tie.invariant-loop-left
 Inv part which from₀ left₀ from left = (from ≤ length part) × (get_or (split 124 (drop from part)) left [] ≡ get_or (split 124 part) which [])
 
-abbrev μ : tie.decreases-loop
+abbrev μ : tie.decreases-loop-left
 μ part which from₀ left₀ from left = left
 
 -- where the alternative ends
-end : (c : tie.After-up-to Inv μ)
-    → let from = c.before.before.loop.from in from + c.up_to_lem.result ≡ from + up_to 124 (drop from c.before.before.before.before.args.part.now)
-end c = rw (c.up_to_lem.ensures.0, all_from)
+end : (c : tie.After-up_to Inv μ)
+    → let from = c.loop-left.from in from + c.up_to.result ≡ from + up_to 124 (drop from c.args.part.now)
+end c = rw (c.up_to.ensures.0, all_from)
 
 pub alternative_spec : {M : Type 1} → statement M
 alternative_spec =
@@ -29,8 +29,8 @@ alternative_spec =
     (tie.spec Inv μ
     (λ c. search rules) (λ c. search rules) (λ c. search rules) (λ c. search rules) (λ c κs. search rules) (λ c. search rules) (λ c. search rules)
     (λ c. search rules) (λ c. search rules)
-    (λ c. piece-this 124 _ _ _ _ (end c.before.before) (omega arith) c.before.before.before.before.loop.invariant.1 c.before.if1.true)
+    (λ c. piece-this 124 _ _ _ _ (end c.before.before) (omega arith) c.loop-left.invariant.1 c.if-left-eq0.true)
     (λ c. search rules) (λ c. search rules) (λ c. search rules)
-    (λ c. rw sub_self (piece-past 124 _ _ _ _ (end c.before.before.before) (omega arith) c.before.before.before.before.before.loop.invariant.1 (omega arith) (omega arith)))
+    (λ c. rw sub_self (piece-past 124 _ _ _ _ (end c.before.before.before) (omega arith) c.loop-left.invariant.1 (omega arith) (omega arith)))
     (λ c. search rules) (λ c. search rules) (λ c. search rules)
-    (λ c. (omega arith, piece-later 124 _ _ _ _ (end c.before.before) (omega arith) c.before.before.before.before.loop.invariant.1 (omega arith) (omega arith))))
+    (λ c. (omega arith, piece-later 124 _ _ _ _ (end c.before.before) (omega arith) c.loop-left.invariant.1 (omega arith) (omega arith))))

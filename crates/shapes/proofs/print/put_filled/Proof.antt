@@ -14,10 +14,10 @@ put_filled_spec =
     tie.close
     (tie.spec
     (λ c κs. search rules) (λ c. search rules) (λ c. search rules) (λ c. search rules) (λ c κs. search rules) (λ c. search rules)
-    (λ c. sym (length-take-le _ _ c.before.before.before.before.up_to_lem.ensures.1))
+    (λ c. sym (length-take-le _ _ c.up_to-start.ensures.1))
     (λ c κs. search rules) (λ c κs. search rules) (λ c. search rules) (λ c. search rules) (λ c. search rules) (λ c κs. search rules)
     (λ c. search rules)
     (λ c.
     unfold filled in
-    rw (← c.before.before.before.before.before.before.before.before.before.before.before.before.before.before.before.before.up_to_lem.ensures.0, ← all_from, ← c.before.before.before.before.before.before.before.before.before.before.before.before.before.before.run_length.ensures.0)
-    (then c.before.before.before.before.before.before.before.before.before.before.before.put-text.ensures (then c.before.before.before.before.before.before.before.put-field.ensures (rw all_from at c.before.before.put-text2.ensures)))))
+    rw (← c.up_to-start.ensures.0, ← all_from, ← c.run_length-width.ensures.0)
+    (then c.put_text-first.ensures (then c.put_field-second.ensures (rw all_from at c.put_text.ensures)))))

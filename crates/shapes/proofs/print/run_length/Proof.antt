@@ -11,10 +11,10 @@ use Rattle.shapes.proofs.Splits.{lead-on, lead-stop, lead-end}
 use Rattle.shapes.proofs.print.run_length.Statement.{statement}
 use Rattle.shapes.proofs.print.run_length.Tie as tie
 
-abbrev Inv : tie.invariant-loop
+abbrev Inv : tie.invariant-loop-i
 Inv p i₀ i = (i ≤ length p) × (run_length p ≡ i + run_length (drop i p))
 
-abbrev μ : tie.decreases-loop
+abbrev μ : tie.decreases-loop-i
 μ p i₀ i = length p - i
 
 pub run_length_spec : {M : Type 1} → statement M
@@ -22,6 +22,6 @@ run_length_spec =
     tie.close
     (tie.spec Inv μ
     (λ c. search rules) (λ c. search rules) (λ c. search rules) (λ c. search rules)
-    (λ c. (omega arith, lead-on _ _ _ c.before.before.before.loop.invariant.1 (omega arith) (eq-eqb _ _ c.if1.true)))
-    (λ c. (lead-stop _ _ _ c.before.before.before.loop.invariant.1 (omega arith) (ne_eqb _ _ c.if1.false), omega arith))
-    (λ c. (lead-end _ _ _ c.before.loop.invariant.1 (omega arith), omega arith)))
+    (λ c. (omega arith, lead-on _ _ _ c.loop-i.invariant.1 (omega arith) (eq-eqb _ _ c.if-pattern-i-eq35.true)))
+    (λ c. (lead-stop _ _ _ c.loop-i.invariant.1 (omega arith) (ne_eqb _ _ c.if-pattern-i-eq35.false), omega arith))
+    (λ c. (lead-end _ _ _ c.loop-i.invariant.1 (omega arith), omega arith)))

@@ -13,27 +13,27 @@ use Rattle.shapes.proofs.Begins.{begin-spent, begin-byte, begin-end}
 use Rattle.shapes.proofs.scan.begins_with.Statement.{statement}
 use Rattle.shapes.proofs.scan.begins_with.Tie as tie
 
-abbrev Inv : tie.invariant-loop
+abbrev Inv : tie.invariant-loop-i
 Inv g p i₀ i = (i ≤ length p) × (i ≤ length g) × (begins (drop i p) (drop i g) ≡ begins p g)
 
-abbrev μ : tie.decreases-loop
+abbrev μ : tie.decreases-loop-i
 μ g p i₀ i = length p - i
 
 -- where both have a byte left
-turn : (c : tie.Else1 Inv μ)
-    → let i = c.before.before.loop.i in
-    let g = c.before.before.before.before.before.args.g.now in
-    let p = c.before.before.before.before.before.args.pattern.now in
+turn : (c : tie.Else-g-i Inv μ)
+    → let i = c.loop-i.i in
+    let g = c.args.g.now in
+    let p = c.args.pattern.now in
     (fits (get_or p i 0) (get_or g i 0) && begins (drop (i + 1) p) (drop (i + 1) g)) ≡ begins p g
-turn c = begin-byte _ _ _ c.before.before.loop.invariant.2 (omega arith) (omega arith)
+turn c = begin-byte _ _ _ c.loop-i.invariant.2 (omega arith) (omega arith)
 
 pub begins_with_spec : {M : Type 1} → statement M
 begins_with_spec =
     tie.close
     (tie.spec Inv μ
     (λ c. search rules)
-    (λ c. begin-spent _ _ c.before.before.loop.i c.before.before.loop.invariant.2 (omega arith) (omega arith))
+    (λ c. begin-spent _ _ c.loop-i.i c.loop-i.invariant.2 (omega arith) (omega arith))
     (λ c. search rules) (λ c. search rules) (λ c κs. search rules) (λ c. search rules) (λ c. search rules)
-    (λ c. (omega arith, omega arith, rw (← c.before.fits-at.ensures, c.if2.true) at (turn c.before.before.before.before)))
-    (λ c. rw (← c.before.fits-at.ensures, c.if2.false) at (turn c.before.before.before.before))
-    (λ c. begin-end _ _ c.before.loop.i c.before.loop.invariant.2 (omega arith)))
+    (λ c. (omega arith, omega arith, rw (← c.fits_at.ensures, c.if-fits_at.true) at (turn c.before.before.before.before)))
+    (λ c. rw (← c.fits_at.ensures, c.if-fits_at.false) at (turn c.before.before.before.before))
+    (λ c. begin-end _ _ c.loop-i.i c.loop-i.invariant.2 (omega arith)))

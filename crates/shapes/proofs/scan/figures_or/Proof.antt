@@ -12,7 +12,7 @@ figures_or_spec =
     (tie.spec
     (λ c κs. search rules) (λ c κs. search rules) (λ c κs. search rules)
     (λ c.
-    let a = c.before.before.before.before.before.before.args in
-    omega (arith, begins-within a.a.now a.g.now a.at (rw (← c.before.before.before.Rest-from.ensures, ← c.before.before.begins-with.ensures) c.before.if1.true)))
-    (λ c. rw (← c.before.before.before.Rest-from.ensures, ← c.before.before.begins-with.ensures, c.before.if1.true, ← c.field.ensures))
-    (λ c. rw (← c.before.before.Rest-from.ensures, ← c.before.begins-with.ensures, c.if1.false)))
+    let a = c.args in
+    omega (arith, begins-within a.a.now a.g.now a.at (rw (← c.rest_from-rest.ensures, ← c.begins_with.ensures) c.if-begins_with.true)))
+    (λ c. rw (← c.rest_from-rest.ensures, ← c.begins_with.ensures, c.if-begins_with.true, ← c.field-field.ensures))
+    (λ c. rw (← c.rest_from-rest.ensures, ← c.begins_with.ensures, c.if-begins_with.false)))

@@ -13,6 +13,6 @@ rest_from_spec =
     tie.close
     (tie.spec
     (λ c. search rules) (λ c. search rules) (λ c. search rules)
-    (λ c. all_from c.before.before.args.g.now c.before.before.args.at)
+    (λ c. all_from c.args.g.now c.args.at)
     (λ c. search rules) (λ c. search rules) (λ c. search rules)
-    (λ c. rw (drop-length, take-nil) (sym (drop_of_length-le c.before.before.args.g.now {i = c.before.before.args.at} c.before.if1.false))))
+    (λ c. rw (drop-length, take-nil) (sym (drop_of_length-le c.args.g.now {i = c.args.at} c.if-at-g.false))))

@@ -12,7 +12,7 @@ scanned_spec =
     (tie.spec
     (λ c κs. search rules)
     (λ c.
-    let known = c.before.before.before.before.before.before.before in
-    let a = known.before.before.args in
-    rw (eq-eqb a.past (length a.g.now) c.before.before.before.before.before.before.if1.true, known.blank.ensures))
-    (λ c. let a = c.before.before.before.args in rw (ne_eqb a.past (length a.g.now) c.if1.false, c.before.blank.ensures)))
+    let known = c in
+    let a = known.args in
+    rw (eq-eqb a.past (length a.g.now) c.if-past-g.true, known.blank-none.ensures))
+    (λ c. let a = c.args in rw (ne_eqb a.past (length a.g.now) c.if-past-g.false, c.blank-none.ensures)))

@@ -12,8 +12,8 @@ word_or_spec =
     (tie.spec
     (λ c κs. search rules) (λ c κs. search rules)
     (λ c.
-    let a = c.before.before.before.before.before.args in
-    omega (arith, begins-within a.a.now a.g.now a.at (rw (← c.before.before.Rest-from.ensures, ← c.before.begins-with.ensures) c.if1.true)))
+    let a = c.args in
+    omega (arith, begins-within a.a.now a.g.now a.at (rw (← c.rest_from.ensures, ← c.begins_with.ensures) c.if-begins_with.true)))
     (λ c κs. search rules)
-    (λ c. rw (← c.before.before.before.Rest-from.ensures, ← c.before.before.begins-with.ensures, c.before.if1.true) c.nothing.ensures)
-    (λ c. rw (← c.before.before.Rest-from.ensures, ← c.before.begins-with.ensures, c.if1.false)))
+    (λ c. rw (← c.rest_from.ensures, ← c.begins_with.ensures, c.if-begins_with.true) c.nothing.ensures)
+    (λ c. rw (← c.rest_from.ensures, ← c.begins_with.ensures, c.if-begins_with.false)))

@@ -10,4 +10,4 @@ cover_fits_spec =
     (tie.spec
     (λ c. search rules) (λ c. search rules) (λ c. search rules) (λ c. search rules) (λ c. search rules) (λ c κs. tt) (λ c. search rules)
     (λ c. search rules) (λ c. search rules) (λ c. search rules)
-    (λ c. rw c.before.before.c.given.1 c.metres-fit.ensures))
+    (λ c. rw c.in-Vertical.is c.metres_fit.ensures))

@@ -8,4 +8,4 @@ judge_cover_spec =
     tie.close
     (tie.spec
     (λ c κs. tt) (λ c κs. tt) (λ c κs. tt)
-    (λ c. rw (c.judge.ensures, c.before.before.cover-fits.ensures, c.before.is-layers.ensures)))
+    (λ c. rw (c.judge.ensures, c.cover_fits.ensures, c.is_layers.ensures)))

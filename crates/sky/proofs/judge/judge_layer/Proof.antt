@@ -8,4 +8,4 @@ judge_layer_spec =
     tie.close
     (tie.spec
     (λ c κs. tt) (λ c κs. tt) (λ c κs. tt) (λ c κs. tt)
-    (λ c. rw (c.judge.ensures, c.before.before.before.is_none.ensures, c.before.before.metres-fit.ensures, c.before.not-above.ensures)))
+    (λ c. rw (c.judge.ensures, c.is_none.ensures, c.metres_fit.ensures, c.not_above.ensures)))

@@ -10,10 +10,10 @@ use borrow.Author.Rules.{rules}
 use Rattle.sky.proofs.judge.judge_layers.Statement.{statement}
 use Rattle.sky.proofs.judge.judge_layers.Tie as tie
 
-abbrev Inv : tie.invariant-loop
+abbrev Inv : tie.invariant-loop-i
 Inv forecast beside count layers last₀ i₀ last i = (i ≤ 4) × Going forecast beside (take count layers) (drop i (take count layers)) last
 
-abbrev μ : tie.decreases-loop
+abbrev μ : tie.decreases-loop-i
 μ forecast beside count layers last₀ i₀ last i = 4 - i
 
 pub judge_layers_spec : {M : Type 1} → statement M
@@ -21,20 +21,20 @@ judge_layers_spec =
     tie.close
     (tie.spec Inv μ
     (λ c. (search rules, start _ _ _))
-    (λ c. finish _ _ (rw (past_all c.before.before.before.args.t3 c.before.before.before.args.count c.before.before.loop.i (inl c.if1.true)) at c.before.before.loop.invariant.1))
+    (λ c. finish _ _ (rw (past_all c.args.layers c.args.count c.loop-i.i (inl c.if-count-i.true)) at c.loop-i.invariant.1))
     (λ c. search rules) (λ c. search rules) (λ c κs. tt) (λ c κs. tt) (λ c. search rules)
     (λ c.
-    let d = c.before.before.before.before.before.before.before.before in
-    let e = d.before.args in
-    let judgement = rw c.before.before.before.before.written-height.ensures at c.before.before.before.judge-layer.ensures in
-    halt e.forecast e.beside (get_or e.t3 d.loop.i blank_layer) (rw (next_of e.t3 e.count d.loop.i blank_layer (search rules) (search rules)) at d.loop.invariant.1) judgement c.before.judged.given.1)
+    let d = c in
+    let e = d.args in
+    let judgement = rw c.written_height-height.ensures at c.judge_layer-judged.ensures in
+    halt e.forecast e.beside (get_or e.layers d.loop-i.i blank_layer) (rw (next_of e.layers e.count d.loop-i.i blank_layer (search rules) (search rules)) at d.loop-i.invariant.1) judgement c.in-Refused.is)
     (λ c. search rules) (λ c κs. tt) (λ c. search rules) (λ c. search rules)
     (λ c.
-    let d = c.before.before.before.before.before.before.before.before in
-    let e = d.before.args in
-    let judgement = rw c.before.before.before.before.written-height.ensures at c.before.before.before.judge-layer.ensures in (
+    let d = c in
+    let e = d.args in
+    let judgement = rw c.written_height-height.ensures at c.judge_layer-judged.ensures in (
       search rules,
-      rw (c.last-height.ensures, c.before.before.before.before.written-height.ensures)
-          (on e.forecast e.beside (get_or e.t3 d.loop.i blank_layer) (rw (next_of e.t3 e.count d.loop.i blank_layer (search rules) (search rules)) at d.loop.invariant.1) judgement c.before.enum_told.given.1),
+      rw (c.last_height-last.ensures, c.written_height-height.ensures)
+          (on e.forecast e.beside (get_or e.layers d.loop-i.i blank_layer) (rw (next_of e.layers e.count d.loop-i.i blank_layer (search rules) (search rules)) at d.loop-i.invariant.1) judgement c.in_default.is),
     ))
-    (λ c. finish _ _ (rw (past_all c.before.before.args.t3 c.before.before.args.count c.before.loop.i (inr (search rules))) at c.before.loop.invariant.1)))
+    (λ c. finish _ _ (rw (past_all c.args.layers c.args.count c.loop-i.i (inr (search rules))) at c.loop-i.invariant.1)))

@@ -11,14 +11,14 @@ judge_sky_spec =
     (λ c κs. tt) (λ c κs. tt) (λ c κs. tt) (λ c κs. tt) (λ c κs. tt) (λ c κs. tt) (λ c κs. tt)
     (λ c.
     let layered = c.before.before.before in
-    let counted = layered.before.before in
+    let counted = layered in
     unfold judge_sky in
     rw (
-      c.and-then2.ensures,
-      c.before.and_then.ensures,
-      c.before.before.judge-cover.ensures,
-      layered.judge-layers.ensures,
-      layered.before.is-layers.ensures,
-      counted.judge.ensures,
-      counted.before.is-blank-from.ensures,
+      c.and_then.ensures,
+      c.and_then-covered.ensures,
+      c.judge_cover.ensures,
+      layered.judge_layers-layered.ensures,
+      layered.is_layers.ensures,
+      counted.judge-counted.ensures,
+      counted.is_blank_from.ensures,
     )))

@@ -9,4 +9,4 @@ last_height_spec =
     tie.close
     (tie.spec
     (λ c. search rules) (λ c. search rules) (λ c. search rules)
-    (λ c. rw c.before.h.given.1))
+    (λ c. rw c.in-Is.is))

@@ -13,11 +13,11 @@ written_height_spec =
     (tie.spec
     (λ c. search rules) (λ c. search rules) (λ c κs. tt) (λ c κs. tt) (λ c. search rules) (λ c. search rules) (λ c. search rules)
     (λ c.
-    let r = c.before.before.before in
-    let h = r.before.before.before in
-    rw h.h.given.1
-    (ap number.Is (foot-told h.h.given.0.0 (rw r.before.cloud-number.ensures at r.cloud-reading.ensures) c.before.r.given.1)))
+    let r = c in
+    let h = r in
+    rw h.in-Is.is
+    (ap number.Is (foot-told h.in-Is.m (rw r.cloud_number.ensures at r.cloud_reading-r.ensures) c.in-Is-r.is)))
     (λ c.
-    let r = c.before.before in
-    let h = r.before.before.before in
-    absurd (always-told h.h.given.0.0 (rw r.before.cloud-number.ensures at r.cloud-reading.ensures) c.enum-told2.given.1)))
+    let r = c in
+    let h = r in
+    absurd (always-told h.in-Is.m (rw r.cloud_number.ensures at r.cloud_reading-r.ensures) c.in-Unused.is)))

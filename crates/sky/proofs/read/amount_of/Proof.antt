@@ -8,7 +8,7 @@ pub amount_of_spec : {M : Type 1} → statement M
 amount_of_spec =
     tie.close
     (tie.spec
-    (λ c. rw (eq-eqb _ _ c.if1.true))
-    (λ c. rw (ne_eqb _ _ c.before.if1.false, eq-eqb _ _ c.if2.true))
-    (λ c. rw (ne_eqb _ _ c.before.before.if1.false, ne_eqb _ _ c.before.if2.false, eq-eqb _ _ c.if3.true))
-    (λ c. rw (ne_eqb _ _ c.before.before.if1.false, ne_eqb _ _ c.before.if2.false, ne_eqb _ _ c.if3.false)))
+    (λ c. rw (eq-eqb _ _ c.if-which-eq0.true))
+    (λ c. rw (ne_eqb _ _ c.if-which-eq0.false, eq-eqb _ _ c.if-which-eq1.true))
+    (λ c. rw (ne_eqb _ _ c.if-which-eq0.false, ne_eqb _ _ c.if-which-eq1.false, eq-eqb _ _ c.if-which-eq2.true))
+    (λ c. rw (ne_eqb _ _ c.if-which-eq0.false, ne_eqb _ _ c.if-which-eq1.false, ne_eqb _ _ c.if-which-eq2.false)))

@@ -5,4 +5,4 @@ use Rattle.sky.proofs.read.has_sky.Statement.{statement}
 use Rattle.sky.proofs.read.has_sky.Tie as tie
 
 pub has_sky_spec : {M : Type 1} → statement M
-has_sky_spec = tie.close (tie.spec (λ c κs. search rules) (λ c κs. search rules) (λ c. rw (c.before.is-layer.ensures, c.stands-alone.ensures)))
+has_sky_spec = tie.close (tie.spec (λ c κs. search rules) (λ c κs. search rules) (λ c. rw (c.is_layer.ensures, c.stands_alone.ensures)))

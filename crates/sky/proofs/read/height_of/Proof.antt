@@ -9,9 +9,9 @@ height_of_spec =
     tie.close
     (tie.spec
     (λ c. search rules) (λ c κs. tt) (λ c. search rules) (λ c. search rules) (λ c. search rules) (λ c. search rules) (λ c. search rules)
-    (λ c. rw (c.before.before.before.before.before.f.given.1, ← c.before.before.before.cloud-reading.ensures, c.before.r.given.1))
-    (λ c. rw (c.before.before.before.before.f.given.1, ← c.before.before.cloud-reading.ensures, c.enum_told.given.1))
-    (λ c. rw (c.before.enum-told2.given.1, c.if1.true))
-    (λ c. rw (c.before.enum-told2.given.1, c.if1.false))
-    (λ c. rw c.enum-told3.given.1)
-    (λ c. rw c.enum-told4.given.1))
+    (λ c. rw (c.in-Number.is, ← c.cloud_reading-r.ensures, c.in-Is.is))
+    (λ c. rw (c.in-Number.is, ← c.cloud_reading-r.ensures, c.in-Unused.is))
+    (λ c. rw (c.in-Missing.is, c.if-forecast.true))
+    (λ c. rw (c.in-Missing.is, c.if-forecast.false))
+    (λ c. rw c.in-Mixed.is)
+    (λ c. rw c.in-Other.is))

@@ -9,4 +9,4 @@ use Rattle.sky.proofs.read.is_layer.Tie as tie
 
 pub is_layer_spec : {M : Type 1} → statement M
 unfolding has_shape
-is_layer_spec = tie.close (tie.spec (λ c κs. search rules) (λ c. ap (λ (s : Scan). s.fits) c.scan-layer.ensures))
+is_layer_spec = tie.close (tie.spec (λ c κs. search rules) (λ c. ap (λ (s : Scan). s.fits) c.scan_layer-s.ensures))

@@ -12,14 +12,14 @@ layer_by_spec =
     (tie.spec
     (λ c κs. tt) (λ c κs. tt) (λ c κs. tt) (λ c. search rules) (λ c. search rules)
     (λ c.
-    let d = c.before.before.before in
-    let e = d.before.before.before.args in
+    let d = c in
+    let e = d.args in
     rw (
-      height-good (height_of e.forecast e.height.field) d.height-of.ensures c.before.h.given.1,
-      d.before.convective-of.ensures,
-      d.before.before.amount-of.ensures,
+      height-good (height_of e.forecast e.height.field) d.height_of-h.ensures c.in-Good.is,
+      d.convective_of-c.ensures,
+      d.amount_of-a.ensures,
     ))
     (λ c.
-    let d = c.before.before.before in
-    let e = d.before.before.before.args in
-    rw (height-bad (height_of e.forecast e.height.field) d.height-of.ensures c.before.h2.given.1)))
+    let d = c in
+    let e = d.args in
+    rw (height-bad (height_of e.forecast e.height.field) d.height_of-h.ensures c.in-Bad.is)))

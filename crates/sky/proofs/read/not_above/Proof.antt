@@ -9,4 +9,4 @@ not_above_spec =
     tie.close
     (tie.spec
     (λ c. search rules) (λ c. search rules) (λ c. search rules) (λ c. search rules) (λ c. search rules) (λ c. search rules)
-    (λ c. rw (c.before.before.before.before.a.given.1, c.before.b.given.1)))
+    (λ c. rw (c.in-Is.is, c.in-Is-b.is)))

@@ -9,29 +9,29 @@ pub read_alone_spec : {M : Type 1} → statement M
 read_alone_spec =
     tie.close
     (tie.spec
-    (λ c. search rules) (λ c κs. tt) (λ c. search rules) (λ c κs. tt) (λ c. search rules) (λ c κs. tt) (λ c κs. tt) (λ c κs. tt)
-    (λ c. unfold read_alone in rw (← c.before.has-pattern.ensures, c.if1.true))
+    (λ c κs. tt) (λ c. search rules) (λ c κs. tt) (λ c κs. tt) (λ c κs. tt)
+    (λ c. unfold read_alone in rw (← c.has_pattern.ensures, c.if-has_pattern.true))
     (λ c.
-    let d = c.before.before.before in
+    let d = c in
     unfold read_alone in
-    rw (← d.before.has-pattern.ensures, d.if1.false, ← c.before.has-pattern2.ensures, c.if2.true))
+    rw (← d.has_pattern.ensures, d.if-has_pattern.false, ← c.has_pattern-else-has_pattern.ensures, c.if-has_pattern-2.true))
     (λ c.
     let e = c.before.before.before in
-    let d = e.before.before.before in
+    let d = e in
     unfold read_alone in
-    rw (← d.before.has-pattern.ensures, d.if1.false, ← e.before.has-pattern2.ensures, e.if2.false, ← c.before.has-pattern3.ensures, c.if3.true))
+    rw (← d.has_pattern.ensures, d.if-has_pattern.false, ← e.has_pattern-else-has_pattern.ensures, e.if-has_pattern-2.false, ← c.has_pattern-else-has_pattern-2.ensures, c.if-has_pattern-3.true))
     (λ c.
     let f = c.before.before in
     let e = f.before.before.before in
-    let d = e.before.before.before in
+    let d = e in
     unfold read_alone in
     rw (
-      ← d.before.has-pattern.ensures,
-      d.if1.false,
-      ← e.before.has-pattern2.ensures,
-      e.if2.false,
-      ← f.before.has-pattern3.ensures,
-      f.if3.false,
-      ← c.before.field.ensures,
+      ← d.has_pattern.ensures,
+      d.if-has_pattern.false,
+      ← e.has_pattern-else-has_pattern.ensures,
+      e.if-has_pattern-2.false,
+      ← f.has_pattern-else-has_pattern-2.ensures,
+      f.if-has_pattern-3.false,
+      ← c.field.ensures,
     )
-    c.read-vertical.ensures))
+    c.read_vertical.ensures))

@@ -12,14 +12,14 @@ read_as_alone_spec =
     (tie.spec
     (λ c κs. tt) (λ c. search rules) (λ c. search rules)
     (λ c.
-    let d = c.before.before.before.before in
-    let e = d.before.before.args in
-    rw (cover-good (read_alone e.forecast e.g.now) d.read-alone.ensures c.before.before.read.given.1, c.if1.true))
+    let d = c in
+    let e = d.args in
+    rw (cover-good (read_alone e.forecast e.g.now) d.read_alone-read.ensures c.in-Good.is, c.if-cavok-k.true))
     (λ c.
-    let d = c.before.before.before.before in
-    let e = d.before.before.args in
-    rw (cover-good (read_alone e.forecast e.g.now) d.read-alone.ensures c.before.before.read.given.1, c.if1.false))
+    let d = c in
+    let e = d.args in
+    rw (cover-good (read_alone e.forecast e.g.now) d.read_alone-read.ensures c.in-Good.is, c.if-cavok-k.false))
     (λ c.
-    let d = c.before.before.before in
-    let e = d.before.before.args in
-    rw (cover-bad (read_alone e.forecast e.g.now) d.read-alone.ensures c.before.read2.given.1)))
+    let d = c in
+    let e = d.args in
+    rw (cover-bad (read_alone e.forecast e.g.now) d.read_alone-read.ensures c.in-Bad.is)))

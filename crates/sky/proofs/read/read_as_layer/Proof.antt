@@ -14,11 +14,11 @@ read_as_layer_spec =
     (tie.spec
     (λ c κs. tt) (λ c. search rules) (λ c κs. tt) (λ c. search rules)
     (λ c.
-    let d = c.before.before.before.before in
-    let vs = d.before.before.args.scanned.values in
-    rw (layer-good (layer_by d.before.before.args.forecast (get_or vs 0 blank_value) (get_or vs 1 blank_value) (get_or vs 2 blank_value)) d.read-layer.ensures c.before.before.read.given.1)
-    c.say-layer.ensures)
+    let d = c in
+    let vs = d.args.scanned.values in
+    rw (layer-good (layer_by d.args.forecast (get_or vs 0 blank_value) (get_or vs 1 blank_value) (get_or vs 2 blank_value)) d.read_layer-read.ensures c.in-Good.is)
+    c.say_layer.ensures)
     (λ c.
-    let d = c.before.before.before in
-    let vs = d.before.before.args.scanned.values in
-    rw (layer-bad (layer_by d.before.before.args.forecast (get_or vs 0 blank_value) (get_or vs 1 blank_value) (get_or vs 2 blank_value)) d.read-layer.ensures c.before.read2.given.1)))
+    let d = c in
+    let vs = d.args.scanned.values in
+    rw (layer-bad (layer_by d.args.forecast (get_or vs 0 blank_value) (get_or vs 1 blank_value) (get_or vs 2 blank_value)) d.read_layer-read.ensures c.in-Bad.is)))

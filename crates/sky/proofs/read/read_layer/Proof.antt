@@ -12,4 +12,4 @@ read_layer_spec =
     tie.close
     (tie.spec
     (λ c. search rules) (λ c. search rules) (λ c. search rules) (λ c κs. tt)
-    (λ c. c.layer-by.ensures ∙ parts-there c.before.before.before.before.args.forecast c.before.before.before.before.args.t2 _ blank_value (search rules)))
+    (λ c. c.layer_by.ensures ∙ parts-there c.args.forecast c.args.values _ blank_value (search rules)))

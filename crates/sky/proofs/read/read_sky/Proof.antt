@@ -12,5 +12,5 @@ read_sky_spec =
     tie.close
     (tie.spec
     (λ c κs. tt) (λ c κs. tt) (λ c κs. tt)
-    (λ c. rw (← c.before.before.scan-layer.ensures, has_shape, c.before.if1.true) c.read-as-layer.ensures)
-    (λ c. rw (← c.before.before.scan-layer.ensures, has_shape, c.before.if1.false) c.read-as-alone.ensures))
+    (λ c. rw (← c.scan_layer-scanned.ensures, has_shape, c.if-scanned.true) c.read_as_layer.ensures)
+    (λ c. rw (← c.scan_layer-scanned.ensures, has_shape, c.if-scanned.false) c.read_as_alone.ensures))

@@ -11,5 +11,5 @@ read_vertical_spec =
     tie.close
     (tie.spec
     (λ c κs. tt) (λ c. search rules) (λ c. search rules)
-    (λ c. rw (height-good (height_of c.before.before.before.before.args.forecast c.before.before.before.before.args.f) c.before.before.before.height-of.ensures c.before.h.given.1))
-    (λ c. rw (height-bad (height_of c.before.before.before.before.args.forecast c.before.before.before.before.args.f) c.before.before.before.height-of.ensures c.before.h2.given.1)))
+    (λ c. rw (height-good (height_of c.args.forecast c.args.f) c.height_of-h.ensures c.in-Good.is))
+    (λ c. rw (height-bad (height_of c.args.forecast c.args.f) c.height_of-h.ensures c.in-Bad.is)))

@@ -8,5 +8,5 @@ say_layer_spec =
     tie.close
     (tie.spec
     (λ c κs. tt) (λ c κs. tt)
-    (λ c. rw (← c.before.before.is-layers.ensures, ← c.before.rises.ensures, c.if1.true))
-    (λ c. rw (← c.before.before.is-layers.ensures, ← c.before.rises.ensures, c.if1.false)))
+    (λ c. rw (← c.is_layers.ensures, ← c.rises.ensures, c.if-cavok-is_layers.true))
+    (λ c. rw (← c.is_layers.ensures, ← c.rises.ensures, c.if-cavok-is_layers.false)))

@@ -12,9 +12,9 @@ pub scan_layer_spec : {M : Type 1} → statement M
 scan_layer_spec =
     tie.close
     (tie.spec
-    (λ c κs. search rules) (λ c. search rules) (λ c κs. search rules) (λ c. search rules) (λ c κs. search rules) (λ c. search rules)
-    (λ c κs. search rules) (λ c. search rules) (λ c κs. search rules) (λ c. search rules) (λ c κs. search rules) (λ c κs. search rules)
-    (λ c. search rules) (λ c κs. search rules) (λ c. search rules) (λ c κs. search rules) (λ c κs. search rules)
+    (λ c κs. search rules) (λ c κs. search rules) (λ c κs. search rules)
+    (λ c κs. search rules) (λ c κs. search rules) (λ c κs. search rules) (λ c κs. search rules)
+    (λ c κs. search rules) (λ c κs. search rules) (λ c κs. search rules)
     (λ c.
     let convective = c.before in
     let towering = convective.before.before in
@@ -24,12 +24,12 @@ scan_layer_spec =
     let scattered = amount.before.before in
     let broken = scattered.before.before in
     let overcast = broken.before.before in
-    let none = overcast.before.before in
-    let g = none.before.before.args.g.now in
-    rw (c.scanned.ensures, none.absent.ensures)
+    let none = overcast in
+    let g = none.args.g.now in
+    rw (c.scanned.ensures, none.absent-none.ensures)
     (unfold leading split parts_of in
     scan-by-steps layer_shape g refl
-    (word-step (word-step (word-step (word-step (no_step none.absent.ensures) refl overcast.word-or.ensures) refl broken.word-or2.ensures) refl scattered.word-or3.ensures) refl amount.word-or4.ensures
-    then figures-step (no_step none.absent.ensures) 0 3 refl refl height.figures-or.ensures
-    then word-step (word-step (nothing-step neither.nothing.ensures) refl towering.word-or5.ensures) refl convective.word-or6.ensures
+    (word-step (word-step (word-step (word-step (no_step none.absent-none.ensures) refl overcast.word_or-overcast.ensures) refl broken.word_or-broken.ensures) refl scattered.word_or-scattered.ensures) refl amount.word_or-amount.ensures
+    then figures-step (no_step none.absent-none.ensures) 0 3 refl refl height.figures_or-height.ensures
+    then word-step (word-step (nothing-step neither.nothing-neither.ensures) refl towering.word_or-towering.ensures) refl convective.word_or-convective.ensures
     then end))))

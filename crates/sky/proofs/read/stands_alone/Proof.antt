@@ -10,5 +10,5 @@ pub stands_alone_spec : {M : Type 1} → statement M
 stands_alone_spec =
     tie.close
     (tie.spec
-    (λ c. search rules) (λ c κs. tt) (λ c. search rules) (λ c κs. tt) (λ c. search rules) (λ c κs. tt) (λ c. search rules) (λ c κs. tt)
-    (λ c. unfold has_any in rw (or-false, ← c.has-pattern4.ensures, ← c.before.before.has-pattern3.ensures, ← c.before.before.before.before.has-pattern2.ensures, ← c.before.before.before.before.before.before.has-pattern.ensures)))
+    (λ c κs. tt) (λ c κs. tt) (λ c. search rules) (λ c κs. tt)
+    (λ c. unfold has_any in rw (or-false, ← c.has_pattern-4.ensures, ← c.has_pattern-3.ensures, ← c.has_pattern-2.ensures, ← c.has_pattern.ensures)))

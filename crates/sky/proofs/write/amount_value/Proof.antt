@@ -10,8 +10,8 @@ amount_value_spec =
     (tie.spec
     (λ c. search rules) (λ c κs. tt) (λ c. search rules) (λ c κs. tt) (λ c. search rules) (λ c κs. tt) (λ c. search rules) (λ c κs. tt)
     (λ c. search rules) (λ c κs. tt)
-    (λ c. rw c.before.enum_told.given.1 c.chosen.ensures)
-    (λ c. rw c.before.enum-told2.given.1 c.chosen2.ensures)
-    (λ c. rw c.before.enum-told3.given.1 c.chosen3.ensures)
-    (λ c. rw c.before.enum-told4.given.1 c.chosen4.ensures)
-    (λ c. rw c.before.enum-told5.given.1 c.chosen5.ensures))
+    (λ c. rw c.in-None.is c.chosen.ensures)
+    (λ c. rw c.in-Few.is c.chosen-in-Few.ensures)
+    (λ c. rw c.in-Scattered.is c.chosen-in-Scattered.ensures)
+    (λ c. rw c.in-Broken.is c.chosen-in-Broken.ensures)
+    (λ c. rw c.in-Overcast.is c.chosen-in-Overcast.ensures))

@@ -13,5 +13,5 @@ cloud_number_spec =
     tie.close
     (tie.spec
     (λ c κs. tt) (λ c. search rules) (λ c. search rules)
-    (λ c. figure-told cloud _ (sym c.before.before.before.cloud-figure.ensures ∙ c.before.f.given.1))
-    (λ c. open_above _ (sym c.before.before.cloud-figure.ensures ∙ c.enum_told.given.1)))
+    (λ c. figure-told cloud _ (sym c.cloud_figure-f.ensures ∙ c.in-Is.is))
+    (λ c. open_above _ (sym c.cloud_figure-f.ensures ∙ c.in-OutOfRange.is)))

@@ -9,6 +9,6 @@ convective_value_spec =
     tie.close
     (tie.spec
     (λ c. search rules) (λ c κs. tt) (λ c. search rules) (λ c κs. tt) (λ c. search rules) (λ c κs. tt)
-    (λ c. rw c.before.enum_told.given.1 c.chosen.ensures)
-    (λ c. rw c.before.enum-told2.given.1 c.chosen2.ensures)
-    (λ c. rw c.before.enum-told3.given.1 c.chosen3.ensures))
+    (λ c. rw c.in-None.is c.chosen.ensures)
+    (λ c. rw c.in-Cumulonimbus.is c.chosen-in-Cumulonimbus.ensures)
+    (λ c. rw c.in-ToweringCumulus.is c.chosen-in-ToweringCumulus.ensures))

@@ -9,4 +9,4 @@ height_field_spec =
     tie.close
     (tie.spec
     (λ c. search rules) (λ c. search rules) (λ c κs. tt) (λ c. search rules)
-    (λ c. rw (c.before.before.h.given.1, c.cloud-number.ensures)))
+    (λ c. rw (c.in-Is.is, c.cloud_number.ensures)))

@@ -9,14 +9,14 @@ pub put_cover_spec : {M : Type 1} → statement M
 put_cover_spec =
     tie.close
     (tie.spec
-    (λ c. search rules) (λ c. search rules) (λ c. search rules) (λ c κs. tt) (λ c. search rules) (λ c. search rules) (λ c κs. tt) (λ c. search rules)
+    (λ c. search rules) (λ c. search rules) (λ c κs. tt) (λ c. search rules) (λ c. search rules)
     (λ c. search rules) (λ c κs. tt) (λ c. search rules) (λ c κs. tt)
-    (λ c. rw c.enum_told.given.1 (write-none _ _))
+    (λ c. rw c.in-Layers.is (write-none _ _))
     (λ c. search rules)
-    (λ c. rw c.before.before.before.before.before.enum-told2.given.1 c.before.before.put_word.ensures)
+    (λ c. rw c.in-Clear.is c.put_word.ensures)
     (λ c. search rules)
-    (λ c. rw c.before.before.before.before.before.enum-told3.given.1 c.before.before.put-word2.ensures)
+    (λ c. rw c.in-NoneSignificant.is c.put_word-in-NoneSignificant.ensures)
     (λ c. search rules)
-    (λ c. rw c.before.before.before.before.before.enum-told4.given.1 c.before.before.put-word3.ensures)
+    (λ c. rw c.in-NoneDetected.is c.put_word-in-NoneDetected.ensures)
     (λ c. search rules)
-    (λ c. rw c.before.before.before.before.before.c.given.1 c.before.before.put-vertical.ensures))
+    (λ c. rw c.in-Vertical.is c.put_vertical.ensures))

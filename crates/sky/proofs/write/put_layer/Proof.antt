@@ -11,11 +11,11 @@ pub put_layer_spec : {M : Type 1} → statement M
 put_layer_spec =
     tie.close
     (tie.spec
-    (λ c κs. tt) (λ c κs. tt) (λ c κs. tt) (λ c. search rules) (λ c. search rules) (λ c κs. tt) (λ c. search rules) (λ c κs. tt) (λ c. search rules)
+    (λ c κs. tt) (λ c κs. tt) (λ c κs. tt) (λ c. search rules) (λ c. search rules) (λ c κs. tt) (λ c. search rules) (λ c κs. tt)
     (λ c κs. tt) (λ c. search rules)
     (λ c.
     let opened = c.before.before.before.before.before.before.before in
-    let told = opened.before.before in
+    let told = opened in
     unfold show_layer in
-    write-group opened.open-group.ensures
-    (rw (told.convective-value.ensures, told.before.amount-value.ensures, told.before.before.before.height-field.ensures, three-parts) at c.before.before.put-shape.ensures)))
+    write-group opened.open_group-opened.ensures
+    (rw (told.convective_value.ensures, told.amount_value.ensures, told.height_field-f.ensures, three-parts) at c.put_shape.ensures)))

@@ -15,10 +15,10 @@ use borrow.Author.Rules.{rules}
 use Rattle.sky.proofs.write.put_layers.Statement.{statement}
 use Rattle.sky.proofs.write.put_layers.Tie as tie
 
-abbrev Inv : tie.invariant-loop
+abbrev Inv : tie.invariant-loop-i
 Inv out₀ at count layers next₀ i₀ out next i = (i ≤ 4) × Put out₀ at (written at (map show_layer (take i (take count layers)))) next out
 
-abbrev μ : tie.decreases-loop
+abbrev μ : tie.decreases-loop-i
 μ out₀ at count layers next₀ i₀ out next i = 4 - i
 
 pub put_layers_spec : {M : Type 1} → statement M
@@ -26,15 +26,15 @@ put_layers_spec =
     tie.close
     (tie.spec Inv μ
     (λ c. (search rules, write-none _ _))
-    (λ c. length-put c.before.before.loop.invariant.1)
-    (λ c. rw (show-all c.before.before.before.before.args.t3 c.before.before.before.before.args.count c.before.before.loop.i (inl c.if1.true)) at c.before.before.loop.invariant.1)
+    (λ c. length-put c.loop-i.invariant.1)
+    (λ c. rw (show-all c.args.layers c.args.count c.loop-i.i (inl c.if-count-i.true)) at c.loop-i.invariant.1)
     (λ c. search rules) (λ c. search rules) (λ c κs. tt) (λ c. search rules) (λ c. search rules)
     (λ c.
-    let d = c.before.before.before.before.before.before.before in
-    let e = d.before.before.args in (
+    let d = c in
+    let e = d.args in (
       search rules,
-      rw (show-next e.t3 e.count d.loop.i blank_layer (search rules) (search rules))
-          (write-groups _ _ d.loop.invariant.1 c.before.before.put-layer.ensures),
+      rw (show-next e.layers e.count d.loop-i.i blank_layer (search rules) (search rules))
+          (write-groups _ _ d.loop-i.invariant.1 c.put_layer-next.ensures),
     ))
-    (λ c. length-put c.before.loop.invariant.1)
-    (λ c. rw (show-all c.before.before.before.args.t3 c.before.before.before.args.count c.before.loop.i (inr (search rules))) at c.before.loop.invariant.1))
+    (λ c. length-put c.loop-i.invariant.1)
+    (λ c. rw (show-all c.args.layers c.args.count c.loop-i.i (inr (search rules))) at c.loop-i.invariant.1))

@@ -11,4 +11,4 @@ put_sky_spec =
     tie.close
     (tie.spec
     (λ c κs. tt) (λ c κs. tt) (λ c. search rules)
-    (λ c. unfold show_sky in write-groups _ _ c.before.before.before.before.before.before.put-cover.ensures c.before.before.put-layers.ensures))
+    (λ c. unfold show_sky in write-groups _ _ c.put_cover-covered.ensures c.put_layers.ensures))

@@ -10,10 +10,10 @@ pub put_vertical_spec : {M : Type 1} → statement M
 put_vertical_spec =
     tie.close
     (tie.spec
-    (λ c κs. tt) (λ c. search rules) (λ c κs. tt) (λ c κs. tt) (λ c κs. tt) (λ c. search rules)
+    (λ c κs. tt) (λ c κs. tt) (λ c κs. tt) (λ c κs. tt) (λ c. search rules)
     (λ c.
     let second = c.before.before in
     let first = second.before.before.before.before.before in
-    let opened = first.before.before.before.before.before in
-    rw second.before.height-field.ensures
-    at (write-group opened.open-group.ensures (then first.put-text.ensures second.put-field.ensures))))
+    let opened = first in
+    rw second.height_field.ensures
+    at (write-group opened.open_group-opened.ensures (then first.put_text-begun.ensures second.put_field.ensures))))

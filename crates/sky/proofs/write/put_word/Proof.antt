@@ -10,4 +10,4 @@ put_word_spec =
     tie.close
     (tie.spec
     (λ c κs. tt) (λ c κs. tt) (λ c. search rules)
-    (λ c. write-group c.before.before.before.before.before.before.open-group.ensures c.before.before.put-text.ensures))
+    (λ c. write-group c.open_group-opened.ensures c.put_text.ensures))

@@ -26,6 +26,6 @@ pub has_shape_spec : {M : Type 1} → statement M
 has_shape_spec =
     tie.close
     (tie.spec
-    (λ c. search rules) (λ c. search rules) (λ c κs. search rules) (λ c. search rules) (λ c κs. search rules)
-    (λ c. rw c.before.before.enum_told.given.1 c.has-pattern.ensures)
-    (λ c. c.has-pattern2.ensures ∙ others c.before.before.before.before.args.post c.before.before.match.keys2 c.before.before.before.before.args.g.now))
+    (λ c. search rules) (λ c κs. search rules) (λ c κs. search rules)
+    (λ c. rw c.in-Latitude.is c.has_pattern.ensures)
+    (λ c. c.has_pattern-in_default.ensures ∙ others c.args.post c.in_default.in_default-own.keys2 c.args.g.now))

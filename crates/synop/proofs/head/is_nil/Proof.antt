@@ -27,6 +27,6 @@ pub is_nil_spec : {M : Type 1} → statement M
 is_nil_spec =
     tie.close
     (tie.spec
-    (λ c. search rules) (λ c. search rules) (λ c κs. search rules)
-    (λ c. rw (c.before.before.before.post.given.1, c.has-pattern.ensures))
-    (λ c. never c.before.before.args.post c.match.keys2 c.before.before.args.g.now))
+    (λ c. search rules) (λ c κs. search rules)
+    (λ c. rw (c.in-Indicators.is, c.has_pattern.ensures))
+    (λ c. never c.args.post c.in_default.in_default-own.keys2 c.args.g.now))

@@ -14,6 +14,6 @@ post_at_spec =
     tie.close
     (tie.spec
     (λ c. search rules) (λ c. search rules) (λ c. search rules) (λ c. search rules)
-    (λ c. rw c.before.if1.true (last-post true 4 c.before.before.args.number refl (beyond 0 4 c.before.before.args.number zero-le c.match.rest)))
+    (λ c. rw c.if-ship.true (last-post true 4 c.args.number refl (beyond 0 4 c.args.number zero-le c.in_default.in_default-own.rest)))
     (λ c. search rules) (λ c. search rules) (λ c. search rules)
-    (λ c. rw c.before.if1.false (last-post false 3 c.before.before.args.number refl (beyond 0 3 c.before.before.args.number zero-le c.match2.rest))))
+    (λ c. rw c.if-ship.false (last-post false 3 c.args.number refl (beyond 0 3 c.args.number zero-le c.in_default-number.in_default-number-own.rest))))

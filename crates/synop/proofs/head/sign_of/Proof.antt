@@ -14,5 +14,5 @@ sign_of_spec =
     (λ c κs. search rules) (λ c κs. search rules) (λ c κs. search rules) (λ c κs. search rules)
     (λ c.
     unfold sign_of in
-    rw (← nine-bytes c.before.before.before.before.before.before.before.before.before.before.args.g.now)
-    (rw (c.before.before.before.before.before.before.before.before.byte_at.ensures, c.before.before.before.before.before.before.before.byte-at2.ensures, c.before.before.before.before.before.before.byte-at3.ensures, c.before.before.before.before.before.byte-at4.ensures, c.before.before.before.before.byte-at5.ensures, c.before.before.before.byte-at6.ensures, c.before.before.byte-at7.ensures, c.before.byte-at8.ensures, c.byte-at9.ensures))))
+    rw (← nine-bytes c.args.g.now)
+    (rw (c.byte_at.ensures, c.byte_at-2.ensures, c.byte_at-3.ensures, c.byte_at-4.ensures, c.byte_at-5.ensures, c.byte_at-6.ensures, c.byte_at-7.ensures, c.byte_at-8.ensures, c.byte_at-9.ensures))))

@@ -42,7 +42,7 @@ with_site_spec =
     tie.close
     (tie.spec
     (λ c. search rules) (λ c. search rules) (λ c κs. search rules) (λ c. search rules)
-    (λ c. rw c.before.said.given.1)
-    (λ c. rw c.before.before.said2.given.1 c.with-station.ensures)
-    (λ c. rw c.before.said3.given.1)
-    (λ c. others c.before.args.said c.match.keys4 c.before.args.site))
+    (λ c. rw c.in-Time.is)
+    (λ c. rw c.in-Station.is c.with_station.ensures)
+    (λ c. rw c.in-Position.is)
+    (λ c. others c.args.said c.in_default.in_default-own.keys4 c.args.site))

@@ -11,5 +11,5 @@ end_short_spec =
     tie.close
     (tie.spec
     (λ c κs. search rules) (λ c. search rules) (λ c κs. search rules) (λ c. search rules) (λ c κs. search rules)
-    (λ c. c.refuse.ensures ∙ short-by _ c.before.before.tail2.given.1 c.before.before.before.before.tail.ensures)
-    (λ c. c.refuse2.ensures ∙ short-by _ c.before.enum_told.given.1 c.before.before.before.tail.ensures))
+    (λ c. c.refuse.ensures ∙ short-by _ c.in-Junk.is c.tail-tail.ensures)
+    (λ c. c.refuse-in-Clear.ensures ∙ short-by _ c.in-Clear.is c.tail-tail.ensures))

@@ -2,28 +2,28 @@
 -- Assumes nothing.
 use borrow.Author.Rules.{rules}
 use mathlib.Core.Path.{sym, ◌∙◌}
-use mathlib.Core.Logic.{inl, inr}
 use Rattle.text.proofs.Groups.{Follows, when-group, when-end}
 use Rattle.synop.proofs.TextSteps.{sign-over, sign-other, sign-stands, land-walks}
+use Rattle.synop.proofs.read.read_from.Lts.{then-ship+in-Group+then-is_call_sign, else-ship}
 use Rattle.synop.proofs.read.read_from.Statement.{statement}
 use Rattle.synop.proofs.read.read_from.Tie as tie
 
 -- past the next group's cut
-follows : (c : tie.After-known-told) → Follows c.before.before.before.before.before.before.before.args.text.now c.before.before.before.before.before.before.before.args.at c.before.start.given.0.0 c.before.start.given.0.1.0
-follows c = when-group _ _ _ _ (sym c.before.start.given.1 ∙ c.before.before.before.next-group.ensures)
+follows : (c : tie.In-Group) → Follows c.args.text.now c.args.at c.in-Group.start c.in-Group.end
+follows c = when-group _ _ _ _ (sym c.in-Group.is ∙ c.next_group.ensures)
 
 pub read_from_spec : {M : Type 1} → statement M
 read_from_spec =
     tie.close
     (tie.spec
     (λ c κs. search rules) (λ c κs. search rules) (λ c. search rules) (λ c. search rules) (λ c κs. search rules)
-    (λ c. c.end_short.ensures ∙ sign-over _ _ _ c.before.before.before.before.if1.true (when-end _ _ _ (sym c.before.enum_told.given.1 ∙ c.before.before.before.next-group.ensures)))
+    (λ c. c.end_short.ensures ∙ sign-over _ _ _ c.if-ship.true (when-end _ _ _ (sym c.in_default.is ∙ c.next_group.ensures)))
     (λ c κs. search rules) (λ c κs. search rules) (λ c κs. search rules) (λ c κs. search rules)
-    (λ c. c.refuse.ensures ∙ sign-other _ _ _ _ _ c.before.before.before.before.before.before.before.before.if1.true (follows c.before.before.before.before) c.before.before.before.part.ensures (sym c.before.before.is-call-sign.ensures ∙ c.before.if2.false))
+    (λ c. c.refuse.ensures ∙ sign-other _ _ _ _ _ c.if-ship.true (follows c.before.before.before.before) c.part-g.ensures (sym c.is_call_sign.ensures ∙ c.if-is_call_sign.false))
     (λ c κs. search rules)
     (λ c.
-    c.read-posts.ensures
-    ∙ elim c.before.if1.branch [
-      | inl w ↦ sign-stands _ _ _ _ _ w.0.taken (when-group _ _ _ _ (sym w.3.given.1 ∙ w.1.ensures)) w.5.ensures (sym w.6.ensures ∙ w.7.taken) c.before.before.begin.ensures w.9.ensures w.10 w.11
-      | inr w ↦ land-walks _ _ _ w.0.left c.before.before.begin.ensures w.1 w.2
+    c.read_posts.ensures
+    ∙ elim c.if-ship.branch [
+      | then-ship+in-Group+then-is_call_sign w ↦ sign-stands _ _ _ _ _ w.if-ship.true (when-group _ _ _ _ (sym w.in-Group.is ∙ w.next_group.ensures)) w.part-g.ensures (sym w.is_call_sign.ensures ∙ w.if-is_call_sign.true) c.begin-report.ensures w.sign_of-sign.ensures w.report-is w.from-is
+      | else-ship w ↦ land-walks _ _ _ w.if-ship.false c.begin-report.ensures w.report-is w.from-is
     ]))

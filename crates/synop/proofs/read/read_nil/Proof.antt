@@ -14,13 +14,13 @@ read_nil_spec =
     (λ c κs. search rules) (λ c. search rules) (λ c κs. search rules) (λ c. search rules) (λ c κs. search rules) (λ c. search rules)
     (λ c κs. search rules) (λ c. search rules) (λ c κs. search rules)
     (λ c.
-    let a = c.before.before.before.before.before.before.args in
-    c.refuse.ensures ∙ nil-then a.text.now a.at a.report _ _ (when-group _ _ _ _ (sym c.before.before.next.given.1 ∙ c.before.before.before.before.next-group.ensures)))
+    let a = c.args in
+    c.refuse.ensures ∙ nil-then a.text.now a.at a.report _ _ (when-group _ _ _ _ (sym c.in-Group.is ∙ c.next_group-next.ensures)))
     (λ c.
-    let a = c.before.before.before.before.before.before.before.before.before.args in
-    c.refuse2.ensures
-    ∙ nil-over a.text.now a.at a.report _ (when-end _ _ _ (sym c.before.before.before.before.before.enum_told.given.1 ∙ c.before.before.before.before.before.before.before.next-group.ensures)) (sym c.before.before.tail2.given.1 ∙ c.before.before.before.before.tail.ensures))
+    let a = c.args in
+    c.refuse-in-Junk.ensures
+    ∙ nil-over a.text.now a.at a.report _ (when-end _ _ _ (sym c.in-End.is ∙ c.next_group-next.ensures)) (sym c.in-Junk.is ∙ c.tail-tail.ensures))
     (λ c.
-    let a = c.before.before.before.before.before.before.before.before.before.args in
+    let a = c.args in
     c.accept.ensures
-    ∙ nil-over a.text.now a.at a.report _ (when-end _ _ _ (sym c.before.before.before.before.before.enum_told.given.1 ∙ c.before.before.before.before.before.before.before.next-group.ensures)) (sym c.before.before.enum-told2.given.1 ∙ c.before.before.before.before.tail.ensures)))
+    ∙ nil-over a.text.now a.at a.report _ (when-end _ _ _ (sym c.in-End.is ∙ c.next_group-next.ensures)) (sym c.in-Clear.is ∙ c.tail-tail.ensures)))

@@ -12,5 +12,5 @@ air_of_spec =
     tie.close
     (tie.spec
     (λ c κs. search rules) (λ c. search rules) (λ c. search rules) (λ c κs. search rules)
-    (λ c. rw (← c.before.before.before.signed-reading.ensures, c.before.r.given.1, same_bits c.known-told.given.0.1))
-    (λ c. rw (← c.before.before.before.signed-reading.ensures, c.before.enum_told.given.1) c.wrong-figure.ensures))
+    (λ c. rw (← c.signed_reading-r.ensures, c.in-Is.is, same_bits c.in-Is.known_told-1-own.given.0.1))
+    (λ c. rw (← c.signed_reading-r.ensures, c.in-Unused.is) c.wrong_figure.ensures))

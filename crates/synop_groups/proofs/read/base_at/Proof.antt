@@ -11,8 +11,8 @@ base_at_spec =
     tie.close
     (tie.spec
     (λ c κs. search rules) (λ c. search rules) (λ c κs. search rules) (λ c. search rules) (λ c. search rules) (λ c. search rules) (λ c. search rules) (λ c. search rules)
-    (λ c. rw (← c.before.before.before.before.before.before.before.field.ensures, c.before.before.before.before.before.f.given.1, ← c.before.before.before.base-reading.ensures, c.before.r.given.1))
-    (λ c. rw (← c.before.before.before.before.before.before.field.ensures, c.before.before.before.before.f.given.1, ← c.before.before.base-reading.ensures, c.enum_told.given.1))
-    (λ c. rw (← c.before.before.field.ensures, c.enum-told2.given.1))
-    (λ c. rw (← c.before.before.field.ensures, c.enum-told3.given.1))
-    (λ c. rw (← c.before.before.field.ensures, c.enum-told4.given.1)))
+    (λ c. rw (← c.field-f.ensures, c.in-Number.is, ← c.base_reading-r.ensures, c.in-Is.is))
+    (λ c. rw (← c.field-f.ensures, c.in-Number.is, ← c.base_reading-r.ensures, c.in-Unused.is))
+    (λ c. rw (← c.field-f.ensures, c.in-Missing.is))
+    (λ c. rw (← c.field-f.ensures, c.in-Mixed.is))
+    (λ c. rw (← c.field-f.ensures, c.in-Other.is)))

@@ -12,7 +12,7 @@ height_of_spec =
     tie.close
     (tie.spec
     (λ c κs. search rules) (λ c. search rules) (λ c. search rules) (λ c κs. search rules) (λ c. search rules) (λ c. search rules)
-    (λ c. rw (le-leb _ _ c.before.before.before.before.if1.true, ← c.before.before.before.bands-reading.ensures, c.before.r.given.1))
-    (λ c. rw (le-leb _ _ c.before.before.before.if1.true, ← c.before.before.bands-reading.ensures, c.enum_told.given.1))
-    (λ c. rw (lt-leb _ _ c.before.before.before.before.if1.false, ← c.before.before.before.steps-reading.ensures, c.before.r2.given.1))
-    (λ c. rw (lt-leb _ _ c.before.before.before.if1.false, ← c.before.before.steps-reading.ensures, c.enum-told2.given.1)))
+    (λ c. rw (le-leb _ _ c.if-n-ge90.true, ← c.bands_reading-r.ensures, c.in-Is.is))
+    (λ c. rw (le-leb _ _ c.if-n-ge90.true, ← c.bands_reading-r.ensures, c.in-Unused.is))
+    (λ c. rw (lt-leb _ _ c.if-n-ge90.false, ← c.steps_reading-r.ensures, c.in-Is-r.is))
+    (λ c. rw (lt-leb _ _ c.if-n-ge90.false, ← c.steps_reading-r.ensures, c.in-Unused-r.is)))

@@ -10,5 +10,5 @@ unfolding level_is
 level_of_spec =
     tie.close
     (tie.spec
-    (λ c κs. search readings) (λ c. rw (c.pressure-of.ensures, c.before.if1.true)) (λ c κs. search readings)
+    (λ c κs. search readings) (λ c. rw (c.pressure_of.ensures, c.if-n.true)) (λ c κs. search readings)
     (λ c. search readings) (λ c. search readings))

@@ -11,4 +11,4 @@ magnitude_of_spec =
     tie.close
     (tie.spec
     (λ c. search rules) (λ c. search rules) (λ c κs. search rules) (λ c. search rules)
-    (λ c. rw c.before.before.t.given.1 (c.magnitude.ensures ∙ rw (same_bits c.before.known-told.given.0.1))))
+    (λ c. rw c.in-Is.is (c.magnitude.ensures ∙ rw (same_bits c.in-Is.known_told-1-own.given.0.1))))

@@ -12,9 +12,9 @@ unfolding moisture_is
 moisture_of_spec =
     tie.close
     (tie.spec
-    (λ c. rw (eq-eqb _ _ c.before.if1.true, le-leb _ _ c.if2.true))
+    (λ c. rw (eq-eqb _ _ c.if-n-eq9.true, le-leb _ _ c.if-figures-le100.true))
     (λ c κs. search rules)
-    (λ c. rw (eq-eqb _ _ c.before.before.if1.true, lt-leb _ _ c.before.if2.false) c.wrong-figure.ensures)
+    (λ c. rw (eq-eqb _ _ c.if-n-eq9.true, lt-leb _ _ c.if-figures-le100.false) c.wrong_figure.ensures)
     (λ c κs. search rules) (λ c. search rules) (λ c. search rules) (λ c κs. search rules)
-    (λ c. rw (ne_eqb _ _ c.before.before.before.before.if1.false, ← c.before.before.before.signed-reading.ensures, c.before.r.given.1, same_bits c.known-told.given.0.1))
-    (λ c. rw (ne_eqb _ _ c.before.before.before.before.if1.false, ← c.before.before.before.signed-reading.ensures, c.before.enum_told.given.1) c.wrong-figure2.ensures))
+    (λ c. rw (ne_eqb _ _ c.if-n-eq9.false, ← c.signed_reading-r.ensures, c.in-Is.is, same_bits c.in-Is.known_told-1-own.given.0.1))
+    (λ c. rw (ne_eqb _ _ c.if-n-eq9.false, ← c.signed_reading-r.ensures, c.in-Unused.is) c.wrong_figure-in-Unused.ensures))

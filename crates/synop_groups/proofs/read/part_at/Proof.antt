@@ -11,7 +11,7 @@ part_at_spec =
     tie.close
     (tie.spec
     (λ c κs. search rules) (λ c. search rules) (λ c. search rules) (λ c. search rules) (λ c. search rules)
-    (λ c. rw (← c.before.before.before.field.ensures, c.before.f.given.1))
-    (λ c. rw (← c.before.before.field.ensures, c.enum_told.given.1))
-    (λ c. rw (← c.before.before.field.ensures, c.enum-told2.given.1))
-    (λ c. rw (← c.before.before.field.ensures, c.enum-told3.given.1)))
+    (λ c. rw (← c.field-f.ensures, c.in-Number.is))
+    (λ c. rw (← c.field-f.ensures, c.in-Missing.is))
+    (λ c. rw (← c.field-f.ensures, c.in-Mixed.is))
+    (λ c. rw (← c.field-f.ensures, c.in-Other.is)))

@@ -12,16 +12,16 @@ unfolding position_of
 position_of_spec =
     tie.close
     (tie.spec
-    (λ c κs. search rules) (λ c. rw (lt-leb _ _ c.before.if1.true) c.wrong-figure.ensures)
-    (λ c κs. search rules) (λ c. rw (le-leb _ _ c.before.before.if1.false, lt-leb _ _ c.before.if2.true) c.wrong-figure2.ensures)
+    (λ c κs. search rules) (λ c. rw (lt-leb _ _ c.if-latitude-gt900.true) c.wrong_figure.ensures)
+    (λ c κs. search rules) (λ c. rw (le-leb _ _ c.if-latitude-gt900.false, lt-leb _ _ c.if-longitude-gt1800.true) c.wrong_figure-then-longitude-gt1800.ensures)
     (λ c κs. search rules) (λ c κs. search rules) (λ c κs. search rules)
     (λ c. rw (
-      le-leb _ _ c.before.before.before.before.if1.false,
-      le-leb _ _ c.before.before.before.if2.false,
-      c.before.before.if3.true,
-      same_bits c.before.with-sign.type-inv,
-      same_bits c.with-sign2.type-inv,
-      c.before.with-sign.ensures,
-      c.with-sign2.ensures,
+      le-leb _ _ c.if-latitude-gt900.false,
+      le-leb _ _ c.if-longitude-gt1800.false,
+      c.if-quadrant.true,
+      same_bits c.with_sign.type_inv,
+      same_bits c.with_sign-then-quadrant.type_inv,
+      c.with_sign.ensures,
+      c.with_sign-then-quadrant.ensures,
     ))
-    (λ c. rw (le-leb _ _ c.before.before.before.if1.false, le-leb _ _ c.before.before.if2.false, c.before.if3.false) c.wrong-figure3.ensures))
+    (λ c. rw (le-leb _ _ c.if-latitude-gt900.false, le-leb _ _ c.if-longitude-gt1800.false, c.if-quadrant.false) c.wrong_figure-else-quadrant.ensures))

@@ -9,5 +9,5 @@ rainfall_of_spec =
     tie.close
     (tie.spec
     (λ c κs. search rules) (λ c. search rules) (λ c κs. search rules) (λ c. search rules) (λ c κs. search rules)
-    (λ c. rw (← c.before.before.before.before.rain-reading.ensures, c.before.before.r.given.1) c.unless-forbidden.ensures)
-    (λ c. rw (← c.before.before.before.rain-reading.ensures, c.before.enum_told.given.1) c.wrong-figure.ensures))
+    (λ c. rw (← c.rain_reading-r.ensures, c.in-Is.is) c.unless_forbidden.ensures)
+    (λ c. rw (← c.rain_reading-r.ensures, c.in-Unused.is) c.wrong_figure.ensures))

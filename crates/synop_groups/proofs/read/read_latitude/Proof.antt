@@ -11,5 +11,5 @@ read_latitude_spec =
     tie.close
     (tie.spec
     (λ c κs. search readings) (λ c. search readings) (λ c κs. search readings) (λ c. search readings)
-    (λ c κs. search readings) (λ c κs. search readings) (λ c. rw (same_bits c.with-sign.type-inv, c.with-sign.ensures) (search readings))
+    (λ c κs. search readings) (λ c κs. search readings) (λ c. rw (same_bits c.with_sign.type_inv, c.with_sign.ensures) (search readings))
     (λ c. search readings))

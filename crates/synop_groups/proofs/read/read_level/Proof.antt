@@ -10,6 +10,6 @@ unfolding said_level
 read_level_spec =
     tie.close
     (tie.spec
-    (λ c κs. search readings) (λ c. search readings) (λ c κs. small _ 1 4 c.before.before.before.field.ensures c.before.f.given.1) (λ c. search readings) (λ c κs. search readings) (λ c. search readings)
+    (λ c κs. search readings) (λ c. search readings) (λ c κs. small _ 1 4 c.field-f.ensures c.in-Number.is) (λ c. search readings) (λ c κs. search readings) (λ c. search readings)
     (λ c. search readings)
     (λ c. search readings))

@@ -12,4 +12,4 @@ read_longitude_spec =
     (tie.spec
     (λ c κs. search readings) (λ c. search readings) (λ c κs. search readings) (λ c. search readings)
     (λ c κs. search readings) (λ c. search readings) (λ c κs. search readings) (λ c. search readings)
-    (λ c κs. search readings) (λ c κs. search readings) (λ c. rw (← c.before.magnitude-of.ensures) (search readings)))
+    (λ c κs. search readings) (λ c κs. search readings) (λ c. rw (← c.magnitude_of.ensures) (search readings)))

@@ -11,4 +11,4 @@ tendency_of_spec =
     tie.close
     (tie.spec
     (λ c κs. search readings) (λ c. search readings) (λ c κs. search readings)
-    (λ c. rw (same_bits c.with-sign.type-inv, c.with-sign.ensures, c.before.if1.false)))
+    (λ c. rw (same_bits c.with_sign.type_inv, c.with_sign.ensures, c.if-a-p.false)))

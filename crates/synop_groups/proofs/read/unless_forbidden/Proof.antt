@@ -8,4 +8,4 @@ pub unless_forbidden_spec : {M : Type 1} → statement M
 unless_forbidden_spec =
     tie.close
     (tie.spec
-    (λ c κs. search rules) (λ c. rw c.before.if1.true c.disagreement.ensures) (λ c. rw c.if1.false))
+    (λ c κs. search rules) (λ c. rw c.if-forbidden.true c.disagreement.ensures) (λ c. rw c.if-forbidden.false))

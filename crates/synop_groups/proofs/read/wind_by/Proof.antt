@@ -11,8 +11,8 @@ unfolding wind_by
 wind_by_spec =
     tie.close
     (tie.spec
-    (λ c κs. search rules) (λ c. rw (eq-eqb _ _ c.before.if1.true) c.wind-of.ensures)
-    (λ c κs. search rules) (λ c. rw (ne_eqb _ _ c.before.before.if1.false, eq-eqb _ _ c.before.if2.true) c.wind-of2.ensures)
+    (λ c κs. search rules) (λ c. rw (eq-eqb _ _ c.if-tens-eq0.true) c.wind_of.ensures)
+    (λ c κs. search rules) (λ c. rw (ne_eqb _ _ c.if-tens-eq0.false, eq-eqb _ _ c.if-tens-eq99.true) c.wind_of-then-tens-eq99.ensures)
     (λ c κs. search rules) (λ c. search rules) (λ c κs. search rules) (λ c. search rules) (λ c κs. search rules)
-    (λ c. rw (ne_eqb _ _ c.before.before.before.before.before.before.if1.false, ne_eqb _ _ c.before.before.before.before.before.if2.false, ← c.before.before.before.before.direction-reading.ensures, c.before.before.r.given.1) c.wind-of3.ensures)
-    (λ c. rw (ne_eqb _ _ c.before.before.before.before.before.if1.false, ne_eqb _ _ c.before.before.before.before.if2.false, ← c.before.before.before.direction-reading.ensures, c.before.enum_told.given.1) c.wrong-figure.ensures))
+    (λ c. rw (ne_eqb _ _ c.if-tens-eq0.false, ne_eqb _ _ c.if-tens-eq99.false, ← c.direction_reading-r.ensures, c.in-Is.is) c.wind_of-in-Is.ensures)
+    (λ c. rw (ne_eqb _ _ c.if-tens-eq0.false, ne_eqb _ _ c.if-tens-eq99.false, ← c.direction_reading-r.ensures, c.in-Unused.is) c.wrong_figure.ensures))

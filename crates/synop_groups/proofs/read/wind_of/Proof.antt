@@ -11,5 +11,5 @@ wind_of_spec =
     tie.close
     (tie.spec
     (λ c κs. search rules)
-    (λ c. rw (agree-is c.before.args.calm (eqb c.before.args.speed 0), c.if1.true))
-    (λ c. rw (agree-is c.before.before.args.calm (eqb c.before.before.args.speed 0), c.before.if1.false) c.disagreement.ensures))
+    (λ c. rw (agree-is c.args.calm (eqb c.args.speed 0), c.if-calm-still.true))
+    (λ c. rw (agree-is c.args.calm (eqb c.args.speed 0), c.if-calm-still.false) c.disagreement.ensures))

@@ -8,5 +8,5 @@ slot_fits_spec =
     tie.close
     (tie.spec
     (λ c κs. tt) (λ c κs. tt)
-    (λ c. rw (c.before.before.if1.true, c.before.is-letter.ensures, c.is-figure.ensures))
-    (λ c. rw c.if1.false))
+    (λ c. rw (c.if-filled.true, c.is_letter.ensures, c.is_figure.ensures))
+    (λ c. rw c.if-filled.false))

@@ -10,10 +10,10 @@ use Rattle.figures.proofs.Every.{every-next, every-stop, every-end}
 use Rattle.synop_groups.proofs.sign.slots_fit.Statement.{statement}
 use Rattle.synop_groups.proofs.sign.slots_fit.Tie as tie
 
-abbrev Inv : tie.invariant-loop
+abbrev Inv : tie.invariant-loop-i
 Inv filled s i₀ i = (i ≤ length s) × (every (slot_fits filled) s ≡ every (slot_fits filled) (drop i s))
 
-abbrev μ : tie.decreases-loop
+abbrev μ : tie.decreases-loop-i
 μ filled s i₀ i = length s - i
 
 pub slots_fit_spec : {M : Type 1} → statement M
@@ -24,12 +24,12 @@ slots_fit_spec =
     (λ c. search rules) (λ c κs. tt) (λ c. search rules) (λ c. search rules)
     (λ c.
     let d = c.before.before.before.before in
-    let e = d.before.before in
-    (search rules, d.loop.invariant.1 ∙ every-next (slot_fits e.args.filled) e.args.s.now d.loop.i 0 (search rules) (sym c.before.slot-fits.ensures ∙ c.if1.true)))
+    let e = d in
+    (search rules, d.loop-i.invariant.1 ∙ every-next (slot_fits e.args.filled) e.args.s.now d.loop-i.i 0 (search rules) (sym c.slot_fits.ensures ∙ c.if-slot_fits.true)))
     (λ c.
     let d = c.before.before.before.before in
-    let e = d.before.before in
-    sym (d.loop.invariant.1 ∙ every-stop (slot_fits e.args.filled) e.args.s.now d.loop.i 0 (search rules) (sym c.before.slot-fits.ensures ∙ c.if1.false)))
+    let e = d in
+    sym (d.loop-i.invariant.1 ∙ every-stop (slot_fits e.args.filled) e.args.s.now d.loop-i.i 0 (search rules) (sym c.slot_fits.ensures ∙ c.if-slot_fits.false)))
     (λ c.
     let d = c.before.before.before in
-    sym (c.before.loop.invariant.1 ∙ every-end (slot_fits d.args.filled) d.args.s.now c.before.loop.i (search rules))))
+    sym (c.loop-i.invariant.1 ∙ every-end (slot_fits d.args.filled) d.args.s.now c.loop-i.i (search rules))))

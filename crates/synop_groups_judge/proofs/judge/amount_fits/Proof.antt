@@ -9,4 +9,4 @@ amount_fits_spec =
     tie.close
     (tie.spec
     (λ c. search rules) (λ c. search rules) (λ c. search rules)
-    (λ c. rw c.before.r.given.1))
+    (λ c. rw c.in-Tenths.is))

@@ -12,5 +12,5 @@ change_agrees_spec =
     (tie.spec
     (λ c. search rules) (λ c. search rules) (λ c κs. tt) (λ c. search rules)
     (λ c.
-    let back = to_z-of_z w32 c.before.before.c.given.0.1.0 (search rules) in
-    rw c.before.before.c.given.1 (rw back at c.change-suits.ensures)))
+    let back = to_z-of_z w32 c.in-Is.change (search rules) in
+    rw c.in-Is.is (rw back at c.change_suits.ensures)))

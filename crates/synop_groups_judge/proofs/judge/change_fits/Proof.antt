@@ -11,4 +11,4 @@ change_fits_spec =
     tie.close
     (tie.spec
     (λ c. search rules) (λ c. search rules) (λ c κs. tt) (λ c. search rules)
-    (λ c. let back = to_z-of_z w32 c.before.before.c.given.0.1.0 (search rules) in rw (c.before.before.c.given.1, c.magnitude.ensures, back)))
+    (λ c. let back = to_z-of_z w32 c.in-Is.change (search rules) in rw (c.in-Is.is, c.magnitude.ensures, back)))

@@ -15,13 +15,13 @@ change_suits_spec =
     (λ c.
     let d = c.before.before.before in
     let back = to_z-of_z w32 d.args.change (search rules) in
-    rw (lt-ltb _ _ c.if1.true, c.before.before.is_negative.ensures, back))
+    rw (lt-ltb _ _ c.if-tendency-lt4.true, c.is_negative-fall.ensures, back))
     (λ c.
     let d = c.before.before.before.before in
     let back = to_z-of_z w32 d.args.change (search rules) in
-    rw (le-ltb _ _ c.before.if1.false, eq-eqb _ _ c.if2.true, c.before.before.magnitude.ensures, back))
+    rw (le-ltb _ _ c.if-tendency-lt4.false, eq-eqb _ _ c.if-tendency-eq4.true, c.magnitude-none.ensures, back))
     (λ c.
     let d = c.before.before.before in
-    let e = d.before in
+    let e = d in
     let back = to_z-of_z w32 e.args.change (search rules) in
-    rw (le-ltb _ _ c.before.if1.false, ne_eqb _ _ c.if2.false, d.is_negative.ensures, c.before.before.magnitude.ensures, back)))
+    rw (le-ltb _ _ c.if-tendency-lt4.false, ne_eqb _ _ c.if-tendency-eq4.false, d.is_negative-fall.ensures, c.magnitude-none.ensures, back)))

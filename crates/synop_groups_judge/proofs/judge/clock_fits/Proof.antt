@@ -9,4 +9,4 @@ clock_fits_spec =
     tie.close
     (tie.spec
     (λ c. search rules) (λ c. search rules) (λ c. search rules)
-    (λ c. rw c.before.o.given.1))
+    (λ c. rw c.in-At.is))

@@ -9,4 +9,4 @@ fall_fits_spec =
     tie.close
     (tie.spec
     (λ c. search rules) (λ c. search rules) (λ c κs. tt) (λ c κs. tt) (λ c. search rules)
-    (λ c. rw (c.before.before.before.f.given.1, c.before.amount-fits.ensures, c.is-missing-or-between.ensures)))
+    (λ c. rw (c.in-Is.is, c.amount_fits.ensures, c.is_missing_or_between.ensures)))

@@ -9,4 +9,4 @@ judge_air_spec =
     tie.close
     (tie.spec
     (λ c κs. tt) (λ c κs. tt)
-    (λ c. unfold judge_air in rw (c.judge.ensures, c.before.tenths-fit.ensures)))
+    (λ c. unfold judge_air in rw (c.judge.ensures, c.tenths_fit.ensures)))

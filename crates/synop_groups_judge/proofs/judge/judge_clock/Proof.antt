@@ -9,4 +9,4 @@ judge_clock_spec =
     tie.close
     (tie.spec
     (λ c κs. tt) (λ c κs. tt)
-    (λ c. unfold judge_clock in rw (c.judge.ensures, c.before.clock-fits.ensures)))
+    (λ c. unfold judge_clock in rw (c.judge.ensures, c.clock_fits.ensures)))

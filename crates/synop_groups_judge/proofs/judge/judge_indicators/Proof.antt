@@ -12,7 +12,7 @@ judge_indicators_spec =
     (λ c κs. tt) (λ c κs. tt) (λ c κs. tt) (λ c κs. tt) (λ c κs. tt)
     (λ c.
     let d = c.before.before.before in
-    let e = d.before in
+    let e = d in
     unfold judge_indicators in
-    let base = c.before.before.is-missing-or-between.ensures in
-    rw (c.judge.ensures, e.is-between.ensures, d.is-between2.ensures, base, optional-metres, c.before.sight-fits.ensures)))
+    let base = c.is_missing_or_between.ensures in
+    rw (c.judge.ensures, e.is_between.ensures, d.is_between-2.ensures, base, optional-metres, c.sight_fits.ensures)))

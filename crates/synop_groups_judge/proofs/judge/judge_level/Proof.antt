@@ -9,4 +9,4 @@ judge_level_spec =
     tie.close
     (tie.spec
     (λ c κs. tt) (λ c κs. tt)
-    (λ c. unfold judge_level in rw (c.judge.ensures, c.before.level-fits.ensures)))
+    (λ c. unfold judge_level in rw (c.judge.ensures, c.level_fits.ensures)))

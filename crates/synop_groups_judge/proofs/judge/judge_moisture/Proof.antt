@@ -9,4 +9,4 @@ judge_moisture_spec =
     tie.close
     (tie.spec
     (λ c κs. tt) (λ c κs. tt)
-    (λ c. unfold judge_moisture in rw (c.judge.ensures, c.before.moist-fits.ensures)))
+    (λ c. unfold judge_moisture in rw (c.judge.ensures, c.moist_fits.ensures)))

@@ -9,4 +9,4 @@ judge_position_spec =
     tie.close
     (tie.spec
     (λ c κs. tt) (λ c κs. tt) (λ c κs. tt)
-    (λ c. unfold judge_position in rw (c.judge.ensures, c.before.before.latitude-fits.ensures, c.before.longitude-fits.ensures)))
+    (λ c. unfold judge_position in rw (c.judge.ensures, c.latitude_fits.ensures, c.longitude_fits.ensures)))

@@ -9,4 +9,4 @@ judge_pressure_spec =
     tie.close
     (tie.spec
     (λ c κs. tt) (λ c κs. tt)
-    (λ c. unfold judge_pressure in rw (c.judge.ensures, c.before.is-missing-or-between.ensures)))
+    (λ c. unfold judge_pressure in rw (c.judge.ensures, c.is_missing_or_between.ensures)))

@@ -9,4 +9,4 @@ judge_rainfall_spec =
     tie.close
     (tie.spec
     (λ c κs. tt) (λ c κs. tt) (λ c κs. tt)
-    (λ c. unfold judge_rainfall in rw (c.judge.ensures, c.before.before.fall-fits.ensures, c.before.is-missing.ensures)))
+    (λ c. unfold judge_rainfall in rw (c.judge.ensures, c.fall_fits.ensures, c.is_missing.ensures)))

@@ -11,6 +11,6 @@ judge_sign_spec =
     (tie.spec
     (λ c. search rules) (λ c κs. tt) (λ c κs. tt) (λ c κs. tt) (λ c κs. tt)
     (λ c.
-    let d = c.before.before in
+    let d = c in
     unfold judge_sign in
-    rw (c.judge.ensures, c.before.is-blank-from.ensures, d.slots-fit.ensures, d.before.name-part.ensures)))
+    rw (c.judge.ensures, c.is_blank_from-blank.ensures, d.slots_fit-name.ensures, d.name_part.ensures)))

@@ -9,4 +9,4 @@ judge_station_spec =
     tie.close
     (tie.spec
     (λ c κs. tt) (λ c κs. tt)
-    (λ c. unfold judge_station in rw (c.judge.ensures, c.before.is-between.ensures)))
+    (λ c. unfold judge_station in rw (c.judge.ensures, c.is_between.ensures)))

@@ -9,4 +9,4 @@ judge_tendency_spec =
     tie.close
     (tie.spec
     (λ c κs. tt) (λ c κs. tt) (λ c κs. tt)
-    (λ c. unfold judge_tendency in rw (c.judge.ensures, c.before.before.change-fits.ensures, c.before.change-agrees.ensures)))
+    (λ c. unfold judge_tendency in rw (c.judge.ensures, c.change_fits.ensures, c.change_agrees.ensures)))

@@ -10,6 +10,6 @@ judge_time_spec =
     (tie.spec
     (λ c κs. tt) (λ c κs. tt) (λ c κs. tt) (λ c κs. tt)
     (λ c.
-    let d = c.before.before.before in
+    let d = c in
     unfold judge_time in
-    rw (c.judge.ensures, d.is-between.ensures, c.before.before.is-between2.ensures, c.before.unit-fits.ensures)))
+    rw (c.judge.ensures, d.is_between.ensures, c.is_between-2.ensures, c.unit_fits.ensures)))

@@ -11,6 +11,6 @@ judge_weather_spec =
     (λ c κs. tt) (λ c κs. tt) (λ c κs. tt) (λ c κs. tt) (λ c κs. tt)
     (λ c.
     let d = c.before.before.before in
-    let e = d.before in
+    let e = d in
     unfold judge_weather in
-    rw (c.judge.ensures, e.is-missing-or-between.ensures, d.is-missing-or-between2.ensures, c.before.before.is-missing-or-between3.ensures, c.before.is-blank.ensures)))
+    rw (c.judge.ensures, e.is_missing_or_between.ensures, d.is_missing_or_between-2.ensures, c.is_missing_or_between-3.ensures, c.is_blank.ensures)))

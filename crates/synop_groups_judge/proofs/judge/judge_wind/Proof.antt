@@ -10,6 +10,6 @@ judge_wind_spec =
     (tie.spec
     (λ c κs. tt) (λ c κs. tt) (λ c κs. tt) (λ c κs. tt)
     (λ c.
-    let d = c.before.before.before in
+    let d = c in
     unfold judge_wind in
-    rw (c.judge.ensures, d.is-missing-or-between.ensures, c.before.before.wind-fits.ensures, c.before.wind-agrees.ensures)))
+    rw (c.judge.ensures, d.is_missing_or_between.ensures, c.wind_fits.ensures, c.wind_agrees.ensures)))

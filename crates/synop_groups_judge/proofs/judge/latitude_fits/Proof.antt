@@ -11,4 +11,4 @@ latitude_fits_spec =
     tie.close
     (tie.spec
     (λ c. search rules) (λ c. search rules) (λ c κs. tt) (λ c. search rules)
-    (λ c. let back = to_z-of_z w32 c.before.before.t.given.0.0 (search rules) in rw (c.before.before.t.given.1, c.magnitude.ensures, back)))
+    (λ c. let back = to_z-of_z w32 c.in-Is.t (search rules) in rw (c.in-Is.is, c.magnitude.ensures, back)))

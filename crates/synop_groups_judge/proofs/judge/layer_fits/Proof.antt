@@ -11,4 +11,4 @@ layer_fits_spec =
     (λ c κs. tt) (λ c κs. tt) (λ c κs. tt) (λ c κs. tt)
     (λ c.
     unfold layer_fits in
-    rw (c.height-fits.ensures, c.before.is-missing-or-between2.ensures, c.before.before.is-missing-or-between.ensures, c.before.before.before.is-blank.ensures)))
+    rw (c.height_fits.ensures, c.is_missing_or_between-2.ensures, c.is_missing_or_between.ensures, c.is_blank.ensures)))

@@ -9,5 +9,5 @@ level_fits_spec =
     tie.close
     (tie.spec
     (λ c. search rules) (λ c. search rules) (λ c. search rules) (λ c. search rules)
-    (λ c. rw c.before.h.given.1)
-    (λ c. rw c.before.h2.given.1))
+    (λ c. rw c.in-Pressure.is)
+    (λ c. rw c.in-Isobaric.is))

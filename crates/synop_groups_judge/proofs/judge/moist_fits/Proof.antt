@@ -11,5 +11,5 @@ moist_fits_spec =
     tie.close
     (tie.spec
     (λ c. search rules) (λ c. search rules) (λ c κs. tt) (λ c. search rules) (λ c. search rules)
-    (λ c. let back = to_z-of_z w32 c.before.before.m.given.0.0 (search rules) in rw (c.before.before.m.given.1, c.magnitude.ensures, back))
-    (λ c. rw c.before.m2.given.1))
+    (λ c. let back = to_z-of_z w32 c.in-DewPoint.t (search rules) in rw (c.in-DewPoint.is, c.magnitude.ensures, back))
+    (λ c. rw c.in-Humidity.is))

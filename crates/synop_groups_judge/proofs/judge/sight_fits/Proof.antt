@@ -9,5 +9,5 @@ sight_fits_spec =
     tie.close
     (tie.spec
     (λ c. search rules) (λ c. search rules) (λ c. search rules) (λ c. search rules)
-    (λ c. rw c.before.s.given.1)
-    (λ c. rw c.before.s2.given.1))
+    (λ c. rw c.in-Land.is)
+    (λ c. rw c.in-Sea.is))

@@ -9,4 +9,4 @@ unit_fits_spec =
     tie.close
     (tie.spec
     (λ c. search rules) (λ c. search rules) (λ c. search rules)
-    (λ c. rw c.before.n.given.1))
+    (λ c. rw c.in-Is.is))

@@ -9,7 +9,7 @@ wind_fits_spec =
     tie.close
     (tie.spec
     (λ c. search rules) (λ c κs. tt) (λ c. search rules) (λ c κs. tt) (λ c. search rules) (λ c κs. tt) (λ c. search rules) (λ c κs. tt)
-    (λ c. rw c.before.enum_told.given.1 c.is-missing.ensures)
-    (λ c. rw c.before.enum-told2.given.1 c.speed-fits.ensures)
-    (λ c. rw c.before.enum-told3.given.1 c.speed-fits2.ensures)
-    (λ c. rw (c.before.before.d.given.1, c.speed-fits3.ensures)))
+    (λ c. rw c.in-Missing.is c.is_missing.ensures)
+    (λ c. rw c.in-Calm.is c.speed_fits.ensures)
+    (λ c. rw c.in-Variable.is c.speed_fits-in-Variable.ensures)
+    (λ c. rw (c.in-Degrees.is, c.speed_fits-in-Degrees.ensures)))

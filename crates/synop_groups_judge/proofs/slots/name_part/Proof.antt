@@ -10,6 +10,6 @@ pub name_part_spec : {M : Type 1} → statement M
 name_part_spec =
     tie.close
     (tie.spec
-    (λ c. sym (length-take-le c.before.before.args.length c.before.before.args.s.now c.before.if1.true))
+    (λ c. sym (length-take-le c.args.length c.args.s.now c.if-length-s.true))
     (λ c. search rules)
-    (λ c. sym (take_all c.before.args.length c.before.args.s.now (search rules))))
+    (λ c. sym (take_all c.args.length c.args.s.now (search rules))))

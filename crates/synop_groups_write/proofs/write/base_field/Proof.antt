@@ -9,4 +9,4 @@ base_field_spec =
     tie.close
     (tie.spec
     (λ c. search rules) (λ c. search rules) (λ c κs. tt) (λ c κs. tt) (λ c. search rules)
-    (λ c. rw c.before.before.before.base.given.1 (rw c.before.base-figure.ensures at c.field-by.ensures)))
+    (λ c. rw c.in-Is.is (rw c.base_figure.ensures at c.field_by.ensures)))

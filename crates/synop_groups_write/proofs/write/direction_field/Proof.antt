@@ -10,4 +10,4 @@ direction_field_spec =
     (tie.spec
     (λ c. search rules) (λ c. search rules) (λ c. search rules) (λ c. search rules) (λ c κs. tt) (λ c κs. tt) (λ c. search rules) (λ c. search rules)
     (λ c. search rules)
-    (λ c. rw c.before.before.before.direction.given.1 (rw c.before.direction-figure.ensures at c.field-by.ensures)))
+    (λ c. rw c.in-Degrees.is (rw c.direction_figure.ensures at c.field_by.ensures)))

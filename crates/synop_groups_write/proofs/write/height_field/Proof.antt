@@ -9,5 +9,5 @@ height_field_spec =
     tie.close
     (tie.spec
     (λ c. search rules) (λ c. search rules) (λ c κs. tt) (λ c κs. tt) (λ c. search rules) (λ c κs. tt) (λ c κs. tt) (λ c. search rules)
-    (λ c. rw c.before.before.before.height.given.1 (rw c.before.steps-figure.ensures at c.field-by.ensures))
-    (λ c. rw c.before.before.before.height2.given.1 (rw c.before.bands-figure.ensures at c.field-by2.ensures)))
+    (λ c. rw c.in-Steps.is (rw c.steps_figure.ensures at c.field_by.ensures))
+    (λ c. rw c.in-Bands.is (rw c.bands_figure.ensures at c.field_by-in-Bands.ensures)))

@@ -12,5 +12,5 @@ is_minus_spec =
     (tie.spec
     (λ c. search rules) (λ c. search rules) (λ c κs. tt) (λ c. search rules)
     (λ c.
-    let back = to_z-of_z w32 c.before.before.t.given.0.0 (search rules) in
-    rw c.before.before.t.given.1 (rw back at c.is_negative.ensures)))
+    let back = to_z-of_z w32 c.in-Is.t (search rules) in
+    rw c.in-Is.is (rw back at c.is_negative.ensures)))

@@ -12,6 +12,6 @@ put_clock_spec =
     tie.close
     (tie.spec
     (λ c. search rules) (λ c. search rules) (λ c κs. tt)
-    (λ c. unfold show_clock in rw c.enum_told.given.1 (write-none _ _))
+    (λ c. unfold show_clock in rw c.in-Missing.is (write-none _ _))
     (λ c. search rules)
-    (λ c. unfold show_clock number_text in rw c.before.before.before.before.before.is.given.1 c.before.before.put_two.ensures))
+    (λ c. unfold show_clock number_text in rw c.in-At.is c.put_two.ensures))

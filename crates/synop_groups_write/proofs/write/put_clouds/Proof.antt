@@ -11,10 +11,10 @@ put_clouds_spec =
     tie.close
     (tie.spec
     (λ c κs. tt) (λ c κs. tt)
-    (λ c. unfold show_clouds in rw (← c.before.is-blank.ensures, c.if1.true) (write-none _ _))
+    (λ c. unfold show_clouds in rw (← c.is_blank.ensures, c.if-is_blank.true) (write-none _ _))
     (λ c. search rules)
     (λ c.
-    let d = c.before.before.before.before in
-    let e = d.before in
+    let d = c in
+    let e = d in
     unfold show_clouds in
-    rw (← e.is-blank.ensures, d.if1.false) c.before.before.put-clouds-group.ensures))
+    rw (← e.is_blank.ensures, d.if-is_blank.false) c.put_clouds_group.ensures))

@@ -13,12 +13,12 @@ put_clouds_group_spec =
     (tie.spec
     (λ c κs. tt) (λ c κs. tt) (λ c κs. tt) (λ c κs. tt) (λ c κs. tt) (λ c κs. tt) (λ c. search rules)
     (λ c.
-    let fifth = c.before.before in
-    let fourth = fifth.before.before.before.before in
-    let third = fourth.before.before.before.before in
-    let second = third.before.before.before.before in
-    let first = second.before.before.before.before in
-    let opened = first.before.before.before.before in
+    let fifth = c in
+    let fourth = fifth in
+    let third = fourth in
+    let second = third in
+    let first = second in
+    let opened = first in
     unfold clouds_text in
-    write-group opened.open-group.ensures
-    (then (then (then (then first.put_byte.ensures second.put-part.ensures) third.put-part2.ensures) fourth.put-part3.ensures) fifth.put-part4.ensures)))
+    write-group opened.open_group-opened.ensures
+    (then (then (then (then first.put_byte-begun.ensures second.put_part-counted.ensures) third.put_part-below.ensures) fourth.put_part-between.ensures) fifth.put_part.ensures)))

@@ -12,7 +12,7 @@ put_coded_spec =
     (tie.spec
     (λ c κs. tt) (λ c κs. tt) (λ c κs. tt) (λ c. search rules)
     (λ c.
-    let second = c.before.before in
-    let first = second.before.before.before.before in
-    let opened = first.before.before.before.before in
-    write-group opened.open-group.ensures (then first.put-text.ensures second.put-number.ensures)))
+    let second = c in
+    let first = second in
+    let opened = first in
+    write-group opened.open_group-opened.ensures (then first.put_text-begun.ensures second.put_number.ensures)))

@@ -12,10 +12,10 @@ put_fall_spec =
     (tie.spec
     (λ c κs. tt) (λ c κs. tt) (λ c κs. tt) (λ c κs. tt) (λ c κs. tt) (λ c κs. tt) (λ c. search rules)
     (λ c.
-    let third = c.before.before in
-    let second = third.before.before.before.before in
-    let first = second.before.before.before.before.before.before in
-    let opened = first.before.before.before.before in
-    rw (second.before.field-by.ensures, second.before.before.rain-figure.ensures)
-    at (write-group opened.open-group.ensures
-    (then (then first.put_byte.ensures second.put-field.ensures) third.put-part.ensures))))
+    let third = c in
+    let second = third in
+    let first = second in
+    let opened = first in
+    rw (second.field_by.ensures, second.rain_figure.ensures)
+    at (write-group opened.open_group-opened.ensures
+    (then (then first.put_byte-begun.ensures second.put_field-measured.ensures) third.put_part.ensures))))

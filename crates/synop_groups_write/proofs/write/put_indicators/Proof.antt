@@ -13,12 +13,12 @@ put_indicators_spec =
     (tie.spec
     (λ c κs. tt) (λ c κs. tt) (λ c κs. tt) (λ c κs. tt) (λ c κs. tt) (λ c κs. tt) (λ c κs. tt) (λ c. search rules)
     (λ c.
-    let fourth = c.before.before in
-    let third = fourth.before.before.before.before.before in
-    let second = third.before.before.before.before.before in
-    let first = second.before.before.before.before in
-    let opened = first.before.before.before.before in
+    let fourth = c in
+    let third = fourth in
+    let second = third in
+    let first = second in
+    let opened = first in
     unfold show_indicators in
-    rw (third.before.base-field.ensures, fourth.before.sight-field.ensures)
-    at (write-group opened.open-group.ensures
-    (then (then (then first.put-part.ensures second.put-part2.ensures) third.put-field.ensures) fourth.put-field2.ensures))))
+    rw (third.base_field.ensures, fourth.sight_field.ensures)
+    at (write-group opened.open_group-opened.ensures
+    (then (then (then first.put_part-first.ensures second.put_part-second.ensures) third.put_field-third.ensures) fourth.put_field.ensures))))

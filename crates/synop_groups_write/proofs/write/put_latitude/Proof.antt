@@ -10,5 +10,5 @@ pub put_latitude_spec : {M : Type 1} → statement M
 put_latitude_spec =
     tie.close
     (tie.spec
-    (λ c. search rules) (λ c κs. tt) (λ c κs. tt) (λ c. search rules)
-    (λ c. unfold show_latitude number_text in rw c.before.before.before.magnitude-of.ensures at c.before.before.put-coded.ensures))
+    (λ c κs. tt) (λ c κs. tt) (λ c. search rules)
+    (λ c. unfold show_latitude number_text in rw c.magnitude_of.ensures at c.put_coded.ensures))

@@ -13,12 +13,12 @@ put_layer_spec =
     (tie.spec
     (λ c κs. tt) (λ c κs. tt) (λ c κs. tt) (λ c κs. tt) (λ c κs. tt) (λ c κs. tt) (λ c. search rules)
     (λ c.
-    let fourth = c.before.before in
-    let third = fourth.before.before.before.before.before in
-    let second = third.before.before.before.before in
-    let first = second.before.before.before.before in
-    let opened = first.before.before.before.before in
+    let fourth = c in
+    let third = fourth in
+    let second = third in
+    let first = second in
+    let opened = first in
     unfold show_layer in
-    rw fourth.before.height-field.ensures
-    at (write-group opened.open-group.ensures
-    (then (then (then first.put_byte.ensures second.put-part.ensures) third.put-part2.ensures) fourth.put-field.ensures))))
+    rw fourth.height_field.ensures
+    at (write-group opened.open_group-opened.ensures
+    (then (then (then first.put_byte-begun.ensures second.put_part-covered.ensures) third.put_part-named.ensures) fourth.put_field.ensures))))

@@ -11,9 +11,9 @@ pub put_level_spec : {M : Type 1} → statement M
 put_level_spec =
     tie.close
     (tie.spec
-    (λ c. search rules) (λ c. search rules) (λ c. search rules) (λ c κs. tt) (λ c. search rules) (λ c κs. tt)
-    (λ c. unfold show_level in rw c.enum_told.given.1 (write-none _ _))
+    (λ c. search rules) (λ c. search rules) (λ c κs. tt) (λ c. search rules) (λ c κs. tt)
+    (λ c. unfold show_level in rw c.in-Missing.is (write-none _ _))
     (λ c. search rules)
-    (λ c. unfold show_level number_text in rw c.before.before.before.before.before.before.is.given.1 c.before.before.put-coded.ensures)
+    (λ c. unfold show_level number_text in rw c.in-Pressure.is c.put_coded.ensures)
     (λ c. search rules)
-    (λ c. unfold show_level number_text in rw c.before.before.before.before.before.is2.given.1 c.before.before.put_two.ensures))
+    (λ c. unfold show_level number_text in rw c.in-Isobaric.is c.put_two.ensures))

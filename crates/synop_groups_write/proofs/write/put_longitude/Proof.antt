@@ -14,9 +14,9 @@ put_longitude_spec =
     (tie.spec
     (λ c κs. tt) (λ c κs. tt) (λ c κs. tt) (λ c κs. tt) (λ c κs. tt) (λ c κs. tt) (λ c κs. tt) (λ c. search rules)
     (λ c.
-    let second = c.before.before in
-    let first = second.before.before.before.before.before in
-    let opened = first.before.before.before.before in
+    let second = c in
+    let first = second in
+    let opened = first in
     unfold show_longitude number_text in
-    rw (opened.before.before.quadrant.ensures, opened.before.before.before.before.is-minus.ensures, opened.before.before.before.is-minus2.ensures, second.before.magnitude-of.ensures)
-    at (write-group opened.open-group.ensures (then first.put-number.ensures second.put-number2.ensures))))
+    rw (opened.quadrant-q.ensures, opened.is_minus.ensures, opened.is_minus-2.ensures, second.magnitude_of.ensures)
+    at (write-group opened.open_group-opened.ensures (then first.put_number-told.ensures second.put_number.ensures))))

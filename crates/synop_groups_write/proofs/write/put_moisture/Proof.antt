@@ -13,13 +13,13 @@ pub put_moisture_spec : {M : Type 1} → statement M
 put_moisture_spec =
     tie.close
     (tie.spec
-    (λ c. search rules) (λ c. search rules) (λ c κs. tt) (λ c. search rules) (λ c. search rules) (λ c κs. tt)
-    (λ c. unfold show_moisture in rw c.enum_told.given.1 (write-none _ _))
+    (λ c. search rules) (λ c. search rules) (λ c κs. tt) (λ c. search rules) (λ c κs. tt)
+    (λ c. unfold show_moisture in rw c.in-Missing.is (write-none _ _))
     (λ c. search rules)
     (λ c.
-    let d = c.before.before.before.before.before in
-    let back = to_z-of_z w32 d.is.given.0.0 (search rules) in
+    let d = c in
+    let back = to_z-of_z w32 d.in-DewPoint.t (search rules) in
     unfold show_moisture in
-    rw d.is.given.1 (rw back at c.before.before.put-signed.ensures))
+    rw d.in-DewPoint.is (rw back at c.put_signed.ensures))
     (λ c. search rules)
-    (λ c. unfold show_moisture number_text in rw c.before.before.before.before.before.before.is2.given.1 c.before.before.put-coded.ensures))
+    (λ c. unfold show_moisture number_text in rw c.in-Humidity.is c.put_coded.ensures))

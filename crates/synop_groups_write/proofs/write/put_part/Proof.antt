@@ -9,4 +9,4 @@ put_part_spec =
     tie.close
     (tie.spec
     (λ c κs. tt) (λ c κs. tt) (λ c. search rules)
-    (λ c. rw c.before.before.before.field_of.ensures at c.before.before.put-field.ensures))
+    (λ c. rw c.field_of.ensures at c.put_field.ensures))

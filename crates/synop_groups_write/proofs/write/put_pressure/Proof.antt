@@ -11,7 +11,7 @@ pub put_pressure_spec : {M : Type 1} → statement M
 put_pressure_spec =
     tie.close
     (tie.spec
-    (λ c. search rules) (λ c. search rules) (λ c. search rules) (λ c κs. tt)
-    (λ c. unfold show_pressure in rw c.enum_told.given.1 (write-none _ _))
+    (λ c. search rules) (λ c. search rules) (λ c κs. tt)
+    (λ c. unfold show_pressure in rw c.in-Missing.is (write-none _ _))
     (λ c. search rules)
-    (λ c. unfold show_pressure number_text in rw c.before.before.before.before.before.before.station.given.1 c.before.before.put-coded.ensures))
+    (λ c. unfold show_pressure number_text in rw c.in-Is.is c.put_coded.ensures))

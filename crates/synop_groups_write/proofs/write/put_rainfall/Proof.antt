@@ -9,7 +9,7 @@ pub put_rainfall_spec : {M : Type 1} → statement M
 put_rainfall_spec =
     tie.close
     (tie.spec
-    (λ c. search rules) (λ c. search rules) (λ c κs. tt) (λ c. search rules) (λ c κs. tt) (λ c. search rules)
-    (λ c. unfold show_rainfall in rw c.before.before.before.before.before.enum_told.given.1 c.before.before.put_if.ensures)
+    (λ c. search rules) (λ c κs. tt) (λ c. search rules) (λ c κs. tt) (λ c. search rules)
+    (λ c. unfold show_rainfall in rw c.in-Missing.is c.put_if.ensures)
     (λ c. search rules)
-    (λ c. unfold show_rainfall in rw c.before.before.before.before.before.is.given.1 c.before.before.put-fall.ensures))
+    (λ c. unfold show_rainfall in rw c.in-Is.is c.put_fall.ensures))

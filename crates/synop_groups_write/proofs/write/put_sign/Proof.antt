@@ -12,8 +12,8 @@ put_sign_spec =
     (tie.spec
     (λ c κs. tt) (λ c. search rules) (λ c κs. tt) (λ c κs. tt) (λ c. search rules)
     (λ c.
-    let first = c.before.before in
-    let opened = first.before.before.before.before.before.before in
+    let first = c in
+    let opened = first in
     unfold show_sign in
-    rw first.before.name-part.ensures
-    at (write-group opened.open-group.ensures first.put-text.ensures)))
+    rw first.name_part.ensures
+    at (write-group opened.open_group-opened.ensures first.put_text.ensures)))

@@ -14,9 +14,9 @@ put_signed_spec =
     (tie.spec
     (λ c κs. tt) (λ c κs. tt) (λ c κs. tt) (λ c. search rules)
     (λ c.
-    let d1 = c.before.before.before in
-    let d2 = d1.before in
-    let d3 = d2.before.before.before in
+    let d1 = c in
+    let d2 = d1 in
+    let d3 = d2 in
     let back = to_z-of_z w32 d3.args.t (search rules) in
     unfold number_text in
-    rw (d2.sign-figure.ensures, d1.magnitude.ensures, back, sign-figure) at c.before.before.put_two.ensures))
+    rw (d2.sign_figure.ensures, d1.magnitude.ensures, back, sign-figure) at c.put_two.ensures))

@@ -12,13 +12,13 @@ pub put_speed_spec : {M : Type 1} → statement M
 put_speed_spec =
     tie.close
     (tie.spec
-    (λ c. search rules) (λ c. search rules) (λ c. search rules) (λ c κs. tt) (λ c. search rules)
-    (λ c. unfold show_speed in rw c.enum_told.given.1 (write-none _ _))
+    (λ c. search rules) (λ c. search rules) (λ c κs. tt) (λ c. search rules)
+    (λ c. unfold show_speed in rw c.in-Missing.is (write-none _ _))
     (λ c. search rules)
     (λ c.
-    let d = c.before.before.before.before.before in
-    let e = d.before.before in
+    let d = c in
+    let e = d in
     unfold show_speed number_text in
-    rw (e.speed.given.1, le-leb _ _ d.if1.true) c.before.before.put-coded.ensures)
-    (λ c. unfold show_speed in rw (c.before.before.speed.given.1, lt-leb _ _ c.if1.false) (write-none _ _))
-    (λ c. unfold show_speed in rw c.enum-told2.given.1 (write-none _ _)))
+    rw (e.in-Is.is, le-leb _ _ d.if-s-ge99.true) c.put_coded.ensures)
+    (λ c. unfold show_speed in rw (c.in-Is.is, lt-leb _ _ c.if-s-ge99.false) (write-none _ _))
+    (λ c. unfold show_speed in rw c.in-Above.is (write-none _ _)))

@@ -11,4 +11,4 @@ put_station_spec =
     tie.close
     (tie.spec
     (λ c κs. tt) (λ c κs. tt) (λ c. search rules)
-    (λ c. unfold show_station in write-group c.before.before.before.before.before.before.open-group.ensures c.before.before.put-part.ensures))
+    (λ c. unfold show_station in write-group c.open_group-opened.ensures c.put_part.ensures))

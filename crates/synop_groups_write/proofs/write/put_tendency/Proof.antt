@@ -14,11 +14,11 @@ put_tendency_spec =
     tie.close
     (tie.spec
     (λ c. search rules) (λ c. search rules) (λ c κs. tt) (λ c κs. tt)
-    (λ c. unfold show_tendency in rw c.enum_told.given.1 (write-none _ _))
+    (λ c. unfold show_tendency in rw c.in-Missing.is (write-none _ _))
     (λ c. search rules)
     (λ c.
-    let d = c.before.before.before in
-    let e = d.before.before.before in
-    let back = to_z-of_z w32 e.is.given.0.1.0 (search rules) in
+    let d = c in
+    let e = d in
+    let back = to_z-of_z w32 e.in-Is.change (search rules) in
     unfold show_tendency number_text in
-    rw e.is.given.1 (rw (d.magnitude.ensures, back) at c.before.before.put_two.ensures)))
+    rw e.in-Is.is (rw (d.magnitude.ensures, back) at c.put_two.ensures)))

@@ -13,10 +13,10 @@ put_time_spec =
     (tie.spec
     (λ c κs. tt) (λ c κs. tt) (λ c κs. tt) (λ c κs. tt) (λ c. search rules)
     (λ c.
-    let third = c.before.before in
-    let second = third.before.before.before.before in
-    let first = second.before.before.before.before in
-    let opened = first.before.before.before.before in
+    let third = c in
+    let second = third in
+    let first = second in
+    let opened = first in
     unfold show_time in
-    write-group opened.open-group.ensures
-    (then (then first.put-part.ensures second.put-part2.ensures) third.put-part3.ensures)))
+    write-group opened.open_group-opened.ensures
+    (then (then first.put_part-dated.ensures second.put_part-timed.ensures) third.put_part.ensures)))

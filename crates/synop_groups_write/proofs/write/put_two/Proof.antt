@@ -12,9 +12,9 @@ put_two_spec =
     (tie.spec
     (λ c κs. tt) (λ c κs. tt) (λ c κs. tt) (λ c κs. tt) (λ c. search rules)
     (λ c.
-    let third = c.before.before in
-    let second = third.before.before.before.before in
-    let first = second.before.before.before.before in
-    let opened = first.before.before.before.before in
-    write-group opened.open-group.ensures
-    (then (then first.put_byte.ensures second.put-number.ensures) third.put-number2.ensures)))
+    let third = c in
+    let second = third in
+    let first = second in
+    let opened = first in
+    write-group opened.open_group-opened.ensures
+    (then (then first.put_byte-begun.ensures second.put_number-told.ensures) third.put_number.ensures)))

@@ -13,8 +13,8 @@ put_weather_spec =
     (tie.spec
     (λ c κs. tt) (λ c κs. tt) (λ c. search rules)
     (λ c.
-    let d = c.before.before.before.before in
-    let e = d.before in
+    let d = c in
+    let e = d in
     unfold show_weather in
-    rw (group-if, ← e.is-blank.ensures, d.if1.true) c.before.before.put-weather-group.ensures)
-    (λ c. unfold show_weather in rw (group-if, ← c.before.is-blank.ensures, c.if1.false) (write-none _ _)))
+    rw (group-if, ← e.is_blank.ensures, d.if-required-is_blank.true) c.put_weather_group.ensures)
+    (λ c. unfold show_weather in rw (group-if, ← c.is_blank.ensures, c.if-required-is_blank.false) (write-none _ _)))

@@ -13,11 +13,11 @@ put_weather_group_spec =
     (tie.spec
     (λ c κs. tt) (λ c κs. tt) (λ c κs. tt) (λ c κs. tt) (λ c κs. tt) (λ c. search rules)
     (λ c.
-    let fourth = c.before.before in
-    let third = fourth.before.before.before.before in
-    let second = third.before.before.before.before in
-    let first = second.before.before.before.before in
-    let opened = first.before.before.before.before in
+    let fourth = c in
+    let third = fourth in
+    let second = third in
+    let first = second in
+    let opened = first in
     unfold weather_text in
-    write-group opened.open-group.ensures
-    (then (then (then first.put_byte.ensures second.put-part.ensures) third.put-part2.ensures) fourth.put-part3.ensures)))
+    write-group opened.open_group-opened.ensures
+    (then (then (then first.put_byte-begun.ensures second.put_part-now.ensures) third.put_part-before.ensures) fourth.put_part.ensures)))

@@ -13,11 +13,11 @@ put_wind_spec =
     (tie.spec
     (λ c κs. tt) (λ c κs. tt) (λ c κs. tt) (λ c κs. tt) (λ c κs. tt) (λ c κs. tt) (λ c. search rules)
     (λ c.
-    let third = c.before.before in
-    let second = third.before.before.before.before.before in
-    let first = second.before.before.before.before.before in
-    let opened = first.before.before.before.before in
+    let third = c in
+    let second = third in
+    let first = second in
+    let opened = first in
     unfold show_wind in
-    rw (second.before.direction-field.ensures, third.before.speed-field.ensures)
-    at (write-group opened.open-group.ensures
-    (then (then first.put-part.ensures second.put-field.ensures) third.put-field2.ensures))))
+    rw (second.direction_field.ensures, third.speed_field.ensures)
+    at (write-group opened.open_group-opened.ensures
+    (then (then first.put_part-covered.ensures second.put_field-pointed.ensures) third.put_field.ensures))))

@@ -9,5 +9,5 @@ sight_field_spec =
     tie.close
     (tie.spec
     (λ c. search rules) (λ c. search rules) (λ c κs. tt) (λ c κs. tt) (λ c. search rules) (λ c κs. tt) (λ c κs. tt) (λ c. search rules)
-    (λ c. rw c.before.before.before.sight.given.1 (rw c.before.land-figure.ensures at c.field-by.ensures))
-    (λ c. rw c.before.before.before.sight2.given.1 (rw c.before.sea-figure.ensures at c.field-by2.ensures)))
+    (λ c. rw c.in-Land.is (rw c.land_figure.ensures at c.field_by.ensures))
+    (λ c. rw c.in-Sea.is (rw c.sea_figure.ensures at c.field_by-in-Sea.ensures)))

@@ -11,5 +11,5 @@ sign_figure_spec =
     tie.close
     (tie.spec
     (λ c κs. tt)
-    (λ c. let back = to_z-of_z w32 c.before.before.args.t (search rules) in rw (← back, ← c.before.is_negative.ensures, c.if1.true))
-    (λ c. let back = to_z-of_z w32 c.before.before.args.t (search rules) in rw (← back, ← c.before.is_negative.ensures, c.if1.false)))
+    (λ c. let back = to_z-of_z w32 c.args.t (search rules) in rw (← back, ← c.is_negative.ensures, c.if-is_negative.true))
+    (λ c. let back = to_z-of_z w32 c.args.t (search rules) in rw (← back, ← c.is_negative.ensures, c.if-is_negative.false)))

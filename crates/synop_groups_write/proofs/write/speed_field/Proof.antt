@@ -9,5 +9,5 @@ speed_field_spec =
     tie.close
     (tie.spec
     (λ c. search rules) (λ c. search rules) (λ c κs. tt) (λ c. search rules) (λ c. search rules)
-    (λ c. rw (c.before.before.speed.given.1, c.speed-figure.ensures))
+    (λ c. rw (c.in-Is.is, c.speed_figure.ensures))
     (λ c. search rules))

@@ -8,5 +8,5 @@ pub speed_figure_spec : {M : Type 1} → statement M
 speed_figure_spec =
     tie.close
     (tie.spec
-    (λ c. rw (le-leb _ _ c.if1.true))
-    (λ c. rw (lt-leb _ _ c.if1.false)))
+    (λ c. rw (le-leb _ _ c.if-speed-ge99.true))
+    (λ c. rw (lt-leb _ _ c.if-speed-ge99.false)))

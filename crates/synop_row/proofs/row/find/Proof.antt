@@ -17,15 +17,15 @@ find_spec =
     (tie.spec
     (λ c κs. search rules) (λ c κs. search rules) (λ c κs. search rules) (λ c. search rules) (λ c. search rules) (λ c κs. search rules)
     (λ c.
-    let a = c.before.before.before.before.before.before.before.before.args in
-    find-fit (row a.needs) a.g.now a.place a.count c.before.before.before.before.before.before.fit-from.ensures (rw (row-length a.needs) (omega arith))
-    (rw (← c.before.before.before.before.mosts.ensures a.needs, ← c.before.before.before.musts-of.ensures) c.found_at.ensures))
+    let a = c.args in
+    find-fit (row a.needs) a.g.now a.place a.count c.fit_from-fit.ensures (rw (row-length a.needs) (omega arith))
+    (rw (← c.mosts-most.ensures a.needs, ← c.musts_of-must.ensures) c.found_at.ensures))
     (λ c κs. search rules)
     (λ c.
-    let a = c.before.before.before.before.before.args in
-    let e = c.before.fit-from2.result in
-    find_none (row a.needs) a.g.now a.place a.count c.before.before.before.fit-from.ensures e (rw (row-length a.needs) (omega arith)) c.before.fit-from2.ensures true (lt-ltb e (length (row a.needs)) (rw (row-length a.needs) (omega arith))))
+    let a = c.args in
+    let e = c.fit_from.result in
+    find_none (row a.needs) a.g.now a.place a.count c.fit_from-fit.ensures e (rw (row-length a.needs) (omega arith)) c.fit_from.ensures true (lt-ltb e (length (row a.needs)) (rw (row-length a.needs) (omega arith))))
     (λ c.
-    let a = c.before.before.before.before.before.args in
-    let e = c.before.fit-from2.result in
-    find_none (row a.needs) a.g.now a.place a.count c.before.before.before.fit-from.ensures e (rw (row-length a.needs) (omega arith)) c.before.fit-from2.ensures false (le-ltb e (length (row a.needs)) (rw (row-length a.needs) (omega arith)))))
+    let a = c.args in
+    let e = c.fit_from.result in
+    find_none (row a.needs) a.g.now a.place a.count c.fit_from-fit.ensures e (rw (row-length a.needs) (omega arith)) c.fit_from.ensures false (le-ltb e (length (row a.needs)) (rw (row-length a.needs) (omega arith)))))

@@ -13,10 +13,10 @@ use Rattle.synop_row.proofs.Tests.{row-length}
 use Rattle.synop_row.proofs.row.fit_from.Statement.{statement}
 use Rattle.synop_row.proofs.row.fit_from.Tie as tie
 
-abbrev Inv : tie.invariant-loop
+abbrev Inv : tie.invariant-loop-i
 Inv rules all place count g i₀ k₀ i k = fit_from all place count (drop place (stands_of (row rules) g)) ≡ fit_from all i k (drop i (stands_of (row rules) g))
 
-abbrev μ : tie.decreases-loop
+abbrev μ : tie.decreases-loop-i
 μ rules all place count g i₀ k₀ i k = 10 - i
 
 pub fit_from_spec : {M : Type 1} → statement M
@@ -26,16 +26,16 @@ fit_from_spec =
     (λ c. refl)
     (λ c κs. search rules)
     (λ c.
-    let l = c.before.before.before.loop in
-    let a = c.before.before.before.before.before.args in
-    sym (l.invariant ∙ fit-here (row a.needs) a.g.now a.all l.i l.k (rw (row-length a.needs) (omega arith)) (sym c.before.is-fit.ensures ∙ c.if1.true)))
+    let l = c.loop-i in
+    let a = c.args in
+    sym (l.invariant ∙ fit-here (row a.needs) a.g.now a.all l.i l.k (rw (row-length a.needs) (omega arith)) (sym c.is_fit.ensures ∙ c.if-is_fit.true)))
     (λ c. omega arith)
     (λ c. omega arith)
     (λ c.
-    let l = c.before.before.before.loop in
-    let a = c.before.before.before.before.before.args in
-    l.invariant ∙ fit_next (row a.needs) a.g.now a.all l.i l.k (rw (row-length a.needs) (omega arith)) (sym c.before.is-fit.ensures ∙ c.if1.false))
+    let l = c.loop-i in
+    let a = c.args in
+    l.invariant ∙ fit_next (row a.needs) a.g.now a.all l.i l.k (rw (row-length a.needs) (omega arith)) (sym c.is_fit.ensures ∙ c.if-is_fit.false))
     (λ c.
-    let l = c.before.loop in
-    let a = c.before.before.before.args in
+    let l = c.loop-i in
+    let a = c.args in
     sym (l.invariant ∙ fit-end (row a.needs) a.g.now a.all l.i l.k (rw (row-length a.needs) (omega arith)))))

@@ -8,4 +8,4 @@ pub is_in_three_spec : {M : Type 1} → statement M
 is_in_three_spec =
     tie.close
     (tie.spec
-    (λ c. search rules) (λ c. search rules) (λ c. search rules) (λ c. search rules) (λ c. rw c.before.speed.given.1) (λ c. search rules))
+    (λ c. search rules) (λ c. search rules) (λ c. search rules) (λ c. search rules) (λ c. rw c.in-Is.is) (λ c. search rules))

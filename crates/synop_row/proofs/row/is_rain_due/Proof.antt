@@ -8,4 +8,4 @@ pub is_rain_due_spec : {M : Type 1} → statement M
 is_rain_due_spec =
     tie.close
     (tie.spec
-    (λ c. search rules) (λ c. search rules) (λ c. search rules) (λ c. rw c.before.rain.given.1))
+    (λ c. search rules) (λ c. search rules) (λ c. search rules) (λ c. rw c.in-Is.is))

@@ -9,7 +9,7 @@ pub is_stop_word_spec : {M : Type 1} → statement M
 is_stop_word_spec =
     tie.close
     (tie.spec
-    (λ c. search rules) (λ c κs. search rules) (λ c. search rules) (λ c κs. search rules) (λ c. search rules) (λ c κs. search rules)
-    (λ c. stop-word-short c.before.before.before.before.before.before.before.before.args.g.now c.before.before.before.before.before.before.if1.true c.before.before.before.before.has-pattern.ensures c.before.before.has-pattern2.ensures c.has-pattern3.ensures)
-    (λ c. search rules) (λ c κs. search rules)
-    (λ c. stop-word-long c.before.before.before.before.args.g.now c.before.before.if1.false c.has-pattern4.ensures))
+    (λ c κs. search rules) (λ c κs. search rules) (λ c κs. search rules)
+    (λ c. stop-word-short c.args.g.now c.if-g-eq3.true c.has_pattern.ensures c.has_pattern-then-g-eq3.ensures c.has_pattern-then-g-eq3-2.ensures)
+    (λ c κs. search rules)
+    (λ c. stop-word-long c.args.g.now c.if-g-eq3.false c.has_pattern-2.ensures))

@@ -10,4 +10,4 @@ needs_of_spec =
     tie.close
     (tie.spec
     (λ c κs. search rules) (λ c κs. search rules) (λ c κs. search rules)
-    (λ c. unfold needs_of in rw (c.before.before.is-rain-due.ensures, c.before.is-weather-due.ensures, c.is-in-three.ensures)))
+    (λ c. unfold needs_of in rw (c.is_rain_due.ensures, c.is_weather_due.ensures, c.is_in_three.ensures)))

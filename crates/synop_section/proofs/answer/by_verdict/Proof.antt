@@ -9,5 +9,5 @@ by_verdict_spec =
     tie.close
     (tie.spec
     (λ c. search rules) (λ c κs. search rules) (λ c. search rules)
-    (λ c. rw (c.before.enum_told.given.1, c.blank-synop.ensures))
-    (λ c. rw c.enum-told2.given.1))
+    (λ c. rw (c.in-Refused.is, c.blank_synop-whole.ensures))
+    (λ c. rw c.in_default.is))

@@ -14,12 +14,12 @@ pub decide_spec : {M : Type 1} → statement M
 decide_spec =
     tie.close
     (tie.spec
-    (λ c. let n = c.before.before.args.needs in turn-past (row n) (has_any stop_words) _ _ _ (rw (row-length n) c.if1.true))
+    (λ c. let n = c.args.needs in turn-past (row n) (has_any stop_words) _ _ _ (rw (row-length n) c.if-place-ge10.true))
     (λ c κs. search rules)
     (λ c.
-    let n = c.before.before.before.before.args.needs in
-    turn-halts (row n) (has_any stop_words) _ _ _ (rw (row-length n) (omega (arith, c.before.before.if1.false))) (sym c.before.is-stop-word.ensures ∙ c.if2.true))
+    let n = c.args.needs in
+    turn-halts (row n) (has_any stop_words) _ _ _ (rw (row-length n) (omega (arith, c.if-place-ge10.false))) (sym c.is_stop_word.ensures ∙ c.if-is_stop_word.true))
     (λ c κs. search rules) (λ c κs. search rules)
     (λ c.
-    let n = c.before.before.before.before.before.before.args.needs in
-    turn-found (row n) (has_any stop_words) _ _ _ (rw (row-length n) (omega (arith, c.before.before.before.before.if1.false))) (sym c.before.before.before.is-stop-word.ensures ∙ c.before.before.if2.false) c.before.find.ensures c.turn_by.ensures))
+    let n = c.args.needs in
+    turn-found (row n) (has_any stop_words) _ _ _ (rw (row-length n) (omega (arith, c.if-place-ge10.false))) (sym c.is_stop_word.ensures ∙ c.if-is_stop_word.false) c.find.ensures c.turn_by.ensures))

@@ -9,4 +9,4 @@ finish_spec =
     tie.close
     (tie.spec
     (λ c κs. search rules) (λ c. search rules) (λ c κs. search rules) (λ c κs. search rules)
-    (λ c. rw (c.end-verdict.ensures, c.before.is-owed.ensures, c.before.before.before.musts-of.ensures)))
+    (λ c. rw (c.end_verdict.ensures, c.is_owed.ensures, c.musts_of-must.ensures)))

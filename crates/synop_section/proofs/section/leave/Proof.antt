@@ -11,7 +11,7 @@ leave_spec =
     tie.close
     (tie.spec
     (λ c κs. search rules) (λ c. search rules) (λ c κs. search rules)
-    (λ c. let a = c.before.before.before.before.before.args in leaves-owed a.g.now a.start a.end a.needs a.place a.count (rw c.before.before.before.musts-of.ensures at c.before.is-owed.ensures) c.if1.true)
+    (λ c. let a = c.args in leaves-owed a.g.now a.start a.end a.needs a.place a.count (rw c.musts_of-must.ensures at c.is_owed.ensures) c.if-is_owed.true)
     (λ c κs. search rules)
-    (λ c. let a = c.before.before.before.before.before.before.before.args in leaves-third a.g.now a.start a.end a.needs a.place a.count (rw c.before.before.before.before.before.musts-of.ensures at c.before.before.before.is-owed.ensures) c.before.before.if1.false (sym c.before.is-section3.ensures ∙ c.if2.true))
-    (λ c. let a = c.before.before.before.before.before.before.before.args in leaves-rest a.g.now a.start a.end a.needs a.place a.count (rw c.before.before.before.before.before.musts-of.ensures at c.before.before.before.is-owed.ensures) c.before.before.if1.false (sym c.before.is-section3.ensures ∙ c.if2.false)))
+    (λ c. let a = c.args in leaves-third a.g.now a.start a.end a.needs a.place a.count (rw c.musts_of-must.ensures at c.is_owed.ensures) c.if-is_owed.false (sym c.is_section3.ensures ∙ c.if-is_section3.true))
+    (λ c. let a = c.args in leaves-rest a.g.now a.start a.end a.needs a.place a.count (rw c.musts_of-must.ensures at c.is_owed.ensures) c.if-is_owed.false (sym c.is_section3.ensures ∙ c.if-is_section3.false)))

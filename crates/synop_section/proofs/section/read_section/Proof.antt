@@ -11,5 +11,5 @@ read_section_spec =
     tie.close
     (tie.spec
     (λ c κs. search rules) (λ c κs. search rules) (λ c. search rules) (λ c κs. search rules) (λ c. search rules) (λ c κs. search rules) (λ c κs. search rules)
-    (λ c. c.by-verdict.ensures ∙ answered-end c.before.before.before.before.before.before.before.before.before.args.text.now c.before.before.before.before.before.before.before.before.before.args.from c.before.before.before.before.before.before.before.before.before.args.report c.before.before.before.before.before.read-groups.result _ c.before.before.before.before.before.before.needs-of.ensures c.before.before.before.before.before.read-groups.ensures c.before.before.next.given.1)
-    (λ c. c.by-verdict2.ensures ∙ answered-third c.before.before.before.before.before.before.before.before.before.before.before.args.text.now c.before.before.before.before.before.before.before.before.before.before.before.args.from c.before.before.before.before.before.before.before.before.before.before.before.args.report c.before.before.before.before.before.before.before.read-groups.result _ c.before.before.before.before.before.before.before.before.needs-of.ensures c.before.before.before.before.before.before.before.read-groups.ensures c.before.before.read-section3.result c.before.before.before.before.next2.given.1 c.before.before.read-section3.ensures))
+    (λ c. c.by_verdict.ensures ∙ answered-end c.args.text.now c.args.from c.args.report c.read_groups-read.result _ c.needs_of-needs.ensures c.read_groups-read.ensures c.in-End.is)
+    (λ c. c.by_verdict-in-Section3.ensures ∙ answered-third c.args.text.now c.args.from c.args.report c.read_groups-read.result _ c.needs_of-needs.ensures c.read_groups-read.ensures c.read_section3-third.result c.in-Section3.is c.read_section3-third.ensures))

@@ -9,4 +9,4 @@ foreign_blank_spec =
     tie.close
     (tie.spec
     (λ c κs. tt) (λ c κs. tt) (λ c κs. tt)
-    (λ c. unfold foreign_blank in rw (c.before.before.site-suits.ensures, c.before.is-blank.ensures, c.is-blank2.ensures)))
+    (λ c. unfold foreign_blank in rw (c.site_suits.ensures, c.is_blank.ensures, c.is_blank-2.ensures)))

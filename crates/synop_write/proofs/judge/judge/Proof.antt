@@ -11,4 +11,4 @@ judge_spec =
     (λ c κs. tt) (λ c κs. tt) (λ c κs. tt) (λ c κs. tt) (λ c κs. tt)
     (λ c.
     unfold judge_of in
-    rw (c.and-then2.ensures, c.before.judge-foreign.ensures, c.before.before.and_then.ensures, c.before.before.before.judge-rest.ensures, c.before.before.before.before.judge-site.ensures)))
+    rw (c.and_then.ensures, c.judge_foreign.ensures, c.and_then-stood.ensures, c.judge_rest.ensures, c.judge_site.ensures)))

@@ -8,5 +8,5 @@ judge_foreign_spec =
     tie.close
     (tie.spec
     (λ c κs. tt)
-    (λ c. rw (← c.before.foreign-blank.ensures, c.if1.true))
-    (λ c. rw (← c.before.foreign-blank.ensures, c.if1.false)))
+    (λ c. rw (← c.foreign_blank.ensures, c.if-foreign_blank.true))
+    (λ c. rw (← c.foreign_blank.ensures, c.if-foreign_blank.false)))

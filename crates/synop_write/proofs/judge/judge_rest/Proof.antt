@@ -8,5 +8,5 @@ judge_rest_spec =
     tie.close
     (tie.spec
     (λ c κs. tt) (λ c κs. tt) (λ c κs. tt)
-    (λ c. rw c.if1.true)
-    (λ c. rw (c.before.before.before.if1.false, c.and_then.ensures, c.before.judge-section3.ensures, c.before.before.judge-surface.ensures)))
+    (λ c. rw c.if-nil.true)
+    (λ c. rw (c.if-nil.false, c.and_then.ensures, c.judge_section3.ensures, c.judge_surface.ensures)))

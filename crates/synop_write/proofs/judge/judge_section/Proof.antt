@@ -12,4 +12,4 @@ judge_section_spec =
     (λ c κs. tt) (λ c κs. tt) (λ c κs. tt) (λ c κs. tt) (λ c κs. tt) (λ c κs. tt)
     (λ c.
     unfold judge_section in
-    rw (c.and-then8.ensures, c.before.judge-air.ensures, c.before.before.and-then7.ensures, c.before.before.before.judge-moisture.ensures, c.before.before.before.before.and-then6.ensures, c.before.before.before.before.before.judge-pressure.ensures, c.before.before.before.before.before.before.and-then5.ensures, c.before.before.before.before.before.before.before.judge-level.ensures, c.before.before.before.before.before.before.before.before.and-then4.ensures, c.before.before.before.before.before.before.before.before.before.judge-tendency.ensures, c.before.before.before.before.before.before.before.before.before.before.and-then3.ensures, c.before.before.before.before.before.before.before.before.before.before.before.judge-rainfall.ensures, c.before.before.before.before.before.before.before.before.before.before.before.before.and-then2.ensures, c.before.before.before.before.before.before.before.before.before.before.before.before.before.judge-weather.ensures, c.before.before.before.before.before.before.before.before.before.before.before.before.before.before.and_then.ensures, c.before.before.before.before.before.before.before.before.before.before.before.before.before.before.before.judge-clock.ensures, c.before.before.before.before.before.before.before.before.before.before.before.before.before.before.before.before.judge-clouds.ensures)))
+    rw (c.and_then.ensures, c.judge_air.ensures, c.and_then-from2.ensures, c.judge_moisture.ensures, c.and_then-from3.ensures, c.judge_pressure.ensures, c.and_then-from4.ensures, c.judge_level.ensures, c.and_then-from5.ensures, c.judge_tendency.ensures, c.and_then-from6.ensures, c.judge_rainfall.ensures, c.and_then-from7.ensures, c.judge_weather.ensures, c.and_then-from8.ensures, c.judge_clock.ensures, c.judge_clouds.ensures)))

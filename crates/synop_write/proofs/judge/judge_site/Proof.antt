@@ -11,5 +11,5 @@ judge_site_spec =
     (λ c κs. tt) (λ c κs. tt) (λ c κs. tt) (λ c κs. tt) (λ c κs. tt) (λ c κs. tt) (λ c κs. tt)
     (λ c.
     unfold judge_site in
-    rw (c.before.before.before.before.if1.true, c.and-then2.ensures, c.before.and_then.ensures, c.before.before.judge-position.ensures, c.before.before.before.judge-sign.ensures, c.before.before.before.before.before.judge-time.ensures))
-    (λ c. unfold judge_site in rw (c.before.before.if1.false, c.and-then3.ensures, c.before.judge-station.ensures, c.before.before.before.judge-time.ensures)))
+    rw (c.if-ship.true, c.and_then-then-ship.ensures, c.and_then.ensures, c.judge_position.ensures, c.judge_sign.ensures, c.judge_time-timed.ensures))
+    (λ c. unfold judge_site in rw (c.if-ship.false, c.and_then-else-ship.ensures, c.judge_station.ensures, c.judge_time-timed.ensures)))

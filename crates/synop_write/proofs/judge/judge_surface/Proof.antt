@@ -11,4 +11,4 @@ judge_surface_spec =
     (λ c κs. tt) (λ c κs. tt) (λ c κs. tt) (λ c κs. tt) (λ c κs. tt) (λ c κs. tt)
     (λ c.
     unfold judge_surface in
-    rw (c.and-then2.ensures, c.before.judge-indicators.ensures, c.before.before.and_then.ensures, c.before.before.before.judge-section.ensures, c.before.before.before.before.needs-of.ensures, c.before.before.before.before.before.judge-wind.ensures)))
+    rw (c.and_then.ensures, c.judge_indicators.ensures, c.and_then-blown.ensures, c.judge_section.ensures, c.needs_of.ensures, c.judge_wind.ensures)))

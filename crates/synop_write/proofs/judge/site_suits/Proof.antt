@@ -8,5 +8,5 @@ site_suits_spec =
     tie.close
     (tie.spec
     (λ c κs. tt) (λ c κs. tt) (λ c κs. tt)
-    (λ c. rw (c.before.if1.true, c.is-missing.ensures))
-    (λ c. rw (c.before.before.if1.false, c.before.is-blank.ensures, c.is-blank2.ensures)))
+    (λ c. rw (c.if-ship.true, c.is_missing.ensures))
+    (λ c. rw (c.if-ship.false, c.is_blank.ensures, c.is_blank-else-ship.ensures)))

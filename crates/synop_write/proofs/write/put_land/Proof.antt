@@ -9,5 +9,5 @@ pub put_land_spec : {M : Type 1} → statement M
 put_land_spec =
     tie.close
     (tie.spec
-    (λ c. search rules) (λ c κs. tt) (λ c κs. tt) (λ c κs. tt) (λ c. search rules)
-    (λ c. write-groups _ _ c.before.before.before.before.before.before.before.before.before.before.put-group.ensures (write-groups _ _ c.before.before.before.before.before.before.put-time.ensures c.before.before.put-station.ensures)))
+    (λ c κs. tt) (λ c κs. tt) (λ c κs. tt) (λ c. search rules)
+    (λ c. write-groups _ _ c.put_group-named.ensures (write-groups _ _ c.put_time-timed.ensures c.put_station.ensures)))

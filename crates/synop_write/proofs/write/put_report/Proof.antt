@@ -12,4 +12,4 @@ put_report_spec =
     tie.close
     (tie.spec
     (λ c κs. tt) (λ c κs. tt) (λ c κs. tt) (λ c. search rules)
-    (λ c. unfold groups_of in then (write-groups _ _ c.before.before.before.before.before.before.before.before.before.before.put-site.ensures c.before.before.before.before.before.before.put_rest.ensures) c.before.before.close-report.ensures))
+    (λ c. unfold groups_of in then (write-groups _ _ c.put_site-placed.ensures c.put_rest-told.ensures) c.close_report.ensures))

@@ -9,7 +9,7 @@ pub put_rest_spec : {M : Type 1} → statement M
 put_rest_spec =
     tie.close
     (tie.spec
-    (λ c. search rules) (λ c κs. tt) (λ c κs. tt) (λ c κs. tt) (λ c. search rules)
-    (λ c. rw c.before.before.before.before.before.if1.true c.before.before.put-group.ensures)
+    (λ c κs. tt) (λ c κs. tt) (λ c κs. tt) (λ c. search rules)
+    (λ c. rw c.if-nil.true c.put_group.ensures)
     (λ c. search rules)
-    (λ c. rw c.before.before.before.before.before.before.before.before.if1.false (write-groups _ _ c.before.before.before.before.before.before.put-surface.ensures c.before.before.put-section3.ensures)))
+    (λ c. rw c.if-nil.false (write-groups _ _ c.put_surface-told.ensures c.put_section3.ensures)))

@@ -9,8 +9,8 @@ pub put_ship_spec : {M : Type 1} → statement M
 put_ship_spec =
     tie.close
     (tie.spec
-    (λ c. search rules) (λ c κs. tt) (λ c κs. tt) (λ c κs. tt) (λ c κs. tt) (λ c κs. tt) (λ c. search rules)
+    (λ c κs. tt) (λ c κs. tt) (λ c κs. tt) (λ c κs. tt) (λ c κs. tt) (λ c. search rules)
     (λ c.
-    write-groups _ _ c.before.before.before.before.before.before.before.before.before.before.before.before.before.before.before.before.before.before.put-group.ensures
-    (write-groups _ _ c.before.before.before.before.before.before.before.before.before.before.before.before.before.before.put-sign.ensures
-    (write-groups _ _ c.before.before.before.before.before.before.before.before.before.before.put-time.ensures (write-groups _ _ c.before.before.before.before.before.before.put-latitude.ensures c.before.before.put-longitude.ensures)))))
+    write-groups _ _ c.put_group-named.ensures
+    (write-groups _ _ c.put_sign-called.ensures
+    (write-groups _ _ c.put_time-timed.ensures (write-groups _ _ c.put_latitude-placed.ensures c.put_longitude.ensures)))))

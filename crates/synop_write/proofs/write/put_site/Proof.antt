@@ -10,6 +10,6 @@ put_site_spec =
     tie.close
     (tie.spec
     (λ c κs. tt) (λ c κs. tt) (λ c. search rules)
-    (λ c. unfold site_groups in rw c.before.before.before.before.if1.true c.before.before.put-ship.ensures)
+    (λ c. unfold site_groups in rw c.if-ship.true c.put_ship.ensures)
     (λ c. search rules)
-    (λ c. unfold site_groups in rw c.before.before.before.before.if1.false c.before.before.put-land.ensures))
+    (λ c. unfold site_groups in rw c.if-ship.false c.put_land.ensures))

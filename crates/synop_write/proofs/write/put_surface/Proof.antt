@@ -13,5 +13,5 @@ put_surface_spec =
     (λ c κs. tt) (λ c κs. tt) (λ c κs. tt) (λ c κs. tt) (λ c. search rules)
     (λ c.
     unfold surface_groups in
-    write-groups _ _ c.before.before.before.before.before.before.before.before.before.before.put-indicators.ensures
-    (write-groups _ _ c.before.before.before.before.before.before.put-wind.ensures (rw c.before.before.before.before.before.before.before.before.before.before.before.before.needs-of.ensures at c.before.before.put-section.ensures))))
+    write-groups _ _ c.put_indicators-indicated.ensures
+    (write-groups _ _ c.put_wind-blown.ensures (rw c.needs_of-needs.ensures at c.put_section.ensures))))

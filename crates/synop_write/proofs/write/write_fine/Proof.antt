@@ -5,7 +5,7 @@ use Prim.Native.Nat.{ℕ, ◌≤◌}
 use native.Mathlib.Omega.{arith}
 use mathlib.Core.Path.{◌≡◌, sym}
 use mathlib.Core.List.{List, [], ◌∷◌, ◌++◌}
-use lib.ListN.{length, length-map, take, replicate}
+use lib.ListN.{length, take, replicate}
 use lib.Seq.{length-take-le}
 use Rattle.figures.specs.Put.{Put}
 use Rattle.text.specs.Groups.{join, written}
@@ -19,10 +19,10 @@ use Rattle.synop_write.proofs.write.write_fine.Tie as tie
 -- the arrays' lengths are part of their types
 arrays : (c : tie.Start) → SynopArrays c.args.r
 arrays c =
-    let parts = c.well-formed.0.1.1 in
+    let parts = c.well_formed.0.1.1 in
     let sign = parts.1.0.1.1.1.0 in
     let layers = parts.1.1.1.0.1.1.1.1.0 in
-    record { letters = simp length-map at sign.1.1.0.1.0.1; layers = simp length-map at layers.1.1.0.1.0.1 }
+    record { letters = sign.1.1.0.1.0.1; layers = layers.1.1.0.1.0.1 }
 
 -- the report as it is made over the array, which has room for the longest
 report : (c : tie.Start) {end : ℕ} {e : List ℕ} → Put (replicate 160 0) 0 (written 0 (groups_of c.args.r) ++ (61 ∷ [])) end e
@@ -35,9 +35,9 @@ write_fine_spec =
     tie.close
     (tie.spec
     (λ c. search rules) (λ c κs. tt)
-    (λ c. (report c.before.before.before.before c.before.put-report.ensures).0)
-    (λ c. sym (length-take-le _ _ (report c.before.before.before.before.before c.before.before.put-report.ensures).0))
+    (λ c. (report c.before.before.before.before c.put_report-end.ensures).0)
+    (λ c. sym (length-take-le _ _ (report c.before.before.before.before.before c.put_report-end.ensures).0))
     (λ c κs. tt) (λ c. search rules)
     (λ c.
     let d = c.before.before.before.before.before.before.before.before.before in
-    unfold written_of buffer_of canonical_of in delivered d.args.out.now d.requires (report d c.before.before.before.before.before.before.put-report.ensures).1 c.before.before.deliver.ensures))
+    unfold written_of buffer_of canonical_of in delivered c.args.out.now c.requires (report d c.put_report-end.ensures).1 c.deliver.ensures))

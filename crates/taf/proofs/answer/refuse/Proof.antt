@@ -9,4 +9,4 @@ refuse_spec =
     tie.close
     (tie.spec
     (λ c κs. search rules)
-    (λ c. rw c.blank-taf.ensures))
+    (λ c. rw c.blank_taf-report.ensures))

@@ -14,8 +14,8 @@ pub decide_spec : {M : Type 1} → statement M
 decide_spec =
     tie.close
     (tie.spec
-    (λ c. turn-past (row _ _) (has_any (change_words _)) _ _ _ (rw (row-length _ _) c.if1.true))
+    (λ c. turn-past (row _ _) (has_any (change_words _)) _ _ _ (rw (row-length _ _) c.if-place-ge12.true))
     (λ c κs. search rules)
-    (λ c. turn-halts (row _ _) (has_any (change_words _)) _ _ _ (rw (row-length _ _) (omega (arith, c.before.before.if1.false))) (sym c.before.is-change-word.ensures ∙ c.if2.true))
+    (λ c. turn-halts (row _ _) (has_any (change_words _)) _ _ _ (rw (row-length _ _) (omega (arith, c.if-place-ge12.false))) (sym c.is_change_word.ensures ∙ c.if-is_change_word.true))
     (λ c κs. search rules) (λ c κs. search rules)
-    (λ c. turn-found (row _ _) (has_any (change_words _)) _ _ _ (rw (row-length _ _) (omega (arith, c.before.before.before.before.if1.false))) (sym c.before.before.before.is-change-word.ensures ∙ c.before.before.if2.false) c.before.find.ensures c.turn_by.ensures))
+    (λ c. turn-found (row _ _) (has_any (change_words _)) _ _ _ (rw (row-length _ _) (omega (arith, c.if-place-ge12.false))) (sym c.is_change_word.ensures ∙ c.if-is_change_word.false) c.find.ensures c.turn_by.ensures))

@@ -7,17 +7,17 @@ use Rattle.elements.specs.Answers.{as_period}
 use Rattle.taf.proofs.group.read_hours.Statement.{statement}
 use Rattle.taf.proofs.group.read_hours.Tie as tie
 
-returns : tie.Need-returns
-returns c = unfold read_period in no-figure as_period _ c.before.field.ensures c.match.keys2
+returns : tie.Need-returns-in_default
+returns c = unfold read_period in no-figure as_period _ c.field.ensures c.in_default.in_default-own.keys2
 
-returns-2 : tie.Need-returns-2
-returns-2 c = unfold read_period in rw (← c.before.before.before.before.before.field.ensures, c.before.before.before.hour.given.1) (no-figure as_period _ c.before.field2.ensures c.match2.keys2)
+returns-2 : tie.Need-returns-in_default-field
+returns-2 c = unfold read_period in rw (← c.field.ensures, c.in-Number.is) (no-figure as_period _ c.field-2.ensures c.in_default-field.in_default-field-own.keys2)
 
-returns-3 : tie.Need-returns-3
-returns-3 c = unfold read_period in rw (← c.before.before.before.before.before.before.before.before.before.before.before.field.ensures, c.before.before.before.before.before.before.before.before.before.hour.given.1, ← c.before.before.before.before.before.before.before.field2.ensures, c.before.before.before.before.before.end.given.1, ← c.before.before.before.is-end-hour.ensures, c.before.before.if1.true, c.before.hour-alone.ensures, c.hour-alone2.ensures)
+returns-3 : tie.Need-returns-then-hour-ends
+returns-3 c = unfold read_period in rw (← c.field.ensures, c.in-Number.is, ← c.field-2.ensures, c.in-Number-field.is, ← c.is_end_hour-ends.ensures, c.if-hour-ends.true, c.hour_alone-from.ensures, c.hour_alone-to.ensures)
 
-returns-4 : tie.Need-returns-4
-returns-4 c = unfold read_period in rw (← c.before.before.before.before.before.before.before.before.before.field.ensures, c.before.before.before.before.before.before.before.hour.given.1, ← c.before.before.before.before.before.field2.ensures, c.before.before.before.end.given.1, ← c.before.is-end-hour.ensures, c.if1.false)
+returns-4 : tie.Need-returns-else-hour-ends
+returns-4 c = unfold read_period in rw (← c.field.ensures, c.in-Number.is, ← c.field-2.ensures, c.in-Number-field.is, ← c.is_end_hour-ends.ensures, c.if-hour-ends.false)
 
 pub read_hours_spec : {M : Type 1} → statement M
 read_hours_spec =

@@ -9,6 +9,6 @@ read_period_spec =
     tie.close
     (tie.spec
     (λ c. search rules) (λ c κs. search rules) (λ c. search rules) (λ c κs. search rules) (λ c. search rules) (λ c κs. search rules)
-    (λ c. rw c.before.enum_told.given.1 c.read-both-days.ensures)
-    (λ c. rw c.before.enum-told2.given.1 c.read-first-day.ensures)
-    (λ c. rw c.before.enum-told3.given.1 c.read-hours.ensures))
+    (λ c. rw c.in-BothDays.is c.read_both_days.ensures)
+    (λ c. rw c.in-FirstDay.is c.read_first_day.ensures)
+    (λ c. rw c.in-NoDay.is c.read_hours.ensures))

@@ -13,9 +13,9 @@ after_word_spec =
     tie.close
     (tie.spec
     (λ c κs. search rules)
-    (λ c. let a = c.before.before.before.args in rw (c.refuse.ensures, c.before.if1.true) (meets-lacking a.edition a.g.now a.start a.end a.n))
+    (λ c. let a = c.args in rw (c.refuse.ensures, c.if-lacking.true) (meets-lacking a.edition a.g.now a.start a.end a.n))
     (λ c κs. search rules) (λ c κs. search rules)
-    (λ c. let a = c.before.before.before.before.before.args in rw (c.refuse2.ensures, c.before.before.before.if1.false) (meets-full a.edition a.g.now a.start a.end a.n (leb-true 16 a.n (sym c.before.before.is-full.ensures ∙ c.before.if2.true))))
+    (λ c. let a = c.args in rw (c.refuse-then-is_full.ensures, c.if-lacking.false) (meets-full a.edition a.g.now a.start a.end a.n (leb-true 16 a.n (sym c.is_full.ensures ∙ c.if-is_full.true))))
     (λ c κs. search rules) (λ c. search rules) (λ c. search rules) (λ c κs. search rules)
-    (λ c. let a = c.before.before.before.before.before.before.before.before.args in rw c.before.before.before.before.before.before.if1.false (meets-good a.edition a.g.now a.start a.end a.n (omega (arith, leb-false 16 a.n (sym c.before.before.before.before.before.is-full.ensures ∙ c.before.before.before.before.if2.false))) _ c.before.before.before.open-change.ensures _ _ c.before.opened.given.1))
-    (λ c. let a = c.before.before.before.before.before.before.before.before.before.args in rw (c.refuse3.ensures, c.before.before.before.before.before.before.before.if1.false) (meets-bad a.edition a.g.now a.start a.end a.n (omega (arith, leb-false 16 a.n (sym c.before.before.before.before.before.before.is-full.ensures ∙ c.before.before.before.before.before.if2.false))) _ c.before.before.before.before.open-change.ensures c.before.before.opened2.given.1)))
+    (λ c. let a = c.args in rw c.if-lacking.false (meets-good a.edition a.g.now a.start a.end a.n (omega (arith, leb-false 16 a.n (sym c.is_full.ensures ∙ c.if-is_full.false))) _ c.open_change-opened.ensures _ _ c.in-Good.is))
+    (λ c. let a = c.args in rw (c.refuse-in-Bad.ensures, c.if-lacking.false) (meets-bad a.edition a.g.now a.start a.end a.n (omega (arith, leb-false 16 a.n (sym c.is_full.ensures ∙ c.if-is_full.false))) _ c.open_change-opened.ensures c.in-Bad.is)))

@@ -9,4 +9,4 @@ end_part_spec =
     tie.close
     (tie.spec
     (λ c κs. search rules) (λ c κs. search rules) (λ c κs. search rules)
-    (λ c e. rw (c.end-verdict.ensures, c.before.owes.ensures e, c.before.before.with-body.ensures)))
+    (λ c e. rw (c.end_verdict-verdict.ensures, c.owes.ensures e, c.with_body-leg.ensures)))

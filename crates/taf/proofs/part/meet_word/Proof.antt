@@ -9,4 +9,4 @@ meet_word_spec =
     tie.close
     (tie.spec
     (λ c κs. search rules) (λ c κs. search rules) (λ c κs. search rules) (λ c κs. search rules)
-    (λ c. (c.before.before.before.with-body.ensures, rw (c.before.owes.ensures c.before.before.before.before.before.args.edition, c.before.before.part.ensures, c.before.before.before.with-body.ensures) at c.after-word.ensures)))
+    (λ c. (c.with_body-leg.ensures, rw (c.owes.ensures c.args.edition, c.part-g.ensures, c.with_body-leg.ensures) at c.after_word-next.ensures)))

@@ -18,46 +18,46 @@ use Rattle.taf.proofs.Turns.{Reached, part-over, part-word, part-fault}
 use Rattle.taf.proofs.part.read_part.Statement.{statement}
 use Rattle.taf.proofs.part.read_part.Tie as tie
 
-abbrev Inv : tie.invariant-loop
+abbrev Inv : tie.invariant-loop-start
 Inv edition text at n part leg₀ body₀ here₀ standing₀ from₀ leg body here standing from = Reached edition text part n standing₀ leg₀ at here standing (set_body body leg) from
 
-abbrev μ : tie.decreases-loop
+abbrev μ : tie.decreases-loop-start
 μ edition text at n part leg₀ body₀ here₀ standing₀ from₀ leg body here standing from = length text - from
 
 -- the group that is taken; it lies ahead, and the part with it is read on from there
-abbrev group : tie.After-known-told3 Inv μ → Saying
-group c = c.before.met3.given.0.0
+abbrev group : tie.In-Says Inv μ → Saying
+group c = c.in-Says.group
 
-less : (c : tie.After-part Inv μ) → length c.before.before.before.before.before.before.before.before.before.before.before.args.text.now - (group c.before.before.before).end < length c.before.before.before.before.before.before.before.before.before.before.before.args.text.now - c.before.before.before.before.before.before.before.loop.from
-less c = omega (arith, group-ahead c.before.before.before.before.before.before.before.loop.invariant part_said _ c.before.before.before.before.before.before.meet.ensures refl c.before.before.before.before.met3.given.1)
+less : (c : tie.After-part-g Inv μ) → length c.args.text.now - (group c.before.before.before).end < length c.args.text.now - c.loop-start.from
+less c = omega (arith, group-ahead c.loop-start.invariant part_said _ c.meet-met.ensures refl c.in-Says.is)
 
-on : (c : tie.After-part Inv μ) {x : Said} {leg : Leg} → (group c.before.before.before).said ≡ x → leg ≡ part_said (group c.before.before.before).count c.part.result.now x (set_body c.before.before.before.before.before.before.before.loop.body c.before.before.before.before.before.before.before.loop.leg)
-    → Reached c.before.before.before.before.before.before.before.before.before.before.before.args.edition c.before.before.before.before.before.before.before.before.before.before.before.args.text.now c.before.before.before.before.before.before.before.before.before.before.before.args.outset.part c.before.before.before.before.before.before.before.before.before.before.before.args.n c.before.before.before.before.before.before.before.before.before.before.before.args.outset.stood c.before.before.before.before.before.before.before.before.before.begin-leg.result c.before.before.before.before.before.before.before.before.before.before.before.args.at c.before.before.go-past.result ((group c.before.before.before).count + 1) leg (group c.before.before.before).end
-on c is put = reads_on c.before.before.before.before.before.before.before.loop.invariant part_said _ c.before.before.before.before.before.before.meet.ensures refl c.before.before.before.before.met3.given.1 (c.before.before.go-past.ensures _ _) is (rw c.part.ensures at put)
+on : (c : tie.After-part-g Inv μ) {x : Said} {leg : Leg} → (group c.before.before.before).said ≡ x → leg ≡ part_said (group c.before.before.before).count c.part-g.result.now x (set_body c.loop-start.body c.loop-start.leg)
+    → Reached c.args.edition c.args.text.now c.args.outset.part c.args.n c.args.outset.stood c.begin_leg-leg.result c.args.at c.go_past-here.result ((group c.before.before.before).count + 1) leg (group c.before.before.before).end
+on c is put = reads_on c.loop-start.invariant part_said _ c.meet-met.ensures refl c.in-Says.is (c.go_past-here.ensures _ _) is (rw c.part-g.ensures at put)
 
 pub read_part_spec : {M : Type 1} → statement M
 read_part_spec =
     tie.close
     (tie.spec
     Inv μ
-    (λ c κs. search rules) (λ c. let a = c.before.before.before.args in starts (changes a.edition) a.text.now (part_in a.edition a.outset.part) (16 - a.n) a.outset.stood _ a.at (λ x. (refl, refl))) (λ c κs. search rules)
+    (λ c κs. search rules) (λ c. let a = c.args in starts (changes a.edition) a.text.now (part_in a.edition a.outset.part) (16 - a.n) a.outset.stood _ a.at (λ x. (refl, refl))) (λ c κs. search rules)
     (λ c. search rules) (λ c κs. search rules)
-    (λ c. part-over (rw c.before.before.before.before.before.before.begin-leg.ensures at c.before.before.before.before.loop.invariant) c.before.before.before.meet.ensures c.before.enum_told.given.1 c.end-part.ensures)
+    (λ c. part-over (rw c.begin_leg-leg.ensures at c.loop-start.invariant) c.meet-met.ensures c.in-Over.is c.end_part.ensures)
     (λ c. search rules) (λ c κs. search rules)
-    (λ c. part-word (rw c.before.before.before.before.before.before.before.begin-leg.ensures at c.before.before.before.before.before.loop.invariant) c.before.before.before.before.meet.ensures c.before.before.met.given.1 c.meet-word.ensures)
+    (λ c. part-word (rw c.begin_leg-leg.ensures at c.loop-start.invariant) c.meet-met.ensures c.in-Halt.is c.meet_word.ensures)
     (λ c. search rules) (λ c κs. search rules)
-    (λ c. part-fault (rw c.before.before.before.before.before.before.before.begin-leg.ensures at c.before.before.before.before.before.loop.invariant) c.before.before.before.before.meet.ensures c.before.before.met2.given.1 (rw c.refuse-part.ensures))
+    (λ c. part-fault (rw c.begin_leg-leg.ensures at c.loop-start.invariant) c.meet-met.ensures c.in-Refused.is (rw c.refuse_part.ensures))
     (λ c. search rules) (λ c κs. search rules)
-    (λ c. omega (arith, group-ahead c.before.before.before.before.before.before.loop.invariant part_said _ c.before.before.before.before.before.meet.ensures refl c.before.before.before.met3.given.1))
+    (λ c. omega (arith, group-ahead c.loop-start.invariant part_said _ c.meet-met.ensures refl c.in-Says.is))
     (λ c κs. search rules)
-    (λ c. search rules) (λ c κs. search rules) (λ c. less c.before.before.before.before) (λ c. on c.before.before.before.before c.before.before.said.given.1 (rw c.with-correction.ensures (unfold part_said in refl)))
-    (λ c. search rules) (λ c κs. search rules) (λ c. less c.before.before.before) (λ c. on c.before.before.before c.before.enum-told2.given.1 (rw c.station-of.ensures (unfold part_said in refl)))
-    (λ c. search rules) (λ c. less c.before.before.before) (λ c. on c.before.before.before c.before.said2.given.1 (unfold part_said in refl))
-    (λ c. search rules) (λ c. less c.before.before) (λ c. on c.before.before c.enum-told3.given.1 (unfold part_said in refl))
-    (λ c. search rules) (λ c. less c.before.before.before) (λ c. on c.before.before.before c.before.said3.given.1 (unfold part_said in refl))
-    (λ c. search rules) (λ c. less c.before.before) (λ c. on c.before.before c.enum-told4.given.1 (unfold part_said in refl))
-    (λ c. search rules) (λ c. less c.before.before.before) (λ c. on c.before.before.before c.before.said4.given.1 (unfold part_said in unfold put_said in refl))
-    (λ c. search rules) (λ c. less c.before.before.before) (λ c. on c.before.before.before c.before.said5.given.1 (unfold part_said in unfold put_said in refl))
-    (λ c. search rules) (λ c κs. search rules) (λ c. less c.before.before.before.before) (λ c. on c.before.before.before.before c.before.before.said6.given.1 (rw c.add-weather.ensures (unfold part_said in unfold put_said in refl)))
-    (λ c. search rules) (λ c κs. search rules) (λ c. less c.before.before.before.before) (λ c. on c.before.before.before.before c.before.before.said7.given.1 (rw c.add-layer.ensures (unfold part_said in unfold put_said in refl)))
-    (λ c κs. search rules) (λ c. less c.before.before) (λ c. on c.before.before refl (rw c.put.ensures (others _ _ _ _ c.before.match2.keys11))))
+    (λ c. search rules) (λ c κs. search rules) (λ c. less c.before.before) (λ c. on c.before.before c.in-Correction.is (rw c.with_correction-leg.ensures (unfold part_said in refl)))
+    (λ c. search rules) (λ c κs. search rules) (λ c. less c.before.before) (λ c. on c.before.before c.in-Station.is (rw c.station_of-leg.ensures (unfold part_said in refl)))
+    (λ c. search rules) (λ c. less c.before) (λ c. on c.before c.in-Time.is (unfold part_said in refl))
+    (λ c. search rules) (λ c. less c.before) (λ c. on c.before c.in-Nil.is (unfold part_said in refl))
+    (λ c. search rules) (λ c. less c.before) (λ c. on c.before c.in-Period.is (unfold part_said in refl))
+    (λ c. search rules) (λ c. less c.before) (λ c. on c.before c.in-Cancelled.is (unfold part_said in refl))
+    (λ c. search rules) (λ c. less c.before) (λ c. on c.before c.in-Wind.is (unfold part_said in unfold put_said in refl))
+    (λ c. search rules) (λ c. less c.before) (λ c. on c.before c.in-Visibility.is (unfold part_said in unfold put_said in refl))
+    (λ c. search rules) (λ c κs. search rules) (λ c. less c.before.before.before) (λ c. on c.before.before.before c.in-Weather.is (rw c.add_weather-body.ensures (unfold part_said in unfold put_said in refl)))
+    (λ c. search rules) (λ c κs. search rules) (λ c. less c.before.before.before) (λ c. on c.before.before.before c.in-Layer.is (rw c.add_layer-body.ensures (unfold part_said in unfold put_said in refl)))
+    (λ c κs. search rules) (λ c. less c.before.before) (λ c. on c.before.before refl (rw c.put-body.ensures (others _ _ _ _ c.in_default.in_default-own.keys11))))

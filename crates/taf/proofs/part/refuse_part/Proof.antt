@@ -9,4 +9,4 @@ refuse_part_spec =
     tie.close
     (tie.spec
     (λ c κs. search rules)
-    (λ c. rw c.refuse.ensures))
+    (λ c. rw c.refuse-next.ensures))

@@ -52,14 +52,14 @@ pub +read_body_read_change_spec : {M : Type 1} → statement M
 +read_body_read_change_spec =
     close μ-read-body μ-read-change
     (λ t. read-body-lts.spec (body-calls t) (body_at t) read-body.Post
-    (λ c κs. search rules) (λ c. omega (arith, c.before.before.requires.1)) (λ c κs. search rules) (λ c κs. search rules) (λ c. search rules)
-    (λ c. omega (arith, c.before.before.before.before.before.before.before.requires.1)) (λ c κs. search rules) (λ c. omega (arith, c.before.before.before.before.before.before.before.before.requires.1)) (λ c. omega (arith, c.before.before.before.before.before.before.before.before.requires.1)) (λ c. search rules)
-    (λ c. omega (arith, c.before.before.before.before.before.before.before.requires.1))
-    (λ c κs. let b = c.before.before.before.before.before.before.before in let h = c.before.before.before.before.read-part.ensures.ahead _ _ _ c.before.next2.given.1 in (omega (arith, h.0, h.1, b.requires.0), h.2))
-    (λ c. omega (arith, c.before.before.before.before.before.before.before.before.requires.1)) (λ c. omega (arith, c.before.before.before.before.before.before.before.before.requires.1))
-    (λ c. let a = c.before.before.before.before.before.before.before.before.args in body-ends a.edition a.text.now a.n a.opening a.period a.at c.before.before.before.before.before.before.before.before.requires.1 c.before.before.before.before.before.before.part_of.ensures c.before.before.before.before.before.read-part.ensures c.before.before.before.before.change-of.ensures c.before.before.next.given.1 c.none.ensures)
-    (λ c. let a = c.before.before.before.before.before.before.before.before.args in body-goes a.edition a.text.now a.n a.opening a.period a.at c.before.before.before.before.before.before.before.before.requires.1 c.before.before.before.before.before.before.part_of.ensures c.before.before.before.before.before.read-part.ensures c.before.before.before.before.change-of.ensures c.before.before.next2.given.1 c.read-change.ensures))
+    (λ c κs. search rules) (λ c. omega (arith, c.requires.1)) (λ c κs. search rules) (λ c κs. search rules) (λ c. search rules)
+    (λ c. omega (arith, c.requires.1)) (λ c κs. search rules) (λ c. omega (arith, c.requires.1)) (λ c. omega (arith, c.requires.1)) (λ c. search rules)
+    (λ c. omega (arith, c.requires.1))
+    (λ c κs. let b = c in let h = c.read_part-read.ensures.ahead _ _ _ c.in-Change.is in (omega (arith, h.0, h.1, b.requires.0), h.2))
+    (λ c. omega (arith, c.requires.1)) (λ c. omega (arith, c.requires.1))
+    (λ c. let a = c.args in body-ends a.edition a.text.now a.n a.opening a.period a.at c.requires.1 c.part_of-part.ensures c.read_part-read.ensures c.change_of-change.ensures c.in-End.is c.none-ahead.ensures)
+    (λ c. let a = c.args in body-goes a.edition a.text.now a.n a.opening a.period a.at c.requires.1 c.part_of-part.ensures c.read_part-read.ensures c.change_of-change.ensures c.in-Change.is c.read_change-ahead.ensures))
     λ t. read-change-lts.spec (change-calls t) (change-at t) read-change.Post
     (λ c κs. search rules)
-    (λ c κs. let b = c.before.before in (omega (arith, (c.begin-part.ensures b.args.edition).later, b.requires.0), b.requires.1))
-    (λ c. let a = c.before.before.before.args in change-goes a.edition a.text.now a.n a.opening _ a.period a.at _ c.before.begin-part.ensures c.read-body.ensures)
+    (λ c κs. let b = c in (omega (arith, (c.begin_part-start.ensures b.args.edition).later, b.requires.0), b.requires.1))
+    (λ c. let a = c.args in change-goes a.edition a.text.now a.n a.opening _ a.period a.at _ c.begin_part-start.ensures c.read_body.ensures)

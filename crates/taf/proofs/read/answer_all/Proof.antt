@@ -9,5 +9,5 @@ answer_all_spec =
     tie.close
     (tie.spec
     (λ c. search rules) (λ c κs. search rules) (λ c. search rules) (λ c κs. search rules)
-    (λ c. rw (c.before.before.before.verdict.given.1, c.accept.ensures))
-    (λ c. rw (c.before.before.verdict2.given.1, c.refuse.ensures)))
+    (λ c. rw (c.in-Accepted.is, c.accept.ensures))
+    (λ c. rw (c.in-Refused.is, c.refuse.ensures)))

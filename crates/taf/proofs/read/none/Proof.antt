@@ -9,4 +9,4 @@ none_spec =
     tie.close
     (tie.spec
     (λ c κs. search rules)
-    (λ c. rw c.before.before.blank-taf.ensures))
+    (λ c. rw c.blank_taf-blank.ensures))

@@ -8,4 +8,4 @@ pub read_from_spec : {M : Type 1} → statement M
 read_from_spec =
     tie.close
     (tie.spec
-    (λ c κs. search rules) (λ c. c.read-from-in.ensures))
+    (λ c κs. search rules) (λ c. c.read_from_in.ensures))

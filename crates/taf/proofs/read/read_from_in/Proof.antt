@@ -12,5 +12,5 @@ read_from_in_spec =
     tie.close
     (tie.spec
     (λ c κs. search rules) (λ c κs. search rules) (λ c. search rules) (λ c κs. search rules) (λ c. search rules) (λ c κs. omega arith) (λ c κs. search rules)
-    (λ c. c.answer-alone.ensures ∙ main-ends (rw c.before.before.before.before.before.before.before.blank-leg.ensures at c.before.before.before.before.before.read-part.ensures) c.before.before.next.given.1)
-    (λ c. c.answer-all.ensures ∙ main-goes (rw c.before.before.before.before.before.before.before.before.blank-leg.ensures at c.before.before.before.before.before.before.read-part.ensures) c.before.before.before.next2.given.1 c.before.read-change.ensures))
+    (λ c. c.answer_alone.ensures ∙ main-ends (rw c.blank_leg-blank.ensures at c.read_part-read.ensures) c.in-End.is)
+    (λ c. c.answer_all.ensures ∙ main-goes (rw c.blank_leg-blank.ensures at c.read_part-read.ensures) c.in-Change.is c.read_change.ensures))

@@ -4,11 +4,11 @@ use borrow.Author.Rules.{rules}
 use Rattle.taf.proofs.word.after_probable.Statement.{statement}
 use Rattle.taf.proofs.word.after_probable.Tie as tie
 
-returns-4 : tie.Need-returns-4
-returns-4 c = rw c.before.opening.given.1
+returns-4 : tie.Need-returns-in-Probable
+returns-4 c = rw c.in-Probable.is
 
-returns-5 : tie.Need-returns-5
-returns-5 c = rw c.before.opening2.given.1
+returns-5 : tie.Need-returns-in-ProbablyTemporary
+returns-5 c = rw c.in-ProbablyTemporary.is
 
 pub after_probable_spec : {M : Type 1} → statement M
 after_probable_spec =

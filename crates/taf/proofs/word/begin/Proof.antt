@@ -9,4 +9,4 @@ begin_spec =
     tie.close
     (tie.spec
     (λ c κs. search rules) (λ c κs. search rules)
-    (λ c. rw (c.blank-instant2.ensures, c.before.blank-instant.ensures)))
+    (λ c. rw (c.blank_instant-to.ensures, c.blank_instant-from.ensures)))

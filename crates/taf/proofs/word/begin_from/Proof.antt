@@ -9,4 +9,4 @@ begin_from_spec =
     tie.close
     (tie.spec
     (λ c κs. search rules)
-    (λ c. rw c.blank-instant.ensures))
+    (λ c. rw c.blank_instant-to.ensures))

@@ -8,17 +8,17 @@ use Rattle.taf.proofs.word.begin_part.Statement.{statement}
 use Rattle.taf.proofs.word.begin_part.Tie as tie
 
 -- past the next group's cut
-follows : (c : tie.After-known-told) → Follows c.before.before.before.before.before.args.text.now c.before.before.before.before.before.args.at c.before.start.given.0.0 c.before.start.given.0.1.0
-follows c = when-group c.before.before.before.before.before.args.text.now c.before.before.before.before.before.args.at _ _ (sym c.before.start.given.1 ∙ c.before.before.before.next-group.ensures)
+follows : (c : tie.In-Group) → Follows c.args.text.now c.args.at c.in-Group.start c.in-Group.end
+follows c = when-group c.args.text.now c.args.at _ _ (sym c.in-Group.is ∙ c.next_group.ensures)
 
-returns : tie.Need-returns
-returns c = let a = c.before.before.before.before.args in begins-last a.text.now a.opening a.at (when-end _ _ _ (sym c.enum_told.given.1 ∙ c.before.before.next-group.ensures))
+returns : tie.Need-returns-in_default
+returns c = let a = c.args in begins-last a.text.now a.opening a.at (when-end _ _ _ (sym c.in_default.is ∙ c.next_group.ensures))
 
-returns-2 : tie.Need-returns-2
-returns-2 c = let a = c.before.before.before.before.before.before.before.before.before.args in begins-joined a.text.now a.opening a.at (follows c.before.before.before.before) c.before.before.before.part.ensures (sym c.before.before.does-join.ensures ∙ c.before.if1.true) c.after-probable.ensures
+returns-2 : tie.Need-returns-then-does_join
+returns-2 c = let a = c.args in begins-joined a.text.now a.opening a.at (follows c.before.before.before.before) c.part.ensures (sym c.does_join.ensures ∙ c.if-does_join.true) c.after_probable-both.ensures
 
-returns-3 : tie.Need-returns-3
-returns-3 c = let a = c.before.before.before.before.before.before.before.before.args in begins-other a.text.now a.opening a.at (follows c.before.before.before) c.before.before.part.ensures (sym c.before.does-join.ensures ∙ c.if1.false)
+returns-3 : tie.Need-returns-else-does_join
+returns-3 c = let a = c.args in begins-other a.text.now a.opening a.at (follows c.before.before.before) c.part.ensures (sym c.does_join.ensures ∙ c.if-does_join.false)
 
 pub begin_part_spec : {M : Type 1} → statement M
 begin_part_spec =

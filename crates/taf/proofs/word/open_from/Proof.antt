@@ -9,5 +9,5 @@ open_from_spec =
     tie.close
     (tie.spec
     (λ c. search rules) (λ c κs. search rules) (λ c. search rules) (λ c κs. search rules)
-    (λ c. rw c.before.enum_told.given.1 c.open-from-day.ensures)
-    (λ c. rw c.before.enum-told2.given.1 c.open-from-hour.ensures))
+    (λ c. rw c.in-Present.is c.open_from_day.ensures)
+    (λ c. rw c.in-Of2005.is c.open_from_hour.ensures))

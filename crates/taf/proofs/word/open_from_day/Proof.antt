@@ -5,20 +5,20 @@ use Rattle.aerodrome_groups.proofs.Readings.{no-figure}
 use Rattle.taf.proofs.word.open_from_day.Statement.{statement}
 use Rattle.taf.proofs.word.open_from_day.Tie as tie
 
-returns : tie.Need-returns
-returns c = no-figure (λ x. x) _ c.before.field.ensures c.match.keys2
+returns : tie.Need-returns-in_default
+returns c = no-figure (λ x. x) _ c.field.ensures c.in_default.in_default-own.keys2
 
-returns-2 : tie.Need-returns-2
-returns-2 c = rw (← c.before.before.before.before.before.field.ensures, c.before.before.before.day.given.1) (no-figure (λ x. x) _ c.before.field2.ensures c.match2.keys2)
+returns-2 : tie.Need-returns-in_default-field
+returns-2 c = rw (← c.field.ensures, c.in-Number.is) (no-figure (λ x. x) _ c.field-2.ensures c.in_default-field.in_default-field-own.keys2)
 
-returns-3 : tie.Need-returns-3
-returns-3 c = rw (← c.before.before.before.before.before.before.before.before.before.field.ensures, c.before.before.before.before.before.before.before.day.given.1, ← c.before.before.before.before.before.field2.ensures, c.before.before.before.hour.given.1) (no-figure (λ x. x) _ c.before.field3.ensures c.match3.keys2)
+returns-3 : tie.Need-returns-in_default-field-2
+returns-3 c = rw (← c.field.ensures, c.in-Number.is, ← c.field-2.ensures, c.in-Number-field.is) (no-figure (λ x. x) _ c.field-3.ensures c.in_default-field-2.in_default-field-2-own.keys2)
 
-returns-4 : tie.Need-returns-4
-returns-4 c = rw (c.begin-from.ensures, ← c.before.before.before.before.before.before.before.before.before.before.before.before.before.field.ensures, c.before.before.before.before.before.before.before.before.before.before.before.day.given.1, ← c.before.before.before.before.before.before.before.before.before.field2.ensures, c.before.before.before.before.before.before.before.hour.given.1, ← c.before.before.before.before.before.field3.ensures, c.before.before.before.minute.given.1, c.before.if1.true)
+returns-4 : tie.Need-returns-then-day-hour
+returns-4 c = rw (c.begin_from.ensures, ← c.field.ensures, c.in-Number.is, ← c.field-2.ensures, c.in-Number-field.is, ← c.field-3.ensures, c.in-Number-field-2.is, c.if-day-hour.true)
 
-returns-5 : tie.Need-returns-5
-returns-5 c = rw (← c.before.before.before.before.before.before.before.before.before.before.before.before.field.ensures, c.before.before.before.before.before.before.before.before.before.before.day.given.1, ← c.before.before.before.before.before.before.before.before.field2.ensures, c.before.before.before.before.before.before.hour.given.1, ← c.before.before.before.before.field3.ensures, c.before.before.minute.given.1, c.if1.false)
+returns-5 : tie.Need-returns-else-day-hour
+returns-5 c = rw (← c.field.ensures, c.in-Number.is, ← c.field-2.ensures, c.in-Number-field.is, ← c.field-3.ensures, c.in-Number-field-2.is, c.if-day-hour.false)
 
 pub open_from_day_spec : {M : Type 1} → statement M
 open_from_day_spec =

@@ -5,14 +5,14 @@ use Rattle.aerodrome_groups.proofs.Readings.{no-figure}
 use Rattle.taf.proofs.word.open_probable.Statement.{statement}
 use Rattle.taf.proofs.word.open_probable.Tie as tie
 
-returns : tie.Need-returns
-returns c = no-figure (λ x. x) _ c.before.field.ensures c.match.keys2
+returns : tie.Need-returns-in_default
+returns c = no-figure (λ x. x) _ c.field.ensures c.in_default.in_default-own.keys2
 
-returns-2 : tie.Need-returns-2
-returns-2 c = rw (c.begin.ensures, ← c.before.before.before.before.before.field.ensures, c.before.before.before.chance.given.1, c.before.if1.true)
+returns-2 : tie.Need-returns-then-chance
+returns-2 c = rw (c.begin.ensures, ← c.field.ensures, c.in-Number.is, c.if-chance.true)
 
-returns-3 : tie.Need-returns-3
-returns-3 c = rw (← c.before.before.before.before.field.ensures, c.before.before.chance.given.1, c.if1.false)
+returns-3 : tie.Need-returns-else-chance
+returns-3 c = rw (← c.field.ensures, c.in-Number.is, c.if-chance.false)
 
 pub open_probable_spec : {M : Type 1} → statement M
 open_probable_spec =

@@ -17,15 +17,15 @@ find_spec =
     (tie.spec
     (λ c κs. search rules) (λ c κs. search rules) (λ c κs. search rules) (λ c. search rules) (λ c. search rules) (λ c κs. search rules)
     (λ c.
-    let a = c.before.before.before.before.before.before.before.before.args in
-    find-fit (row a.edition a.part) a.g.now a.place a.count c.before.before.before.before.before.before.fit-from.ensures (rw (row-length a.edition a.part) (omega arith))
-    (rw (← c.before.before.before.before.mosts.ensures a.edition, ← c.before.before.before.musts.ensures a.edition) c.found_at.ensures))
+    let a = c.args in
+    find-fit (row a.edition a.part) a.g.now a.place a.count c.fit_from-fit.ensures (rw (row-length a.edition a.part) (omega arith))
+    (rw (← c.mosts-most.ensures a.edition, ← c.musts-must.ensures a.edition) c.found_at.ensures))
     (λ c κs. search rules)
     (λ c.
-    let a = c.before.before.before.before.before.args in
-    let e = c.before.fit-from2.result in
-    find_none (row a.edition a.part) a.g.now a.place a.count c.before.before.before.fit-from.ensures e (rw (row-length a.edition a.part) (omega arith)) c.before.fit-from2.ensures true (lt-ltb e (length (row a.edition a.part)) (rw (row-length a.edition a.part) (omega arith))))
+    let a = c.args in
+    let e = c.fit_from.result in
+    find_none (row a.edition a.part) a.g.now a.place a.count c.fit_from-fit.ensures e (rw (row-length a.edition a.part) (omega arith)) c.fit_from.ensures true (lt-ltb e (length (row a.edition a.part)) (rw (row-length a.edition a.part) (omega arith))))
     (λ c.
-    let a = c.before.before.before.before.before.args in
-    let e = c.before.fit-from2.result in
-    find_none (row a.edition a.part) a.g.now a.place a.count c.before.before.before.fit-from.ensures e (rw (row-length a.edition a.part) (omega arith)) c.before.fit-from2.ensures false (le-ltb e (length (row a.edition a.part)) (rw (row-length a.edition a.part) (omega arith)))))
+    let a = c.args in
+    let e = c.fit_from.result in
+    find_none (row a.edition a.part) a.g.now a.place a.count c.fit_from-fit.ensures e (rw (row-length a.edition a.part) (omega arith)) c.fit_from.ensures false (le-ltb e (length (row a.edition a.part)) (rw (row-length a.edition a.part) (omega arith)))))

@@ -5,11 +5,11 @@ use Rattle.taf_row.proofs.Rows.{past_end}
 use Rattle.taf_row.proofs.row.go_past.Statement.{statement}
 use Rattle.taf_row.proofs.row.go_past.Tie as tie
 
-returns : tie.Need-returns
-returns c e w = past_end e w _ true c.if1.true
+returns : tie.Need-returns-then-place
+returns c e w = past_end e w _ true c.if-place.true
 
-returns-2 : tie.Need-returns-2
-returns-2 c e w = past_end e w _ false c.if1.false
+returns-2 : tie.Need-returns-else-place
+returns-2 c e w = past_end e w _ false c.if-place.false
 
 pub go_past_spec : {M : Type 1} → statement M
 go_past_spec =

@@ -7,12 +7,12 @@ use Rattle.taf_row.proofs.row.is_change_word.Tie as tie
 
 returns : tie.Need-returns
 returns c =
-    let a = c.before.before.before.before.before.before.before.before.args in
-    change-word a.edition a.g.now c.before.before.before.before.before.has-pattern.ensures c.before.before.before.has-pattern2.ensures c.before.has-pattern3.ensures c.is-from.ensures
+    let a = c.args in
+    change-word a.edition a.g.now c.has_pattern-becoming.ensures c.has_pattern-temporary.ensures c.has_pattern-probable.ensures c.is_from-from.ensures
 
 pub is_change_word_spec : {M : Type 1} → statement M
 is_change_word_spec =
     tie.close
     (tie.spec
-    (λ c. search rules) (λ c κs. search rules) (λ c. search rules) (λ c κs. search rules) (λ c. search rules) (λ c κs. search rules)
+    (λ c κs. search rules) (λ c κs. search rules) (λ c κs. search rules)
     (λ c κs. search rules) returns)

@@ -9,4 +9,4 @@ is_end_hour_spec =
     tie.close
     (tie.spec
     (λ c. search rules) (λ c. search rules) (λ c. search rules)
-    (λ c. rw c.enum_told.given.1) (λ c. rw c.enum-told2.given.1) (λ c. rw c.enum-told3.given.1))
+    (λ c. rw c.in-BothDays.is) (λ c. rw c.in-FirstDay.is) (λ c. rw c.in-NoDay.is))

@@ -13,8 +13,8 @@ is_fit_spec =
     (tie.spec
     (λ c κs. search rules) (λ c. search rules) (λ c κs. search rules) (λ c κs. search rules) (λ c κs. search rules)
     (λ c.
-    let a = c.before.before.before.before.before.before.before.args in
-    fit-open (row a.edition a.part) a.g.now a.all a.place a.count (c.before.before.before.before.before.mosts.ensures a.edition) c.before.before.before.most-at.ensures (sym c.before.before.may-answer.ensures ∙ c.before.if1.true) (c.has-at.ensures a.part))
+    let a = c.args in
+    fit-open (row a.edition a.part) a.g.now a.all a.place a.count (c.mosts-most.ensures a.edition) c.most_at.ensures (sym c.may_answer.ensures ∙ c.if-may_answer.true) (c.has_at.ensures a.part))
     (λ c.
-    let a = c.before.before.before.before.before.before.args in
-    fit-shut (row a.edition a.part) a.g.now a.all a.place a.count (c.before.before.before.before.mosts.ensures a.edition) c.before.before.most-at.ensures (sym c.before.may-answer.ensures ∙ c.if1.false)))
+    let a = c.args in
+    fit-shut (row a.edition a.part) a.g.now a.all a.place a.count (c.mosts-most.ensures a.edition) c.most_at.ensures (sym c.may_answer.ensures ∙ c.if-may_answer.false)))

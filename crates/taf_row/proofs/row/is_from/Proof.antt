@@ -8,6 +8,6 @@ pub is_from_spec : {M : Type 1} → statement M
 is_from_spec =
     tie.close
     (tie.spec
-    (λ c. search rules) (λ c. search rules) (λ c κs. search rules) (λ c. search rules) (λ c. search rules) (λ c κs. search rules)
-    (λ c. rw c.before.before.enum_told.given.1 c.has-pattern.ensures)
-    (λ c. rw c.before.before.enum-told2.given.1 c.has-pattern2.ensures))
+    (λ c. search rules) (λ c κs. search rules) (λ c. search rules) (λ c κs. search rules)
+    (λ c. rw c.in-Present.is c.has_pattern.ensures)
+    (λ c. rw c.in-Of2005.is c.has_pattern-in-Of2005.ensures))

@@ -8,7 +8,7 @@ pub is_period_spec : {M : Type 1} → statement M
 is_period_spec =
     tie.close
     (tie.spec
-    (λ c. search rules) (λ c. search rules) (λ c κs. search rules) (λ c. search rules) (λ c. search rules) (λ c κs. search rules) (λ c. search rules) (λ c. search rules) (λ c κs. search rules)
-    (λ c. rw c.before.before.enum_told.given.1 c.has-pattern.ensures)
-    (λ c. rw c.before.before.enum-told2.given.1 c.has-pattern2.ensures)
-    (λ c. rw c.before.before.enum-told3.given.1 c.has-pattern3.ensures))
+    (λ c. search rules) (λ c κs. search rules) (λ c. search rules) (λ c κs. search rules) (λ c. search rules) (λ c κs. search rules)
+    (λ c. rw c.in-BothDays.is c.has_pattern.ensures)
+    (λ c. rw c.in-FirstDay.is c.has_pattern-in-FirstDay.ensures)
+    (λ c. rw c.in-NoDay.is c.has_pattern-in-NoDay.ensures))

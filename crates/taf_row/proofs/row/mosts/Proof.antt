@@ -6,7 +6,7 @@ use Rattle.taf_row.proofs.row.mosts.Statement.{statement}
 use Rattle.taf_row.proofs.row.mosts.Tie as tie
 
 returns : tie.Need-returns
-returns c = mosts-by c.before.before.before.before.args.part c.before.before.before.is-main.ensures c.before.before.one-if.ensures c.before.is-changing.ensures c.one-if2.ensures
+returns c = mosts-by c.args.part c.is_main-main.ensures c.one_if-head.ensures c.is_changing-changing.ensures c.one_if-change.ensures
 
 pub mosts_spec : {M : Type 1} → statement M
 mosts_spec =

@@ -6,7 +6,7 @@ use Rattle.taf_row.proofs.row.musts.Statement.{statement}
 use Rattle.taf_row.proofs.row.musts.Tie as tie
 
 returns : tie.Need-returns
-returns c = musts-by c.before.before.before.args.part c.before.before.is-main.ensures c.before.is-changing.ensures c.is_whole.ensures
+returns c = musts-by c.args.part c.is_main-main.ensures c.is_changing-changing.ensures c.is_whole-whole.ensures
 
 pub musts_spec : {M : Type 1} → statement M
 musts_spec =

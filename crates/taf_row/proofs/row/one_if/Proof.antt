@@ -3,11 +3,11 @@
 use Rattle.taf_row.proofs.row.one_if.Statement.{statement}
 use Rattle.taf_row.proofs.row.one_if.Tie as tie
 
-returns : tie.Need-returns
-returns c = rw c.if1.true
+returns : tie.Need-returns-then-free
+returns c = rw c.if-free.true
 
-returns-2 : tie.Need-returns-2
-returns-2 c = rw c.if1.false
+returns-2 : tie.Need-returns-else-free
+returns-2 c = rw c.if-free.false
 
 pub one_if_spec : {M : Type 1} → statement M
 one_if_spec =

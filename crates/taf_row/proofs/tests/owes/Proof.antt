@@ -7,8 +7,8 @@ use Rattle.taf_row.proofs.tests.owes.Tie as tie
 
 returns : tie.Need-returns
 returns c =
-    let a = c.before.before.before.before.before.before.args in
-    owes-by a.part a.place a.count a.r c.before.before.before.before.before.musts.ensures c.before.before.before.is-owed.ensures c.before.before.is-main.ensures c.has-element.ensures
+    let a = c.args in
+    owes-by a.part a.place a.count a.r c.musts-must.ensures c.is_owed-owed.ensures c.is_main-main.ensures c.has_element-some.ensures
 
 pub owes_spec : {M : Type 1} → statement M
 owes_spec =

@@ -11,5 +11,5 @@ day_before_spec =
     tie.close
     (tie.spec
     (λ c. search rules)
-    (λ c. unfold day_before in at_most _ _ _ _ c.if1.true)
-    (λ c. unfold day_before in above _ _ _ _ c.if1.false))
+    (λ c. unfold day_before in at_most _ _ _ _ c.if-day-le1.true)
+    (λ c. unfold day_before in above _ _ _ _ c.if-day-le1.false))

@@ -12,5 +12,5 @@ day_from_spec =
     tie.close
     (tie.spec
     (λ c. search rules)
-    (λ c. (unfold day_from in below _ _ _ _ c.if1.true, omega arith))
-    (λ c. (unfold day_from in at_least _ _ _ _ c.if1.false, omega arith)))
+    (λ c. (unfold day_from in below _ _ _ _ c.if-day-start.true, omega arith))
+    (λ c. (unfold day_from in at_least _ _ _ _ c.if-day-start.false, omega arith)))

@@ -11,5 +11,5 @@ day_in_spec =
     tie.close
     (tie.spec
     (λ c. search rules)
-    (λ c. unfold day_in in at_most _ _ _ _ c.if1.true)
-    (λ c. unfold day_in in above _ _ _ _ c.if1.false))
+    (λ c. unfold day_in in at_most _ _ _ _ c.if-day-days.true)
+    (λ c. unfold day_in in above _ _ _ _ c.if-day-days.false))

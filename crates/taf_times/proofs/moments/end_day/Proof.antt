@@ -12,5 +12,5 @@ end_day_spec =
     (λ c κs. search rules)
     (λ c κs. search rules)
     (λ c κs. search rules)
-    (λ c. unfold end_day in rw (c.day-before.ensures, c.before.before.before.day-in.ensures, ← c.before.before.is-midnight.ensures, c.before.if1.true))
-    (λ c. unfold end_day in rw (c.before.before.day-in.ensures, ← c.before.is-midnight.ensures, c.if1.false)))
+    (λ c. unfold end_day in rw (c.day_before.ensures, c.day_in-day.ensures, ← c.is_midnight.ensures, c.if-is_midnight.true))
+    (λ c. unfold end_day in rw (c.day_in-day.ensures, ← c.is_midnight.ensures, c.if-is_midnight.false)))

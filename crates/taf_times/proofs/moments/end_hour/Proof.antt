@@ -11,5 +11,5 @@ end_hour_spec =
     tie.close
     (tie.spec
     (λ c κs. search rules)
-    (λ c. (unfold end_hour in rw (← c.before.is-midnight.ensures, c.if1.true), omega arith))
-    (λ c. (unfold end_hour in rw (← c.before.is-midnight.ensures, c.if1.false), omega arith)))
+    (λ c. (unfold end_hour in rw (← c.is_midnight.ensures, c.if-is_midnight.true), omega arith))
+    (λ c. (unfold end_hour in rw (← c.is_midnight.ensures, c.if-is_midnight.false), omega arith)))

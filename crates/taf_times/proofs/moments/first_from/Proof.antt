@@ -13,5 +13,5 @@ first_from_spec =
     (tie.spec
     (λ c κs. search rules)
     (λ c. search rules)
-    (λ c. (unfold first_from in rw (← c.before.moment.ensures) (at_most _ _ _ _ c.if1.true), omega (arith, c.before.moment.ensures)))
-    (λ c. (unfold first_from in rw (← c.before.moment.ensures) (above _ _ _ _ c.if1.false), omega (arith, c.before.moment.ensures))))
+    (λ c. (unfold first_from in rw (← c.moment-t.ensures) (at_most _ _ _ _ c.if-start-t.true), omega (arith, c.moment-t.ensures)))
+    (λ c. (unfold first_from in rw (← c.moment-t.ensures) (above _ _ _ _ c.if-start-t.false), omega (arith, c.moment-t.ensures))))

@@ -12,5 +12,5 @@ lengthened_spec =
     (tie.spec
     (λ c. search rules)
     (λ c. search rules)
-    (λ c. unfold lengthened in at_most _ _ _ _ c.if1.true)
-    (λ c. unfold lengthened in above _ _ _ _ c.if1.false))
+    (λ c. unfold lengthened in at_most _ _ _ _ c.if-end-start.true)
+    (λ c. unfold lengthened in above _ _ _ _ c.if-end-start.false))

@@ -16,5 +16,5 @@ period_end_spec =
     (λ c. search rules)
     (λ c. search rules)
     (λ c κs. search rules)
-    (λ c. (unfold period_end in c.first-after.ensures.0 ∙ at_most _ _ _ _ c.before.if1.true, omega (arith, c.first-after.ensures.1)))
-    (λ c. (unfold period_end in c.first-after2.ensures.0 ∙ above _ _ _ _ c.before.if1.false, omega (arith, c.first-after2.ensures.1))))
+    (λ c. (unfold period_end in c.first_after.ensures.0 ∙ at_most _ _ _ _ c.if-hour-le50.true, omega (arith, c.first_after.ensures.1)))
+    (λ c. (unfold period_end in c.first_after-else-hour-le50.ensures.0 ∙ above _ _ _ _ c.if-hour-le50.false, omega (arith, c.first_after-else-hour-le50.ensures.1))))

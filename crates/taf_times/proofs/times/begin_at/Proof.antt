@@ -9,4 +9,4 @@ begin_at_spec =
     tie.close
     (tie.spec
     (λ c κs. search rules)
-    (λ c. rw c.day-in.ensures))
+    (λ c. rw c.day_in-day.ensures))

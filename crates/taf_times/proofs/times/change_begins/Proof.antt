@@ -15,5 +15,5 @@ change_begins_spec =
     (λ c κs. search rules)
     (λ c κs. search rules)
     (λ c κs. search rules)
-    (λ c. (rw c.before.before.enum_told.given.1 c.dated.ensures.0, omega (arith, c.dated.ensures.1)))
-    (λ c. (rw (c.before.before.before.enum-told2.given.1, c.first-from.ensures.0, c.before.two-figures2.ensures.0, c.before.before.two-figures.ensures.0), omega (arith, c.first-from.ensures.1))))
+    (λ c. (rw c.in-Present.is c.dated.ensures.0, omega (arith, c.dated.ensures.1)))
+    (λ c. (rw (c.in-Of2005.is, c.first_from.ensures.0, c.two_figures-in-Of2005.ensures.0, c.two_figures.ensures.0), omega (arith, c.first_from.ensures.1))))

@@ -13,5 +13,5 @@ change_ends_spec =
     (λ c. search rules)
     (λ c κs. search rules)
     (λ c κs. search rules)
-    (λ c. rw c.before.before.enum_told.given.1 c.dated.ensures.0)
-    (λ c. rw (c.before.before.enum-told2.given.1, c.first-after.ensures.0, c.before.two-figures.ensures.0)))
+    (λ c. rw c.in-Present.is c.dated.ensures.0)
+    (λ c. rw (c.in-Of2005.is, c.first_after.ensures.0, c.two_figures.ensures.0)))

@@ -16,5 +16,5 @@ change_in_spec =
     (λ c κs. search rules)
     (λ c κs. search rules)
     (λ c κs. search rules)
-    (λ c. unfold change_in in rw (c.before.before.before.if1.true, c.blank-instant.ensures, c.before.in-edition.ensures, c.before.before.time-at.ensures))
-    (λ c. unfold change_in in rw (c.before.before.before.before.if1.false, c.in-edition3.ensures, c.before.end-at.ensures, c.before.before.in-edition2.ensures, c.before.before.before.begin-at.ensures)))
+    (λ c. unfold change_in in rw (c.if-endless.true, c.blank_instant-to.ensures, c.in_edition-from.ensures, c.time_at.ensures))
+    (λ c. unfold change_in in rw (c.if-endless.false, c.in_edition-to.ensures, c.end_at.ensures, c.in_edition-from-else-endless.ensures, c.begin_at.ensures)))

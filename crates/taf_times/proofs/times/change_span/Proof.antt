@@ -11,5 +11,5 @@ change_span_spec =
     (tie.spec
     (λ c κs. search rules)
     (λ c κs. search rules)
-    (λ c. unfold change_span in rw (c.if1.true, c.before.change-begins.ensures.0))
-    (λ c. unfold change_span in rw (c.before.if1.false, c.change-ends.ensures, c.before.before.change-begins.ensures.0)))
+    (λ c. unfold change_span in rw (c.if-endless.true, c.change_begins-from.ensures.0))
+    (λ c. unfold change_span in rw (c.if-endless.false, c.change_ends.ensures, c.change_begins-from.ensures.0)))

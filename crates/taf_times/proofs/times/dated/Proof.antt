@@ -15,4 +15,4 @@ dated_spec =
     (λ c κs. search rules)
     (λ c κs. search rules)
     (λ c κs. search rules)
-    (λ c. (unfold dated in rw (c.moment.ensures, c.before.two-figures3.ensures.0, c.before.before.two-figures2.ensures.0, c.before.before.before.day-from.ensures.0, c.before.before.before.before.two-figures.ensures.0), omega (arith, c.moment.ensures))))
+    (λ c. (unfold dated in rw (c.moment.ensures, c.two_figures-3.ensures.0, c.two_figures-2.ensures.0, c.day_from-from_start.ensures.0, c.two_figures.ensures.0), omega (arith, c.moment.ensures))))

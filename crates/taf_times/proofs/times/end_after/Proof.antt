@@ -10,4 +10,4 @@ end_after_spec =
     (tie.spec
     (λ c κs. search rules)
     (λ c κs. search rules)
-    (λ c. rw (c.lengthened.ensures, c.before.end-hour.ensures.0)))
+    (λ c. rw (c.lengthened-hour.ensures, c.end_hour.ensures.0)))

@@ -10,4 +10,4 @@ end_at_spec =
     (tie.spec
     (λ c κs. search rules)
     (λ c κs. search rules)
-    (λ c. rw (c.end-hour.ensures.0, c.before.end-day.ensures)))
+    (λ c. rw (c.end_hour-hour.ensures.0, c.end_day-day.ensures)))

@@ -12,5 +12,5 @@ end_in_spec =
     (λ c κs. search rules)
     (λ c. search rules)
     (λ c κs. search rules)
-    (λ c. rw c.before.enum_told.given.1 c.end-at.ensures)
-    (λ c. rw c.before.enum-told2.given.1 c.end_after.ensures))
+    (λ c. rw c.in-Present.is c.end_at.ensures)
+    (λ c. rw c.in-Of2005.is c.end_after.ensures))

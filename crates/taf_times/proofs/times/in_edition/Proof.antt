@@ -11,4 +11,4 @@ in_edition_spec =
     (λ c. search rules)
     (λ c. search rules)
     (λ c. search rules)
-    (λ c. rw c.enum-told2.given.1))
+    (λ c. rw c.in-Of2005.is))

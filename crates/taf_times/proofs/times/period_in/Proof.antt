@@ -11,4 +11,4 @@ period_in_spec =
     (tie.spec
     (λ c κs. search rules)
     (λ c κs. search rules)
-    (λ c. unfold period_in in rw (c.end-in.ensures, c.before.begin-at.ensures)))
+    (λ c. unfold period_in in rw (c.end_in-to.ensures, c.begin_at-from.ensures)))

@@ -17,5 +17,5 @@ period_span_spec =
     (λ c. search rules)
     (λ c κs. search rules)
     (λ c κs. search rules)
-    (λ c. (unfold period_span in rw (c.before.enum_told.given.1, c.dated2.ensures.0, c.before.before.before.dated.ensures.0, c.before.before.before.before.two-figures.ensures.0), c.before.before.before.dated.ensures.1))
-    (λ c. (unfold period_span in rw (c.before.before.enum-told2.given.1, c.period-end.ensures.0, c.before.two-figures2.ensures.0, c.before.before.before.before.dated.ensures.0, c.before.before.before.before.before.two-figures.ensures.0), c.before.before.before.before.dated.ensures.1)))
+    (λ c. (unfold period_span in rw (c.in-Present.is, c.dated.ensures.0, c.dated-from.ensures.0, c.two_figures-start.ensures.0), c.dated-from.ensures.1))
+    (λ c. (unfold period_span in rw (c.in-Of2005.is, c.period_end.ensures.0, c.two_figures.ensures.0, c.dated-from.ensures.0, c.two_figures-start.ensures.0), c.dated-from.ensures.1)))

@@ -13,5 +13,5 @@ two_figures_spec =
     (λ c. search rules)
     (λ c. search rules)
     (λ c. search rules)
-    (λ c. (rw c.before.before.n.given.1 (at_most _ _ _ _ c.if1.true), search rules))
-    (λ c. (rw c.before.before.n.given.1 (above _ _ _ _ c.if1.false), search rules)))
+    (λ c. (rw c.in-Is.is (at_most _ _ _ _ c.if-n-le99.true), search rules))
+    (λ c. (rw c.in-Is.is (above _ _ _ _ c.if-n-le99.false), search rules)))

@@ -9,4 +9,4 @@ foreign_blank_spec =
     tie.close
     (tie.spec
     (λ c κs. tt) (λ c κs. tt) (λ c κs. tt)
-    (λ c. unfold foreign_blank in rw (c.is-blank3.ensures, c.before.is-blank2.ensures, c.before.before.is-blank.ensures)))
+    (λ c. unfold foreign_blank in rw (c.is_blank-3.ensures, c.is_blank-2.ensures, c.is_blank.ensures)))

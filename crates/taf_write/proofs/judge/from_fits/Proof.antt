@@ -9,5 +9,5 @@ from_fits_spec =
     tie.close
     (tie.spec
     (λ c. search rules) (λ c κs. tt) (λ c. search rules) (λ c κs. tt) (λ c κs. tt) (λ c κs. tt)
-    (λ c. rw (c.before.enum_told.given.1, c.instant-fits.ensures))
-    (λ c. rw (c.before.before.before.enum-told2.given.1, c.is-up-to2.ensures, c.before.is-up-to.ensures, c.before.before.is-missing.ensures)))
+    (λ c. rw (c.in-Present.is, c.instant_fits.ensures))
+    (λ c. rw (c.in-Of2005.is, c.is_up_to-in-Of2005.ensures, c.is_up_to.ensures, c.is_missing.ensures)))

@@ -8,4 +8,4 @@ is_hour_spec =
     tie.close
     (tie.spec
     (λ c κs. tt) (λ c κs. tt) (λ c κs. tt)
-    (λ c. rw (c.is-missing.ensures, c.before.is-up-to.ensures, c.before.before.is-between.ensures)))
+    (λ c. rw (c.is_missing.ensures, c.is_up_to.ensures, c.is_between.ensures)))

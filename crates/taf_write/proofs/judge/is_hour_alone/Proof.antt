@@ -8,4 +8,4 @@ is_hour_alone_spec =
     tie.close
     (tie.spec
     (λ c κs. tt) (λ c κs. tt) (λ c κs. tt)
-    (λ c. rw (c.is-missing2.ensures, c.before.is-between.ensures, c.before.before.is-missing.ensures)))
+    (λ c. rw (c.is_missing-2.ensures, c.is_between.ensures, c.is_missing.ensures)))

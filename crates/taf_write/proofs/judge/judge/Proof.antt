@@ -9,4 +9,4 @@ judge_spec =
     tie.close
     (tie.spec
     (λ c κs. tt) (λ c κs. tt) (λ c κs. tt) (λ c κs. tt)
-    (λ c. unfold judge_in in rw (c.and_then.ensures, c.before.judge-record.ensures, c.before.before.judge.ensures, c.before.before.before.is_same.ensures)))
+    (λ c. unfold judge_in in rw (c.and_then.ensures, c.judge_record.ensures, c.judge.ensures, c.is_same.ensures)))

@@ -9,4 +9,4 @@ judge_change_spec =
     tie.close
     (tie.spec
     (λ c κs. tt) (λ c κs. tt) (λ c κs. tt) (λ c κs. tt) (λ c κs. tt)
-    (λ c. unfold judge_change in rw (c.and_then.ensures, c.before.judge-part.ensures, c.before.before.part_of.ensures, c.before.before.before.judge.ensures, c.before.before.before.before.opening-fits.ensures)))
+    (λ c. unfold judge_change in rw (c.and_then.ensures, c.judge_part.ensures, c.part_of.ensures, c.judge-opened.ensures, c.opening_fits.ensures)))

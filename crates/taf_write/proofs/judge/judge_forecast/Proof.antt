@@ -8,5 +8,5 @@ judge_forecast_spec =
     tie.close
     (tie.spec
     (λ c κs. tt) (λ c κs. tt) (λ c κs. tt)
-    (λ c. rw c.if1.true)
-    (λ c. rw (c.before.before.before.if1.false, c.and_then.ensures, c.before.before.judge-main.ensures, c.before.judge-changes.ensures)))
+    (λ c. rw c.if-leg.true)
+    (λ c. rw (c.if-leg.false, c.and_then.ensures, c.judge_main.ensures, c.judge_changes.ensures)))

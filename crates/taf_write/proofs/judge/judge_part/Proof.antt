@@ -12,4 +12,4 @@ judge_part_spec =
     (λ c κs. tt) (λ c κs. tt) (λ c κs. tt) (λ c κs. tt) (λ c κs. tt) (λ c κs. tt)
     (λ c.
     unfold judge_part in
-    rw (c.and_then.ensures, c.before.judge-body.ensures false, c.before.before.is_whole.ensures, c.before.before.before.judge.ensures, c.before.before.before.before.has-element.ensures, c.before.before.before.before.before.is-main.ensures)))
+    rw (c.and_then.ensures, c.judge_body.ensures false, c.is_whole.ensures, c.judge-told.ensures, c.has_element.ensures, c.is_main-main.ensures)))

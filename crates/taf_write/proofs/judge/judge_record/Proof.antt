@@ -9,4 +9,4 @@ judge_record_spec =
     tie.close
     (tie.spec
     (λ c κs. tt) (λ c κs. tt) (λ c κs. tt) (λ c κs. tt) (λ c κs. tt) (λ c κs. tt) (λ c κs. tt) (λ c κs. tt)
-    (λ c. unfold judge_of in rw (c.and-then3.ensures, c.before.and-then2.ensures, c.before.before.judge-station.ensures, c.before.before.before.and_then.ensures, c.before.before.before.before.judge-rest.ensures, c.before.before.before.before.before.judge-time.ensures, c.before.before.before.before.before.before.judge.ensures, c.before.before.before.before.before.before.before.foreign-blank.ensures)))
+    (λ c. unfold judge_of in rw (c.and_then-2.ensures, c.and_then.ensures, c.judge_station.ensures, c.and_then-from_time.ensures, c.judge_rest.ensures, c.judge_time.ensures, c.judge-foreign.ensures, c.foreign_blank.ensures)))

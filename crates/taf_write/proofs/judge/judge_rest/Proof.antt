@@ -8,5 +8,5 @@ judge_rest_spec =
     tie.close
     (tie.spec
     (λ c κs. tt) (λ c κs. tt) (λ c κs. tt) (λ c κs. tt) (λ c κs. tt)
-    (λ c. rw c.if1.true)
-    (λ c. rw (c.before.before.before.before.before.if1.false, c.and_then.ensures, c.before.before.judge.ensures, c.before.before.before.period-fits.ensures, c.before.before.before.before.own-form.ensures, c.before.judge-forecast.ensures)))
+    (λ c. rw c.if-leg.true)
+    (λ c. rw (c.if-leg.false, c.and_then.ensures, c.judge.ensures, c.period_fits.ensures, c.own_form.ensures, c.judge_forecast.ensures)))

@@ -10,8 +10,8 @@ opening_fits_spec =
     (tie.spec
     (λ c κs. tt) (λ c κs. tt) (λ c. search rules) (λ c. search rules) (λ c. search rules) (λ c. search rules) (λ c. search rules) (λ c. search rules) (λ c κs. tt) (λ c κs. tt)
     (λ c. search rules)
-    (λ c. rw (c.enum-told2.given.1, c.before.before.period-fits.ensures, c.before.before.before.change-form.ensures))
-    (λ c. rw (c.enum-told3.given.1, c.before.before.period-fits.ensures, c.before.before.before.change-form.ensures))
-    (λ c. rw (c.before.o.given.1, c.before.before.before.period-fits.ensures, c.before.before.before.before.change-form.ensures))
-    (λ c. rw (c.before.o2.given.1, c.before.before.before.period-fits.ensures, c.before.before.before.before.change-form.ensures))
-    (λ c. rw (c.before.before.enum-told4.given.1, c.before.from-fits.ensures, c.is-blank.ensures)))
+    (λ c. rw (c.in-Becoming.is, c.period_fits-dated.ensures, c.change_form.ensures))
+    (λ c. rw (c.in-Temporary.is, c.period_fits-dated.ensures, c.change_form.ensures))
+    (λ c. rw (c.in-Probable.is, c.period_fits-dated.ensures, c.change_form.ensures))
+    (λ c. rw (c.in-ProbablyTemporary.is, c.period_fits-dated.ensures, c.change_form.ensures))
+    (λ c. rw (c.in-From.is, c.from_fits.ensures, c.is_blank.ensures)))

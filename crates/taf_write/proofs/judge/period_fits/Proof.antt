@@ -10,6 +10,6 @@ period_fits_spec =
     tie.close
     (tie.spec
     (λ c. search rules) (λ c κs. tt) (λ c κs. tt) (λ c. search rules) (λ c κs. tt) (λ c κs. tt) (λ c κs. tt) (λ c. search rules) (λ c κs. tt) (λ c κs. tt)
-    (λ c. rw (c.before.before.enum_told.given.1, c.is-hour2.ensures, c.before.is-hour.ensures))
-    (λ c. rw (c.before.before.before.enum-told2.given.1, c.before.before.is-hour3.ensures, c.before.is-hour-alone.ensures, c.is-hour-alone2.ensures, either_end c.before.before.before.before.before.before.before.args.p.to))
-    (λ c. rw (c.before.before.enum-told3.given.1, c.is-hour-alone4.ensures, c.before.is-hour-alone3.ensures, from-midnight c.before.before.before.before.before.before.args.p.from)))
+    (λ c. rw (c.in-BothDays.is, c.is_hour-in-BothDays.ensures, c.is_hour.ensures))
+    (λ c. rw (c.in-FirstDay.is, c.is_hour-in-FirstDay.ensures, c.is_hour_alone.ensures, c.is_hour_alone-in-FirstDay.ensures, either_end c.args.p.to))
+    (λ c. rw (c.in-NoDay.is, c.is_hour_alone-in-NoDay-2.ensures, c.is_hour_alone-in-NoDay.ensures, from-midnight c.args.p.from)))

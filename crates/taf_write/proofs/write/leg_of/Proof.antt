@@ -8,4 +8,4 @@ leg_of_spec =
     tie.close
     (tie.spec
     (λ c κs. tt) (λ c κs. tt)
-    (λ c. rw (c.before.blank-station.ensures, c.blank-instant.ensures)))
+    (λ c. rw (c.blank_station-station.ensures, c.blank_instant-time.ensures)))

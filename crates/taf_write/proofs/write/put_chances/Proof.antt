@@ -9,5 +9,5 @@ pub put_chances_spec : {M : Type 1} → statement M
 put_chances_spec =
     tie.close
     (tie.spec
-    (λ c κs. tt) (λ c. search rules) (λ c κs. tt) (λ c. search rules)
-    (λ c. write-groups _ _ c.before.before.before.before.before.before.before.put-chance.ensures c.before.before.put-group.ensures))
+    (λ c κs. tt) (λ c κs. tt) (λ c. search rules)
+    (λ c. write-groups _ _ c.put_chance-likely.ensures c.put_group.ensures))

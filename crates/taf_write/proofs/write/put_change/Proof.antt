@@ -11,4 +11,4 @@ put_change_spec =
     tie.close
     (tie.spec
     (λ c κs. tt) (λ c κs. tt) (λ c κs. tt) (λ c κs. tt) (λ c. search rules)
-    (λ c. unfold show_change in rw (c.before.before.before.before.part_of.ensures, c.before.before.before.leg-of.ensures) at (write-groups _ _ c.before.before.before.before.before.before.before.before.put-opening.ensures c.before.before.put-part.ensures)))
+    (λ c. unfold show_change in rw (c.part_of.ensures, c.leg_of.ensures) at (write-groups _ _ c.put_opening-opened.ensures c.put_part.ensures)))

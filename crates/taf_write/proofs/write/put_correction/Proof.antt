@@ -9,9 +9,9 @@ pub put_correction_spec : {M : Type 1} → statement M
 put_correction_spec =
     tie.close
     (tie.spec
-    (λ c. search rules) (λ c. search rules) (λ c. search rules) (λ c κs. tt) (λ c. search rules) (λ c. search rules) (λ c κs. tt)
-    (λ c. rw c.enum_told.given.1 (write-none _ _))
+    (λ c. search rules) (λ c. search rules) (λ c κs. tt) (λ c. search rules) (λ c κs. tt)
+    (λ c. rw c.in-None.is (write-none _ _))
     (λ c. search rules)
-    (λ c. rw c.before.before.before.before.before.enum-told2.given.1 c.before.before.put-group.ensures)
+    (λ c. rw c.in-Amended.is c.put_group.ensures)
     (λ c. search rules)
-    (λ c. rw c.before.before.before.before.before.enum-told3.given.1 c.before.before.put-group2.ensures))
+    (λ c. rw c.in-Corrected.is c.put_group-in-Corrected.ensures))

@@ -14,14 +14,14 @@ use Rattle.taf.specs.Write.{show_change, show_each}
 use Rattle.taf_write.proofs.write.put_each.Statement.{statement}
 use Rattle.taf_write.proofs.write.put_each.Tie as tie
 
-abbrev Inv : tie.invariant-loop
+abbrev Inv : tie.invariant-loop-i
 Inv out₀ at edition count items end next₀ i₀ out next i = (i ≤ end) × (end ≡ min count 16) × Put out₀ at (written at (show_each edition (take i items))) next out
 
-abbrev μ : tie.decreases-loop
+abbrev μ : tie.decreases-loop-i
 μ out₀ at edition count items end next₀ i₀ out next i = end - i
 
 -- there are sixteen slots
-sixteen : (c : tie.Start Inv μ) → length c.args.t4 ≡ 16
+sixteen : (c : tie.Start Inv μ) → length c.args.items ≡ 16
 sixteen c = search rules
 
 pub put_each_spec : {M : Type 1} → statement M
@@ -29,16 +29,16 @@ put_each_spec =
     tie.close
     (tie.spec Inv μ
     (λ c κs. tt)
-    (λ c. (omega arith, c.at-most-sixteen.ensures, unfold written in put-none _ _))
+    (λ c. (omega arith, c.at_most_sixteen-end.ensures, unfold written in put-none _ _))
     (λ c. search rules) (λ c. search rules) (λ c κs. search rules) (λ c. search rules) (λ c. search rules)
     (λ c.
     let d = c.before.before.before.before.before.before.before.before.before in (
       omega arith,
-      c.before.before.before.before.before.before.before.at-most-sixteen.ensures,
-      one_more (show_change d.args.edition) (show_each d.args.edition) refl (λ x xs. refl) d.args.t4 c.before.before.before.before.before.before.loop.i _ (omega (arith, sixteen d)) c.before.before.before.before.before.before.loop.invariant.2 c.before.before.put-change.ensures,
+      c.at_most_sixteen-end.ensures,
+      one_more (show_change c.args.edition) (show_each c.args.edition) refl (λ x xs. refl) c.args.items c.loop-i.i _ (omega (arith, sixteen d)) c.loop-i.invariant.2 c.put_change-next.ensures,
     ))
-    (λ c. length-put c.before.loop.invariant.2)
+    (λ c. length-put c.loop-i.invariant.2)
     (λ c.
     let d = c.before.before.before.before in
-    let all : c.before.loop.i ≡ min d.args.count 16 = omega arith in
-    rw (all, take-most 16 d.args.t4 d.args.count (sixteen d)) at c.before.loop.invariant.2))
+    let all : c.loop-i.i ≡ min c.args.count 16 = omega arith in
+    rw (all, take-most 16 c.args.items c.args.count (sixteen d)) at c.loop-i.invariant.2))

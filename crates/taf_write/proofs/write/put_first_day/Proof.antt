@@ -12,4 +12,4 @@ put_first_day_spec =
     tie.close
     (tie.spec
     (λ c κs. tt) (λ c κs. tt) (λ c κs. tt) (λ c. search rules)
-    (λ c. unfold show_period in write-group c.before.before.before.before.before.before.before.before.before.before.open-group.ensures (then c.before.before.before.before.before.before.put-hour.ensures c.before.before.put-hour-alone.ensures)))
+    (λ c. unfold show_period in write-group c.open_group-opened.ensures (then c.put_hour-begun.ensures c.put_hour_alone.ensures)))

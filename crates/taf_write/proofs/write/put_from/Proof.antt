@@ -10,6 +10,6 @@ put_from_spec =
     (tie.spec
     (λ c. search rules) (λ c κs. tt) (λ c. search rules) (λ c κs. tt)
     (λ c. search rules)
-    (λ c. rw c.before.before.before.before.enum_told.given.1 c.before.before.put-from-day.ensures)
+    (λ c. rw c.in-Present.is c.put_from_day.ensures)
     (λ c. search rules)
-    (λ c. rw c.before.before.before.before.enum-told2.given.1 c.before.before.put-from-hour.ensures))
+    (λ c. rw c.in-Of2005.is c.put_from_hour.ensures))

@@ -10,5 +10,5 @@ pub put_from_hour_spec : {M : Type 1} → statement M
 put_from_hour_spec =
     tie.close
     (tie.spec
-    (λ c κs. tt) (λ c. search rules) (λ c κs. tt) (λ c κs. tt) (λ c κs. tt) (λ c. search rules)
-    (λ c. write-group c.before.before.before.before.before.before.before.before.before.before.before.before.before.before.before.open-group.ensures (then (then c.before.before.before.before.before.before.before.before.before.before.put-text.ensures c.before.before.before.before.before.before.put_two.ensures) c.before.before.put-two2.ensures)))
+    (λ c κs. tt) (λ c κs. tt) (λ c κs. tt) (λ c κs. tt) (λ c. search rules)
+    (λ c. write-group c.open_group-opened.ensures (then (then c.put_text-begun.ensures c.put_two-timed.ensures) c.put_two.ensures)))

@@ -11,7 +11,7 @@ put_head_spec =
     tie.close
     (tie.spec
     (λ c. search rules) (λ c κs. tt) (λ c. search rules) (λ c κs. tt) (λ c κs. tt) (λ c. search rules) (λ c. search rules)
-    (λ c. rw c.before.before.before.before.enum_told.given.1 c.before.before.put-main.ensures)
-    (λ c. length-put c.before.before.put-valid.ensures)
-    (λ c. rw c.before.before.before.before.before.enum-told2.given.1 (under-change _ _ (rw c.before.before.before.change-form.ensures at c.before.before.put-valid.ensures)))
-    (λ c. rw c.enum-told3.given.1 (under-from _ _)))
+    (λ c. rw c.in-Main.is c.put_main.ensures)
+    (λ c. length-put c.put_valid.ensures)
+    (λ c. rw c.in-Changing.is (under-change _ _ (rw c.change_form.ensures at c.put_valid.ensures)))
+    (λ c. rw c.in-From.is (under-from _ _)))

@@ -10,4 +10,4 @@ put_hour_spec =
     tie.close
     (tie.spec
     (λ c κs. tt) (λ c κs. tt) (λ c. search rules)
-    (λ c. then c.before.before.before.before.before.before.put_two.ensures c.before.before.put-two2.ensures))
+    (λ c. then c.put_two-dated.ensures c.put_two.ensures))

@@ -9,4 +9,4 @@ put_hour_alone_spec =
     tie.close
     (tie.spec
     (λ c κs. tt) (λ c. search rules)
-    (λ c. c.before.before.put_two.ensures))
+    (λ c. c.put_two.ensures))

@@ -9,16 +9,16 @@ pub put_opening_spec : {M : Type 1} → statement M
 put_opening_spec =
     tie.close
     (tie.spec
-    (λ c. search rules) (λ c. search rules) (λ c. search rules) (λ c κs. tt) (λ c. search rules) (λ c. search rules) (λ c κs. tt) (λ c. search rules)
+    (λ c. search rules) (λ c. search rules) (λ c κs. tt) (λ c. search rules) (λ c κs. tt) (λ c. search rules)
     (λ c κs. tt) (λ c. search rules) (λ c κs. tt) (λ c. search rules) (λ c κs. tt)
-    (λ c. rw c.enum_told.given.1 (write-none _ _))
+    (λ c. rw c.in-None.is (write-none _ _))
     (λ c. search rules)
-    (λ c. rw c.before.before.before.before.before.enum-told2.given.1 c.before.before.put-group.ensures)
+    (λ c. rw c.in-Becoming.is c.put_group.ensures)
     (λ c. search rules)
-    (λ c. rw c.before.before.before.before.before.enum-told3.given.1 c.before.before.put-group2.ensures)
+    (λ c. rw c.in-Temporary.is c.put_group-in-Temporary.ensures)
     (λ c. search rules)
-    (λ c. rw c.before.before.before.before.before.o.given.1 c.before.before.put-chance.ensures)
+    (λ c. rw c.in-Probable.is c.put_chance.ensures)
     (λ c. search rules)
-    (λ c. rw c.before.before.before.before.before.o2.given.1 c.before.before.put-chances.ensures)
+    (λ c. rw c.in-ProbablyTemporary.is c.put_chances.ensures)
     (λ c. search rules)
-    (λ c. rw c.before.before.before.before.enum-told4.given.1 c.before.before.put-from.ensures))
+    (λ c. rw c.in-From.is c.put_from.ensures))

@@ -12,4 +12,4 @@ put_part_spec =
     tie.close
     (tie.spec
     (λ c κs. tt) (λ c κs. tt) (λ c. search rules)
-    (λ c. let a = c.before.before.before.before.before.before.before.before.before.before.args in put-parts a.edition a.w a.r c.before.before.before.before.before.before.put-head.ensures (c.before.before.put-body.ensures (is_whole a.w) (not (is_main a.w)) false false)))
+    (λ c. let a = c.args in put-parts a.edition a.w a.r c.put_head-headed.ensures (c.put_body.ensures (is_whole a.w) (not (is_main a.w)) false false)))

@@ -10,8 +10,8 @@ put_period_spec =
     (tie.spec
     (λ c. search rules) (λ c κs. tt) (λ c. search rules) (λ c κs. tt) (λ c. search rules) (λ c κs. tt)
     (λ c. search rules)
-    (λ c. rw c.before.before.before.before.enum_told.given.1 c.before.before.put-both-days.ensures)
+    (λ c. rw c.in-BothDays.is c.put_both_days.ensures)
     (λ c. search rules)
-    (λ c. rw c.before.before.before.before.enum-told2.given.1 c.before.before.put-first-day.ensures)
+    (λ c. rw c.in-FirstDay.is c.put_first_day.ensures)
     (λ c. search rules)
-    (λ c. rw c.before.before.before.before.enum-told3.given.1 c.before.before.put-no-day.ensures))
+    (λ c. rw c.in-NoDay.is c.put_no_day.ensures))

@@ -12,4 +12,4 @@ put_report_spec =
     tie.close
     (tie.spec
     (λ c κs. tt) (λ c κs. tt) (λ c κs. tt) (λ c. search rules)
-    (λ c. unfold groups_of in then (write-groups _ _ c.before.before.before.before.before.before.before.before.before.before.put-part.ensures c.before.before.before.before.before.before.put-each.ensures) c.before.before.close-report.ensures))
+    (λ c. unfold groups_of in then (write-groups _ _ c.put_part-main.ensures c.put_each-told.ensures) c.close_report.ensures))

@@ -10,6 +10,6 @@ put_valid_spec =
     tie.close
     (tie.spec
     (λ c κs. tt)
-    (λ c. rw c.if1.true (write-none _ _))
+    (λ c. rw c.if-nil.true (write-none _ _))
     (λ c. search rules)
-    (λ c. rw c.before.before.before.before.if1.false c.before.before.put-period.ensures))
+    (λ c. rw c.if-nil.false c.put_period.ensures))

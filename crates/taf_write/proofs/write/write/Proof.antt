@@ -9,4 +9,4 @@ write_spec =
     tie.close
     (tie.spec
     (λ c κs. tt) (λ c. search rules)
-    (λ c. c.before.before.write-in.ensures))
+    (λ c. c.write_in.ensures))

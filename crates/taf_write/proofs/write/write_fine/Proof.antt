@@ -5,32 +5,39 @@ use Prim.Native.Nat.{ℕ, ◌≤◌}
 use native.Mathlib.Omega.{arith}
 use mathlib.Core.Path.{◌≡◌, refl, sym}
 use mathlib.Core.List.{List, [], ◌∷◌, ◌++◌}
-use lib.ListN.{length, take, replicate, length-map}
+use lib.ListN.{length, take, replicate}
 use lib.Seq.{length-take-le}
-use denote.Struct.Struct.{Struct}
-use denote.Struct.Declared.{shape}
+use mir.Val.{Val}
+use denote.Array.{each as owned}
+use denote.Shadow.{shadow}
 use Rattle.figures.specs.Put.{Put}
 use Rattle.text.specs.Groups.{join, written}
 use Rattle.places.proofs.Delivered.{made, delivered}
 use Rattle.record.specs.declared.aerodrome.Change.{Change}
-use Rattle.record.specs.contracts.aerodrome.Change.{the_type}
-use Rattle.record.specs.Arrays.{BodyArrays, TafArrays}
-use Rattle.body.proofs.Arrays.{body-arrays, each_owned}
+use Rattle.record.specs.contracts.aerodrome.Change.{the_row}
+use Rattle.record.specs.Arrays.{BodyArrays, TafArrays, Each}
+use Rattle.body.proofs.Arrays.{body-arrays}
 use Rattle.taf.specs.Write.{groups_of, canonical_of}
 use Rattle.taf_laws.proofs.Canonical.{groups-sizes, length-canonical}
 use Rattle.taf_write.proofs.write.write_fine.Statement.{statement}
 use Rattle.taf_write.proofs.write.write_fine.Tie as tie
 
+-- owning a list of changes tells of the arrays of each body
+each-body : (xs : List Change) (us : List Val) → shadow (owned (the_row).Denot (the_row).own_val xs us) → Each (λ (x : Change). BodyArrays x.body) xs
+each-body [] us s = tt
+each-body (x ∷ xs) [] s = absurd s
+each-body (x ∷ xs) (u ∷ us) s = (body-arrays x.body _ s.0.1.1.1.1.0, each-body xs us s.1)
+
 -- an array's length is part of its type
 arrays : (c : tie.Start) → TafArrays c.args.t
 arrays c =
-    let leg = c.well-formed.0.1.1.1.0.1.1 in
-    let changes = c.well-formed.0.1.1.1.1.0.1.1.0 in
+    let leg = c.well_formed.0.1.1.1.0.1.1 in
+    let changes = c.well_formed.0.1.1.1.1.0.1.1.0 in
     record {
-      letters = simp length-map at leg.1.0.1.1.0.1.0.1;
+      letters = leg.1.0.1.1.0.1.0.1;
       body = body-arrays c.args.t.leg.body _ leg.1.1.1.1.1.1.0;
-      changes = simp length-map at changes.1.0.1;
-      each = each_owned (Struct (shape the_type)) the_type.to (λ (x : Change). BodyArrays x.body) (λ x us s. body-arrays x.body _ s.1.1.1.1.0) c.args.t.changes.items _ changes.1.1;
+      changes = changes.1.0.1;
+      each = each-body c.args.t.changes.items _ changes.1.1;
     }
 
 -- the report as it is made over the array, which has room for the longest
@@ -44,9 +51,9 @@ write_fine_spec =
     tie.close
     (tie.spec
     (λ c. search rules) (λ c κs. tt)
-    (λ c. (report c.before.before.before.before c.before.put-report.ensures).0)
-    (λ c. sym (length-take-le _ _ (report c.before.before.before.before.before c.before.before.put-report.ensures).0))
+    (λ c. (report c.before.before.before.before c.put_report-end.ensures).0)
+    (λ c. sym (length-take-le _ _ (report c.before.before.before.before.before c.put_report-end.ensures).0))
     (λ c κs. tt) (λ c. search rules)
     (λ c.
     let d = c.before.before.before.before.before.before.before.before.before in
-    unfold canonical_of in delivered d.args.out.now refl (report d c.before.before.before.before.before.before.put-report.ensures).1 c.before.before.deliver.ensures))
+    unfold canonical_of in delivered c.args.out.now refl (report d c.put_report-end.ensures).1 c.deliver.ensures))

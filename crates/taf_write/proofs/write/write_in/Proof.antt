@@ -13,9 +13,9 @@ write_in_spec =
     tie.close
     (tie.spec
     (λ c κs. tt) (λ c. search rules)
-    (λ c κs. let a = c.before.before.before.before.before.args in own-fine a.edition a.t (sym c.before.before.before.judge.ensures ∙ c.before.enum_told.given.1))
+    (λ c κs. let a = c.args in own-fine a.edition a.t (sym c.judge-verdict.ensures ∙ c.in-Fine.is))
     (λ c. search rules) (λ c. search rules)
-    (λ c. unfold written_in buffer_in in delivered c.before.before.before.before.before.before.before.before.args.out.now (sym c.before.before.before.before.before.before.judge.ensures ∙ c.before.before.before.before.enum_told.given.1) refl c.before.before.write-fine.ensures)
+    (λ c. unfold written_in buffer_in in delivered c.args.out.now (sym c.judge-verdict.ensures ∙ c.in-Fine.is) refl c.write_fine.ensures)
     (λ c.
-    let d = c.before.before.before.before.before in
-    unfold written_in buffer_in in not-delivered (canonical_of d.args.t) d.args.out.now (sym c.before.before.before.judge.ensures ∙ c.before.verdict.given.1)))
+    let d = c in
+    unfold written_in buffer_in in not-delivered (canonical_of d.args.t) d.args.out.now (sym c.judge-verdict.ensures ∙ c.in-Refused.is)))

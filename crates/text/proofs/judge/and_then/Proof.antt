@@ -9,4 +9,4 @@ and_then_spec =
     tie.close
     (tie.spec
     (λ c. search rules) (λ c. search rules) (λ c. search rules)
-    (λ c. rw c.before.first.given.1))
+    (λ c. rw c.in-Refused.is))

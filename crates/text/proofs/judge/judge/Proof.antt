@@ -9,5 +9,5 @@ judge_spec =
     tie.close
     (tie.spec
     (λ c. search rules)
-    (λ c. rw (c.before.if1.true, c.if2.false))
-    (λ c. rw c.if1.false))
+    (λ c. rw (c.if-within.true, c.if-agrees.false))
+    (λ c. rw c.if-within.false))

@@ -9,6 +9,6 @@ pub deliver_spec : {M : Type 1} → statement M
 deliver_spec =
     tie.close
     (tie.spec
-    (λ c. let d = c.before.before.before in no_room d.args.text.now d.args.out.now c.if1.true)
+    (λ c. let d = c in no_room d.args.text.now d.args.out.now c.if-out-text.true)
     (λ c κs. search rules) (λ c. search rules)
-    (λ c. with-room c.before.before.before.before.if1.false c.before.before.put-text.ensures))
+    (λ c. with-room c.if-out-text.false c.put_text-count.ensures))

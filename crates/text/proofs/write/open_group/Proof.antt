@@ -10,6 +10,6 @@ open_group_spec =
     tie.close
     (tie.spec
     (λ c κs. search rules)
-    (λ c. open-first _ _ c.if1.true)
+    (λ c. open-first _ _ c.if-at-eq0.true)
     (λ c. search rules)
-    (λ c. open-later c.before.before.before.before.if1.false c.before.before.put_byte.ensures))
+    (λ c. open-later c.if-at-eq0.false c.put_byte.ensures))

@@ -11,5 +11,5 @@ put_if_spec =
     tie.close
     (tie.spec
     (λ c κs. search rules) (λ c. search rules)
-    (λ c. rw c.before.before.before.before.if1.true c.before.before.put-group.ensures)
-    (λ c. rw c.if1.false (write-none _ _)))
+    (λ c. rw c.if-has.true c.put_group.ensures)
+    (λ c. rw c.if-has.false (write-none _ _)))

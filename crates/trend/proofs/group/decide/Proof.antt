@@ -15,8 +15,8 @@ pub decide_spec : {M : Type 1} → statement M
 decide_spec =
     tie.close
     (tie.spec
-    (λ c. turn-past (row _) (has_any words) _ _ _ (rw (row-length _) c.if1.true))
+    (λ c. turn-past (row _) (has_any words) _ _ _ (rw (row-length _) c.if-place-ge8.true))
     (λ c κs. search rules)
-    (λ c. turn-halts (row _) (has_any words) _ _ _ (rw (row-length _) (omega (arith, c.before.before.if1.false))) (sym c.before.is_Is_word.ensures ∙ c.if2.true))
+    (λ c. turn-halts (row _) (has_any words) _ _ _ (rw (row-length _) (omega (arith, c.if-place-ge8.false))) (sym c.is_word.ensures ∙ c.if-is_word.true))
     (λ c κs. search rules) (λ c κs. search rules)
-    (λ c. turn-found (row _) (has_any words) _ _ _ (rw (row-length _) (omega (arith, c.before.before.before.before.if1.false))) (sym c.before.before.before.is_Is_word.ensures ∙ c.before.before.if2.false) c.before.find.ensures c.turn_by.ensures))
+    (λ c. turn-found (row _) (has_any words) _ _ _ (rw (row-length _) (omega (arith, c.if-place-ge8.false))) (sym c.is_word.ensures ∙ c.if-is_word.false) c.find.ensures c.turn_by.ensures))

@@ -5,4 +5,4 @@ use Rattle.trend.proofs.part.end_part.Statement.{statement}
 use Rattle.trend.proofs.part.end_part.Tie as tie
 
 pub end_part_spec : {M : Type 1} → statement M
-end_part_spec = tie.close (tie.spec (λ c κs. search rules) (λ c κs. search rules) (λ c. rw (c.end-verdict.ensures, c.before.lacks.ensures)))
+end_part_spec = tie.close (tie.spec (λ c κs. search rules) (λ c κs. search rules) (λ c. rw (c.end_verdict-verdict.ensures, c.lacks.ensures)))

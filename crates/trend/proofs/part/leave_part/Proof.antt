@@ -10,4 +10,4 @@ leave_part_spec =
     tie.close
     (tie.spec
     (λ c κs. search rules) (λ c κs. search rules) (λ c κs. search rules)
-    (λ c. (refl, rw (c.before.lacks.ensures, c.before.before.is-change.ensures) at c.meet-word.ensures)))
+    (λ c. (refl, rw (c.lacks.ensures, c.is_change.ensures) at c.meet_word-next.ensures)))

@@ -19,44 +19,44 @@ use Rattle.trend.proofs.Turns.{Reached, part-over, part-word, part-fault}
 use Rattle.trend.proofs.part.read_part.Statement.{statement}
 use Rattle.trend.proofs.part.read_part.Tie as tie
 
-abbrev Inv : tie.invariant-loop
+abbrev Inv : tie.invariant-loop-start
 Inv text at word n free change₀ here₀ standing₀ from₀ change here standing from = Reached text free word n at here standing change from
 
-abbrev μ : tie.decreases-loop
+abbrev μ : tie.decreases-loop-start
 μ text at word n free change₀ here₀ standing₀ from₀ change here standing from = length text - from
 
 -- where a group is taken, before what it says is stored
-module _ (c : tie.After-struct-known Inv μ) where
+module _ (c : tie.After-struct_known-1 Inv μ) where
   abbrev text : List ℕ
-  text = c.before.before.before.before.before.before.before.before.before.args.text.now
+  text = c.args.text.now
 
   abbrev group : Saying
-  group = c.before.before.met3.given.0.0
+  group = c.in-Says.group
 
-  ahead : (c.before.before.before.before.before.loop.from < group.end) × (group.end ≤ length text) × (group.count < 4)
-  ahead = group-ahead c.before.before.before.before.before.loop.invariant change_said _ c.before.before.before.before.meet.ensures (refl, refl) c.before.before.met3.given.1
+  ahead : (c.loop-start.from < group.end) × (group.end ≤ length text) × (group.count < 4)
+  ahead = group-ahead c.loop-start.invariant change_said _ c.meet-met.ensures (refl, refl) c.in-Says.is
 
-  less : length text - group.end < length text - c.before.before.before.before.before.loop.from
+  less : length text - group.end < length text - c.loop-start.from
   less = omega (arith, ahead)
 
   -- the change with it is read on from behind it
-  on : {x : Said} {change : TrendChange} → group.said ≡ x → change ≡ change_said group.count (part_of text group.start group.end) x c.before.before.before.before.before.loop.change
-      → Reached text c.before.before.before.before.before.before.before.is-change.result c.before.before.before.before.before.before.before.before.before.args.word c.before.before.before.before.before.before.before.before.before.args.n c.before.before.before.before.before.before.before.before.before.args.at group.place (group.count + 1) change group.end
-  on tells put = reads_on c.before.before.before.before.before.loop.invariant change_said _ c.before.before.before.before.meet.ensures (refl, refl) c.before.before.met3.given.1 (row-endless c.before.before.before.before.before.before.before.is-change.result group.place) tells put
+  on : {x : Said} {change : TrendChange} → group.said ≡ x → change ≡ change_said group.count (part_of text group.start group.end) x c.loop-start.change
+      → Reached text c.is_change-free.result c.args.word c.args.n c.args.at group.place (group.count + 1) change group.end
+  on tells put = reads_on c.loop-start.invariant change_said _ c.meet-met.ensures (refl, refl) c.in-Says.is (row-endless c.is_change-free.result group.place) tells put
 
 pub read_part_spec : {M : Type 1} → statement M
 read_part_spec =
     tie.close
     (tie.spec Inv μ
     (λ c κs. search rules) (λ c κs. search rules)
-    (λ c. let a = c.before.before.before.args in rw c.start_of_lem.ensures (starts parts a.text.now (part_in a.word) (3 - a.n) 0 _ a.at (λ x. (ap row (sym c.before.is-change.ensures), refl))))
+    (λ c. let a = c.args in rw c.start_of-change.ensures (starts parts a.text.now (part_in a.word) (3 - a.n) 0 _ a.at (λ x. (ap row (sym c.is_change-free.ensures), refl))))
     (λ c κs. search rules) (λ c. search rules) (λ c κs. search rules)
-    (λ c. part-over _ c.before.before.before.before.loop.invariant c.before.before.before.meet.ensures c.before.enum_told.given.1 c.end-part.ensures)
+    (λ c. part-over _ c.loop-start.invariant c.meet-met.ensures c.in-Over.is c.end_part.ensures)
     (λ c. search rules) (λ c κs. search rules) (λ c κs. search rules)
-    (λ c. part-word _ c.before.before.before.before.before.before.loop.invariant c.before.before.before.before.before.meet.ensures c.before.before.before.met.given.1 (rw c.before.part.ensures at c.leave-part.ensures))
+    (λ c. part-word _ c.loop-start.invariant c.meet-met.ensures c.in-Halt.is (rw c.part.ensures at c.leave_part.ensures))
     (λ c. search rules) (λ c κs. search rules)
-    (λ c. part-fault _ c.before.before.before.before.before.loop.invariant c.before.before.before.before.meet.ensures c.before.before.met2.given.1 (rw c.refuse-part.ensures))
+    (λ c. part-fault _ c.loop-start.invariant c.meet-met.ensures c.in-Refused.is (rw c.refuse_part.ensures))
     (λ c. search rules)
     (λ c. omega (arith, ahead c))
-    (λ c. search rules) (λ c. less c.before.before.before) (λ c. on c.before.before.before c.before.said.given.1 (unfold change_said in refl))
-    (λ c κs. search rules) (λ c. less c.before.before) (λ c. on c.before.before refl (rw c.put.ensures (others _ _ _ _ c.before.match2.keys2))))
+    (λ c. search rules) (λ c. less c.before) (λ c. on c.before c.in-Times.is (unfold change_said in refl))
+    (λ c κs. search rules) (λ c. less c.before.before.before) (λ c. on c.before.before.before refl (rw c.put-change.ensures (others _ _ _ _ c.in_default.in_default-own.keys2))))

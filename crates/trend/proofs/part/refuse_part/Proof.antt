@@ -5,4 +5,4 @@ use Rattle.trend.proofs.part.refuse_part.Statement.{statement}
 use Rattle.trend.proofs.part.refuse_part.Tie as tie
 
 pub refuse_part_spec : {M : Type 1} → statement M
-refuse_part_spec = tie.close (tie.spec (λ c κs. search rules) (λ c. rw c.refuse.ensures))
+refuse_part_spec = tie.close (tie.spec (λ c κs. search rules) (λ c. rw c.refuse-next.ensures))

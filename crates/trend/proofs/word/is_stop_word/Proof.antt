@@ -9,5 +9,5 @@ pub is_stop_word_spec : {M : Type 1} → statement M
 is_stop_word_spec =
     tie.close
     (tie.spec
-    (λ c. search rules) (λ c κs. search rules) (λ c. search rules) (λ c κs. search rules)
-    (λ c. stop_is c.before.before.before.before.before.args.g.now c.before.before.has-pattern.ensures c.has-pattern2.ensures))
+    (λ c κs. search rules) (λ c κs. search rules)
+    (λ c. stop_is c.args.g.now c.has_pattern-shear.ensures c.has_pattern-remarks.ensures))

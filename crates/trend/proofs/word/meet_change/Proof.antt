@@ -8,8 +8,8 @@ pub meet_change_spec : {M : Type 1} → statement M
 meet_change_spec =
     tie.close
     (tie.spec
-    (λ c κs. search rules) (λ c. rw (c.refuse.ensures, c.before.if1.true))
-    (λ c κs. search rules) (λ c κs. search rules) (λ c. rw (c.refuse2.ensures, c.before.before.before.if1.false, ← c.before.before.is-full.ensures, c.before.if2.true))
-    (λ c. search rules) (λ c κs. search rules)
-    (λ c. rw (c.before.before.before.before.before.if1.false, ← c.before.before.before.before.is-full.ensures, c.before.before.before.if2.false, ← c.before.has-pattern.ensures, c.if3.true))
-    (λ c. rw (c.before.before.before.before.before.if1.false, ← c.before.before.before.before.is-full.ensures, c.before.before.before.if2.false, ← c.before.has-pattern.ensures, c.if3.false)))
+    (λ c κs. search rules) (λ c. rw (c.refuse.ensures, c.if-nosig.true))
+    (λ c κs. search rules) (λ c κs. search rules) (λ c. rw (c.refuse-then-is_full.ensures, c.if-nosig.false, ← c.is_full.ensures, c.if-is_full.true))
+    (λ c κs. search rules)
+    (λ c. rw (c.if-nosig.false, ← c.is_full.ensures, c.if-is_full.false, ← c.has_pattern.ensures, c.if-has_pattern.true))
+    (λ c. rw (c.if-nosig.false, ← c.is_full.ensures, c.if-is_full.false, ← c.has_pattern.ensures, c.if-has_pattern.false)))

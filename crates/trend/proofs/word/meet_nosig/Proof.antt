@@ -10,6 +10,6 @@ pub meet_nosig_spec : {M : Type 1} → statement M
 meet_nosig_spec =
     tie.close
     (tie.spec
-    (λ c κs. search rules) (λ c. rw (c.refuse.ensures, c.before.if1.true))
-    (λ c κs. search rules) (λ c. rw (c.refuse2.ensures, c.before.before.if1.false, lt-ltb 0 c.before.before.before.args.n (omega (arith, c.before.if2.true))))
-    (λ c. rw (c.before.if1.false, le-ltb 0 c.before.before.args.n (omega (arith, c.if2.false)))))
+    (λ c κs. search rules) (λ c. rw (c.refuse.ensures, c.if-nosig.true))
+    (λ c κs. search rules) (λ c. rw (c.refuse-then-n-gt0.ensures, c.if-nosig.false, lt-ltb 0 c.args.n (omega (arith, c.if-n-gt0.true))))
+    (λ c. rw (c.if-nosig.false, le-ltb 0 c.args.n (omega (arith, c.if-n-gt0.false)))))

@@ -11,13 +11,13 @@ meet_word_spec =
     tie.close
     (tie.spec
     (λ c κs. search rules)
-    (λ c. let a = c.before.before.before.args in rw (c.refuse.ensures, c.before.if1.true) (meets-lacking a.g.now a.start a.end a.n a.nosig))
+    (λ c. let a = c.args in rw (c.refuse.ensures, c.if-lacking.true) (meets-lacking a.g.now a.start a.end a.n a.nosig))
     (λ c κs. search rules)
-    (λ c. let a = c.before.before.before.before.args in rw c.before.before.if1.false (meets-stop a.g.now a.start a.end a.n a.nosig (sym c.before.is-stop-word.ensures ∙ c.if2.true)))
-    (λ c. search rules) (λ c κs. search rules) (λ c κs. search rules) (λ c κs. search rules)
+    (λ c. let a = c.args in rw c.if-lacking.false (meets-stop a.g.now a.start a.end a.n a.nosig (sym c.is_stop_word.ensures ∙ c.if-is_stop_word.true)))
+    (λ c κs. search rules) (λ c κs. search rules) (λ c κs. search rules)
     (λ c.
-    let a = c.before.before.before.before.before.before.before.before.args in
-    rw c.before.before.before.before.before.before.if1.false (meets-nosig a.g.now a.start a.end a.n (sym c.before.before.before.before.before.is-stop-word.ensures ∙ c.before.before.before.before.if2.false) a.nosig (sym c.before.before.has-pattern.ensures ∙ c.before.if3.true) c.meet-nosig.ensures))
+    let a = c.args in
+    rw c.if-lacking.false (meets-nosig a.g.now a.start a.end a.n (sym c.is_stop_word.ensures ∙ c.if-is_stop_word.false) a.nosig (sym c.has_pattern.ensures ∙ c.if-has_pattern.true) c.meet_nosig.ensures))
     (λ c.
-    let a = c.before.before.before.before.before.before.before.before.args in
-    rw c.before.before.before.before.before.before.if1.false (meets-change a.g.now a.start a.end a.n (sym c.before.before.before.before.before.is-stop-word.ensures ∙ c.before.before.before.before.if2.false) a.nosig (sym c.before.before.has-pattern.ensures ∙ c.before.if3.false) c.meet-change.ensures)))
+    let a = c.args in
+    rw c.if-lacking.false (meets-change a.g.now a.start a.end a.n (sym c.is_stop_word.ensures ∙ c.if-is_stop_word.false) a.nosig (sym c.has_pattern.ensures ∙ c.if-has_pattern.false) c.meet_change.ensures)))

@@ -11,13 +11,13 @@ pub has_at_spec : {M : Type 1} → statement M
 has_at_spec =
     tie.close
     (tie.spec
-    (λ c κs. search rules) (λ c. search rules) (λ c κs. search rules) (λ c. search rules) (λ c κs. search rules) (λ c. search rules) (λ c κs. search rules) (λ c κs. search rules) (λ c κs. search rules) (λ c κs. search rules) (λ c κs. search rules)
-    (λ c w. let a = c.before.before.before.args in has-at (row w) a.g.now 0 c.before.match.keys1 (unfold row in c.is_Known.ensures))
-    (λ c w. let a = c.before.before.before.before.args in has-at (row w) a.g.now 1 c.before.before.match.keys2 (unfold row in c.has-pattern.ensures))
-    (λ c w. let a = c.before.before.before.before.args in has-at (row w) a.g.now 2 c.before.before.match.keys3 (unfold row in c.has-pattern2.ensures))
-    (λ c w. let a = c.before.before.before.before.args in has-at (row w) a.g.now 3 c.before.before.match.keys4 (unfold row in c.has-pattern3.ensures))
-    (λ c w. let a = c.before.before.before.args in has-at (row w) a.g.now 4 c.before.match.keys5 (unfold row in c.has-wind.ensures))
-    (λ c w. let a = c.before.before.before.args in has-at (row w) a.g.now 5 c.before.match.keys6 (unfold row in c.has-visibility.ensures))
-    (λ c w. let a = c.before.before.before.args in has-at (row w) a.g.now 6 c.before.match.keys7 (unfold row in c.has-weather-or-nsw.ensures))
-    (λ c w. let a = c.before.before.before.args in has-at (row w) a.g.now 7 c.before.match.keys8 (unfold row in c.has-sky.ensures))
-    (λ c w. let a = c.before.before.args in has-nowhere (row w) a.g.now a.place (unfold row in beyond 0 8 a.place zero-le c.match.rest)))
+    (λ c κs. search rules) (λ c κs. search rules) (λ c κs. search rules) (λ c κs. search rules) (λ c κs. search rules) (λ c κs. search rules) (λ c κs. search rules) (λ c κs. search rules)
+    (λ c w. let a = c.args in has-at (row w) a.g.now 0 c.in-0.is (unfold row in c.is_known.ensures))
+    (λ c w. let a = c.args in has-at (row w) a.g.now 1 c.in-1.is (unfold row in c.has_pattern.ensures))
+    (λ c w. let a = c.args in has-at (row w) a.g.now 2 c.in-2.is (unfold row in c.has_pattern-in-2.ensures))
+    (λ c w. let a = c.args in has-at (row w) a.g.now 3 c.in-3.is (unfold row in c.has_pattern-in-3.ensures))
+    (λ c w. let a = c.args in has-at (row w) a.g.now 4 c.in-4.is (unfold row in c.has_wind.ensures))
+    (λ c w. let a = c.args in has-at (row w) a.g.now 5 c.in-5.is (unfold row in c.has_visibility.ensures))
+    (λ c w. let a = c.args in has-at (row w) a.g.now 6 c.in-6.is (unfold row in c.has_weather_or_nsw.ensures))
+    (λ c w. let a = c.args in has-at (row w) a.g.now 7 c.in-7.is (unfold row in c.has_sky.ensures))
+    (λ c w. let a = c.args in has-nowhere (row w) a.g.now a.place (unfold row in beyond 0 8 a.place zero-le c.in_default.in_default-own.rest)))

@@ -5,4 +5,4 @@ use Rattle.trend_row.proofs.row.mosts.Statement.{statement}
 use Rattle.trend_row.proofs.row.mosts.Tie as tie
 
 pub mosts_spec : {M : Type 1} → statement M
-mosts_spec = tie.close (tie.spec (λ c. unfold row in rw c.if1.true) (λ c. unfold row in rw c.if1.false))
+mosts_spec = tie.close (tie.spec (λ c. unfold row in rw c.if-free.true) (λ c. unfold row in rw c.if-free.false))

@@ -9,8 +9,8 @@ hours_fit_spec =
     tie.close
     (tie.spec
     (λ c. search rules) (λ c. search rules) (λ c κs. search rules) (λ c. search rules) (λ c κs. search rules) (λ c. search rules) (λ c κs. search rules) (λ c κs. search rules) (λ c. search rules) (λ c κs. search rules)
-    (λ c. rw c.enum_told.given.1)
-    (λ c. rw c.before.before.hours.given.1 c.is_right.ensures)
-    (λ c. rw c.before.before.hours2.given.1 c.is-right2.ensures)
-    (λ c. rw (c.before.before.before.hours3.given.1, c.before.is-right3.ensures, c.is-right4.ensures))
-    (λ c. rw c.before.before.hours4.given.1 c.is-right5.ensures))
+    (λ c. rw c.in-None.is)
+    (λ c. rw c.in-From.is c.is_right.ensures)
+    (λ c. rw c.in-Until.is c.is_right-in-Until.ensures)
+    (λ c. rw (c.in-Between.is, c.is_right-in-Between.ensures, c.is_right-in-Between-2.ensures))
+    (λ c. rw c.in-At.is c.is_right-in-At.ensures))

@@ -12,8 +12,8 @@ put_moment_spec =
     (tie.spec
     (λ c κs. tt) (λ c κs. tt) (λ c κs. tt) (λ c κs. tt) (λ c. search rules)
     (λ c.
-    let minute = c.before.before in
-    let hour = minute.before.before.before.before in
-    let word = hour.before.before.before.before in
-    let opened = word.before.before.before.before in
-    write-group opened.open-group.ensures (then word.put-text.ensures (then hour.put-number.ensures minute.put-number2.ensures))))
+    let minute = c in
+    let hour = minute in
+    let word = hour in
+    let opened = word in
+    write-group opened.open_group-opened.ensures (then word.put_text-begun.ensures (then hour.put_number-timed.ensures minute.put_number.ensures))))

@@ -9,14 +9,14 @@ pub put_times_spec : {M : Type 1} → statement M
 put_times_spec =
     tie.close
     (tie.spec
-    (λ c. search rules) (λ c. search rules) (λ c. search rules) (λ c κs. tt) (λ c. search rules) (λ c. search rules) (λ c κs. tt) (λ c. search rules) (λ c. search rules)
-    (λ c κs. tt) (λ c. search rules) (λ c κs. tt) (λ c. search rules) (λ c. search rules) (λ c κs. tt)
-    (λ c. rw c.enum_told.given.1 (write-none _ _))
+    (λ c. search rules) (λ c. search rules) (λ c κs. tt) (λ c. search rules) (λ c κs. tt) (λ c. search rules)
+    (λ c κs. tt) (λ c κs. tt) (λ c. search rules) (λ c κs. tt)
+    (λ c. rw c.in-None.is (write-none _ _))
     (λ c. search rules)
-    (λ c. rw c.before.before.before.before.before.before.hours.given.1 c.before.before.put-moment.ensures)
+    (λ c. rw c.in-From.is c.put_moment.ensures)
     (λ c. search rules)
-    (λ c. rw c.before.before.before.before.before.before.hours2.given.1 c.before.before.put-moment2.ensures)
+    (λ c. rw c.in-Until.is c.put_moment-in-Until.ensures)
     (λ c. search rules)
-    (λ c. rw c.before.before.before.before.before.before.before.before.before.before.before.hours3.given.1 (write-groups _ _ c.before.before.before.before.before.before.before.put-moment3.ensures c.before.before.put-moment4.ensures))
+    (λ c. rw c.in-Between.is (write-groups _ _ c.put_moment-begun.ensures c.put_moment-in-Between.ensures))
     (λ c. search rules)
-    (λ c. rw c.before.before.before.before.before.before.hours4.given.1 c.before.before.put-moment5.ensures))
+    (λ c. rw c.in-At.is c.put_moment-in-At.ensures))

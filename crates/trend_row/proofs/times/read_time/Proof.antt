@@ -20,18 +20,18 @@ read_time_spec =
     tie.close
     (tie.spec
     (λ c κs. search rules)
-    (λ c. rw (← c.before.is-barred.ensures, c.if1.true))
+    (λ c. rw (← c.is_barred.ensures, c.if-is_barred.true))
     (λ c κs. search rules) (λ c. search rules)
-    (λ c. let a = c.before.before.before.before.before.args in unfold read_moment in rw (← c.before.before.before.is-barred.ensures, c.before.before.if1.false) (no-figure (answer a.mark a.hours) _ c.before.field.ensures c.match.keys2))
+    (λ c. let a = c.args in unfold read_moment in rw (← c.is_barred.ensures, c.if-is_barred.false) (no-figure (answer a.mark a.hours) _ c.field.ensures c.in_default.in_default-own.keys2))
     (λ c κs. search rules) (λ c. search rules)
     (λ c.
-    let a = c.before.before.before.before.before.before.before.before.before.args in
+    let a = c.args in
     unfold read_moment in
-    rw (← c.before.before.before.before.before.before.before.is-barred.ensures, c.before.before.before.before.before.before.if1.false, ← c.before.before.before.before.before.field.ensures, c.before.before.before.hour.given.1) (no-figure (answer a.mark a.hours) _ c.before.field2.ensures c.match2.keys2))
+    rw (← c.is_barred.ensures, c.if-is_barred.false, ← c.field.ensures, c.in-Number.is) (no-figure (answer a.mark a.hours) _ c.field-2.ensures c.in_default-field.in_default-field-own.keys2))
     (λ c κs. search rules) (λ c κs. search rules) (λ c κs. search rules)
     (λ c.
     unfold read_moment in
-    rw (← c.before.before.before.before.before.before.before.before.before.before.before.before.before.is-barred.ensures, c.before.before.before.before.before.before.before.before.before.before.before.before.if1.false, ← c.before.before.before.before.before.before.before.before.before.before.before.field.ensures, c.before.before.before.before.before.before.before.before.before.hour.given.1, ← c.before.before.before.before.before.before.before.field2.ensures, c.before.before.before.before.before.minute.given.1, ← c.before.before.before.is-end.ensures, ← c.before.before.is_right.ensures, c.before.if2.true, c.with-time.ensures))
+    rw (← c.is_barred.ensures, c.if-is_barred.false, ← c.field.ensures, c.in-Number.is, ← c.field-2.ensures, c.in-Number-field.is, ← c.is_end.ensures, ← c.is_right.ensures, c.if-is_right.true, c.with_time-is.ensures))
     (λ c.
     unfold read_moment in
-    rw (← c.before.before.before.before.before.before.before.before.before.before.before.before.is-barred.ensures, c.before.before.before.before.before.before.before.before.before.before.before.if1.false, ← c.before.before.before.before.before.before.before.before.before.before.field.ensures, c.before.before.before.before.before.before.before.before.hour.given.1, ← c.before.before.before.before.before.before.field2.ensures, c.before.before.before.before.minute.given.1, ← c.before.before.is-end.ensures, ← c.before.is_right.ensures, c.if2.false)))
+    rw (← c.is_barred.ensures, c.if-is_barred.false, ← c.field.ensures, c.in-Number.is, ← c.field-2.ensures, c.in-Number-field.is, ← c.is_end.ensures, ← c.is_right.ensures, c.if-is_right.false)))

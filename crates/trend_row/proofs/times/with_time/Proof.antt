@@ -9,10 +9,10 @@ with_time_spec =
     tie.close
     (tie.spec
     (λ c. search rules) (λ c. search rules) (λ c. search rules) (λ c. search rules) (λ c. search rules) (λ c. search rules) (λ c. search rules) (λ c. search rules)
-    (λ c. rw c.enum_told.given.1)
-    (λ c. rw (c.before.before.enum-told2.given.1, c.enum-told3.given.1))
-    (λ c. rw (c.before.before.before.enum-told2.given.1, c.before.hours.given.1))
-    (λ c. rw (c.before.before.enum-told2.given.1, c.enum-told4.given.1))
-    (λ c. rw (c.before.before.before.enum-told2.given.1, c.before.hours2.given.1))
-    (λ c. rw (c.before.before.enum-told2.given.1, c.enum-told5.given.1))
-    (λ c. rw c.enum-told6.given.1))
+    (λ c. rw c.in-From.is)
+    (λ c. rw (c.in-Until.is, c.in-None.is))
+    (λ c. rw (c.in-Until.is, c.in-From-hours.is))
+    (λ c. rw (c.in-Until.is, c.in-Until-hours.is))
+    (λ c. rw (c.in-Until.is, c.in-Between.is))
+    (λ c. rw (c.in-Until.is, c.in-At-hours.is))
+    (λ c. rw c.in-At.is))

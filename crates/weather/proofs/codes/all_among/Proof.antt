@@ -10,10 +10,10 @@ use Rattle.weather.proofs.Letters.{all-next, all-stop, all_end}
 use Rattle.weather.proofs.codes.all_among.Statement.{statement}
 use Rattle.weather.proofs.codes.all_among.Tie as tie
 
-abbrev Inv : tie.invariant-loop
+abbrev Inv : tie.invariant-loop-i
 Inv codes s i₀ i = (i ≤ length s) × (all_among (λ c. among c (codes_of codes)) (codes_of (drop i s)) ≡ all_among (λ c. among c (codes_of codes)) (codes_of s))
 
-abbrev μ : tie.decreases-loop
+abbrev μ : tie.decreases-loop-i
 μ codes s i₀ i = length s - i
 
 pub all_among_spec : {M : Type 1} → statement M
@@ -22,6 +22,6 @@ all_among_spec =
     (tie.spec Inv μ
     (λ c. (omega arith, refl))
     (λ c. search rules) (λ c. search rules) (λ c. search rules) (λ c. search rules) (λ c κs. tt) (λ c. search rules) (λ c. search rules)
-    (λ c. (omega arith, all-next (λ d. among d (codes_of c.before.before.before.before.before.before.before.before.args.codes.now)) _ c.before.before.before.before.before.loop.i c.before.before.before.before.loop-test.true (sym c.before.is_one.ensures ∙ c.if1.true) ∙ c.before.before.before.before.before.loop.invariant.1))
-    (λ c. all-stop (λ d. among d (codes_of c.before.before.before.before.before.before.before.before.args.codes.now)) _ c.before.before.before.before.before.loop.i c.before.before.before.before.loop-test.true (sym c.before.is_one.ensures ∙ c.if1.false) ∙ c.before.before.before.before.before.loop.invariant.1)
-    (λ c. all_end (λ d. among d (codes_of c.before.before.before.before.args.codes.now)) _ c.before.loop.i c.loop-test.false ∙ c.before.loop.invariant.1))
+    (λ c. (omega arith, all-next (λ d. among d (codes_of c.args.codes.now)) _ c.loop-i.i c.loop-i-test.true (sym c.is_one.ensures ∙ c.if-is_one.true) ∙ c.loop-i.invariant.1))
+    (λ c. all-stop (λ d. among d (codes_of c.args.codes.now)) _ c.loop-i.i c.loop-i-test.true (sym c.is_one.ensures ∙ c.if-is_one.false) ∙ c.loop-i.invariant.1)
+    (λ c. all_end (λ d. among d (codes_of c.args.codes.now)) _ c.loop-i.i c.loop-i-test.false ∙ c.loop-i.invariant.1))

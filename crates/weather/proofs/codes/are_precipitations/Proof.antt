@@ -9,6 +9,6 @@ pub are_precipitations_spec : {M : Type 1} → statement M
 are_precipitations_spec =
     tie.close
     (tie.spec
-    (λ c. search rules) (λ c κs. tt) (λ c κs. tt)
-    (λ c. rw (code-count c.before.before.before.before.before.args.s.now, c.before.before.before.if1.true, c.before.All-among.ensures, c.all-differ.ensures))
-    (λ c. rw (code-count c.before.before.args.s.now, c.if1.false)))
+    (λ c κs. tt) (λ c κs. tt)
+    (λ c. rw (code-count c.args.s.now, c.if-n.true, c.all_among.ensures, c.all_differ.ensures))
+    (λ c. rw (code-count c.args.s.now, c.if-n.false)))

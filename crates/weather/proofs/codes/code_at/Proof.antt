@@ -10,5 +10,5 @@ code_at_spec =
     tie.close
     (tie.spec
     (λ c. search rules) (λ c. search rules) (λ c. search rules) (λ c. search rules)
-    (λ c. code-there _ c.before.before.before.args.i c.before.before.if1.true)
-    (λ c. code-past _ c.before.args.i c.if1.false))
+    (λ c. code-there _ c.args.i c.if-i-s.true)
+    (λ c. code-past _ c.args.i c.if-i-s.false))

@@ -10,5 +10,5 @@ descriptor_of_spec =
     tie.close
     (tie.spec
     (λ c κs. tt) (λ c κs. tt) (λ c κs. tt)
-    (λ c. rw (← c.before.before.before.byte_at.ensures, ← c.before.before.byte-at2.ensures, ← c.before.is-descriptor.ensures, c.if1.true))
-    (λ c. rw (← c.before.before.before.byte_at.ensures, ← c.before.before.byte-at2.ensures, ← c.before.is-descriptor.ensures, c.if1.false)))
+    (λ c. rw (← c.byte_at-first.ensures, ← c.byte_at-second.ensures, ← c.is_descriptor.ensures, c.if-is_descriptor.true))
+    (λ c. rw (← c.byte_at-first.ensures, ← c.byte_at-second.ensures, ← c.is_descriptor.ensures, c.if-is_descriptor.false)))

@@ -8,5 +8,5 @@ falls_as_spec =
     tie.close
     (tie.spec
     (λ c κs. tt) (λ c κs. tt)
-    (λ c. rw (← c.before.before.are-precipitations.ensures, c.before.if1.true) c.All-among.ensures)
-    (λ c. rw (← c.before.are-precipitations.ensures, c.if1.false)))
+    (λ c. rw (← c.are_precipitations.ensures, c.if-are_precipitations.true) c.all_among.ensures)
+    (λ c. rw (← c.are_precipitations.ensures, c.if-are_precipitations.false)))

@@ -10,7 +10,7 @@ intensity_fits_spec =
     (tie.spec
     (λ c. search rules) (λ c κs. tt) (λ c. search rules) (λ c κs. tt) (λ c κs. tt) (λ c. search rules) (λ c κs. tt) (λ c κs. tt) (λ c. search rules)
     (λ c κs. tt)
-    (λ c. rw c.before.enum_told.given.1 c.is_right.ensures)
-    (λ c. rw (c.before.before.enum-told2.given.1, c.before.is-right2.ensures, c.takes-sign.ensures))
-    (λ c. rw (c.before.before.enum-told3.given.1, c.before.is-right3.ensures, c.takes-sign2.ensures))
-    (λ c. rw c.before.enum-told4.given.1 c.is-near.ensures))
+    (λ c. rw c.in-None.is c.is_right.ensures)
+    (λ c. rw (c.in-Light.is, c.is_right-in-Light.ensures, c.takes_sign.ensures))
+    (λ c. rw (c.in-Heavy.is, c.is_right-in-Heavy.ensures, c.takes_sign-in-Heavy.ensures))
+    (λ c. rw c.in-Vicinity.is c.is_near.ensures))

@@ -9,7 +9,7 @@ pub is_near_spec : {M : Type 1} → statement M
 is_near_spec =
     tie.close
     (tie.spec
-    (λ c. search rules) (λ c. search rules) (λ c κs. tt) (λ c. search rules) (λ c. search rules) (λ c κs. tt) (λ c. search rules) (λ c κs. tt)
+    (λ c. search rules) (λ c κs. tt) (λ c. search rules) (λ c κs. tt)
     (λ c. search rules) (λ c κs. tt)
-    (λ c. rw (c.before.before.enum_told.given.1, c.is-single.ensures))
-    (λ c. rw (c.before.before.before.before.before.before.before.d.given.1, c.is-single2.ensures, c.before.before.is-one2.ensures, c.before.before.before.before.is_one.ensures, code-count c.before.before.before.before.before.before.before.before.before.before.args.s.now)))
+    (λ c. rw (c.in-None.is, c.is_single.ensures))
+    (λ c. rw (c.in-Letters.is, c.is_single-in-Letters.ensures, c.is_one-in-Letters.ensures, c.is_one.ensures, code-count c.args.s.now)))

@@ -11,10 +11,10 @@ use Rattle.weather.proofs.Letters.{among-here, among_later, among-end}
 use Rattle.weather.proofs.codes.is_one.Statement.{statement}
 use Rattle.weather.proofs.codes.is_one.Tie as tie
 
-abbrev Inv : tie.invariant-loop
+abbrev Inv : tie.invariant-loop-i
 Inv codes a b i₀ i = (i ≤ length codes) × (among (a ∷ b ∷ []) (codes_of (drop i codes)) ≡ among (a ∷ b ∷ []) (codes_of codes))
 
-abbrev μ : tie.decreases-loop
+abbrev μ : tie.decreases-loop-i
 μ codes a b i₀ i = length codes - i
 
 pub is_one_spec : {M : Type 1} → statement M
@@ -23,7 +23,7 @@ is_one_spec =
     (tie.spec Inv μ
     (λ c. (omega arith, refl))
     (λ c. search rules) (λ c. search rules) (λ c. search rules) (λ c. search rules)
-    (λ c. among-here _ _ _ c.before.before.before.before.loop.i c.before.before.before.loop-test.true c.if1.true ∙ c.before.before.before.before.loop.invariant.1)
+    (λ c. among-here _ _ _ c.loop-i.i c.loop-i-test.true c.if-a-codes.true ∙ c.loop-i.invariant.1)
     (λ c. search rules) (λ c. search rules)
-    (λ c. (omega arith, among_later _ _ _ c.before.before.before.before.loop.i c.before.before.before.loop-test.true c.if1.false ∙ c.before.before.before.before.loop.invariant.1))
-    (λ c. among-end _ _ _ c.before.loop.i c.loop-test.false ∙ c.before.loop.invariant.1))
+    (λ c. (omega arith, among_later _ _ _ c.loop-i.i c.loop-i-test.true c.if-a-codes.false ∙ c.loop-i.invariant.1))
+    (λ c. among-end _ _ _ c.loop-i.i c.loop-i-test.false ∙ c.loop-i.invariant.1))

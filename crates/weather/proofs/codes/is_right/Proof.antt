@@ -9,6 +9,6 @@ pub is_right_spec : {M : Type 1} → statement M
 is_right_spec =
     tie.close
     (tie.spec
-    (λ c. search rules) (λ c. search rules) (λ c κs. tt) (λ c κs. tt) (λ c. search rules) (λ c. search rules) (λ c κs. tt) (λ c κs. tt)
-    (λ c. rw (c.before.before.before.enum_told.given.1, c.before.is-single.ensures, c.are-precipitations.ensures))
-    (λ c. rw (c.before.before.before.before.d.given.1, c.suit.ensures, c.before.is_one.ensures, code-count c.before.before.before.before.before.before.before.args.s.now)))
+    (λ c. search rules) (λ c κs. tt) (λ c κs. tt) (λ c. search rules) (λ c κs. tt) (λ c κs. tt)
+    (λ c. rw (c.in-None.is, c.is_single.ensures, c.are_precipitations.ensures))
+    (λ c. rw (c.in-Letters.is, c.suit.ensures, c.is_one.ensures, code-count c.args.s.now)))

@@ -10,5 +10,5 @@ is_single_spec =
     tie.close
     (tie.spec
     (λ c κs. tt)
-    (λ c. rw (code-count c.before.before.before.before.args.s.now, eq-eqb _ _ c.before.if1.true) c.All-among.ensures)
-    (λ c. rw (code-count c.before.before.before.args.s.now, ne_eqb _ _ c.if1.false)))
+    (λ c. rw (code-count c.args.s.now, eq-eqb _ _ c.if-s-eq1.true) c.all_among.ensures)
+    (λ c. rw (code-count c.args.s.now, ne_eqb _ _ c.if-s-eq1.false)))

@@ -8,11 +8,11 @@ pub suit_spec : {M : Type 1} → statement M
 suit_spec =
     tie.close
     (tie.spec
-    (λ c. search rules) (λ c κs. tt) (λ c. search rules) (λ c κs. tt)
-    (λ c. rw (← c.before.before.before.is_one.ensures, c.before.before.if1.true) c.is-single.ensures)
-    (λ c. search rules) (λ c κs. tt) (λ c. search rules) (λ c κs. tt)
-    (λ c. rw (← c.before.before.before.before.before.before.is_one.ensures, c.before.before.before.before.before.if1.false, ← c.before.before.before.is-one2.ensures, c.before.before.if2.true) c.is-single2.ensures)
-    (λ c. search rules) (λ c κs. tt) (λ c. search rules) (λ c κs. tt)
-    (λ c. rw (← c.before.before.before.before.before.before.before.before.before.is_one.ensures, c.before.before.before.before.before.before.before.before.if1.false, ← c.before.before.before.before.before.before.is-one2.ensures, c.before.before.before.before.before.if2.false, ← c.before.before.before.is-one3.ensures, c.before.before.if3.true) c.falls-as.ensures)
-    (λ c. search rules) (λ c κs. tt) (λ c. search rules) (λ c κs. tt)
-    (λ c. rw (← c.before.before.before.before.before.before.before.before.before.before.before.is_one.ensures, c.before.before.before.before.before.before.before.before.before.before.if1.false, ← c.before.before.before.before.before.before.before.before.is-one2.ensures, c.before.before.before.before.before.before.before.if2.false, ← c.before.before.before.before.before.is-one3.ensures, c.before.before.before.before.if3.false, c.before.before.is-single3.ensures, c.falls-as2.ensures)))
+    (λ c κs. tt) (λ c κs. tt)
+    (λ c. rw (← c.is_one.ensures, c.if-is_one.true) c.is_single.ensures)
+    (λ c κs. tt) (λ c κs. tt)
+    (λ c. rw (← c.is_one.ensures, c.if-is_one.false, ← c.is_one-2.ensures, c.if-is_one-2.true) c.is_single-then-is_one-2.ensures)
+    (λ c κs. tt) (λ c κs. tt)
+    (λ c. rw (← c.is_one.ensures, c.if-is_one.false, ← c.is_one-2.ensures, c.if-is_one-2.false, ← c.is_one-3.ensures, c.if-is_one-3.true) c.falls_as.ensures)
+    (λ c κs. tt) (λ c κs. tt)
+    (λ c. rw (← c.is_one.ensures, c.if-is_one.false, ← c.is_one-2.ensures, c.if-is_one-2.false, ← c.is_one-3.ensures, c.if-is_one-3.false, c.is_single-2.ensures, c.falls_as-2.ensures)))

@@ -8,7 +8,7 @@ pub takes_sign_spec : {M : Type 1} → statement M
 takes_sign_spec =
     tie.close
     (tie.spec
-    (λ c. search rules) (λ c κs. tt) (λ c. search rules) (λ c κs. tt) (λ c. search rules) (λ c κs. tt) (λ c. search rules) (λ c κs. tt)
+    (λ c. search rules) (λ c κs. tt) (λ c κs. tt) (λ c κs. tt) (λ c. search rules)
     (λ c. search rules) (λ c κs. tt)
-    (λ c. rw (c.before.before.before.before.before.enum_told.given.1, c.before.before.before.before.are-precipitations.ensures, c.before.before.is-single.ensures, c.is-single2.ensures))
-    (λ c. rw (c.before.before.before.before.d.given.1, c.before.before.are-precipitations2.ensures, c.is_one.ensures)))
+    (λ c. rw (c.in-None.is, c.are_precipitations.ensures, c.is_single.ensures, c.is_single-in-None.ensures))
+    (λ c. rw (c.in-Letters.is, c.are_precipitations-in-Letters.ensures, c.is_one.ensures)))

@@ -9,6 +9,6 @@ pub are_codes_spec : {M : Type 1} → statement M
 are_codes_spec =
     tie.close
     (tie.spec
-    (λ c. search rules) (λ c κs. tt)
-    (λ c. rw (some-codes c.before.before.before.before.args.g.now, c.before.before.if1.true) c.All-among.ensures)
-    (λ c. rw (some-codes c.before.before.args.g.now, c.if1.false)))
+    (λ c κs. tt)
+    (λ c. rw (some-codes c.args.g.now, c.if-n.true) c.all_among.ensures)
+    (λ c. rw (some-codes c.args.g.now, c.if-n.false)))

@@ -9,5 +9,5 @@ are_signed_codes_spec =
     tie.close
     (tie.spec
     (λ c κs. tt) (λ c κs. tt) (λ c κs. tt) (λ c κs. tt)
-    (λ c. rw (signed-codes c.before.before.before.before.before.args.g.now, ← c.before.before.before.byte_at.ensures, c.before.before.if1.true) (rw c.before.Rest-from.ensures at c.are-codes.ensures))
-    (λ c. rw (signed-codes c.before.before.before.before.args.g.now, ← c.before.before.byte_at.ensures, c.before.if1.false) c.are-codes2.ensures))
+    (λ c. rw (signed-codes c.args.g.now, ← c.byte_at-b.ensures, c.if-b.true) (rw c.rest_from.ensures at c.are_codes.ensures))
+    (λ c. rw (signed-codes c.args.g.now, ← c.byte_at-b.ensures, c.if-b.false) c.are_codes-else-b.ensures))

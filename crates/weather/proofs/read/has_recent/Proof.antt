@@ -9,4 +9,4 @@ has_recent_spec =
     tie.close
     (tie.spec
     (λ c κs. tt) (λ c κs. tt) (λ c κs. tt) (λ c κs. tt)
-    (λ c. rw (recent-codes c.before.before.before.before.before.args.g.now, ← c.before.before.before.byte_at.ensures, ← c.before.before.byte-at2.ensures, ← c.before.Rest-from.ensures, ← c.are-signed-codes.ensures)))
+    (λ c. rw (recent-codes c.args.g.now, ← c.byte_at-r.ensures, ← c.byte_at-e.ensures, ← c.rest_from.ensures, ← c.are_signed_codes.ensures)))

@@ -9,4 +9,4 @@ has_unknown_spec =
     tie.close
     (tie.spec
     (λ c. search rules) (λ c. search rules) (λ c κs. tt) (λ c κs. tt) (λ c κs. tt) (λ c. search rules)
-    (λ c. rw (c.before.before.before.before.p.given.1, c.before.before.is-unknown.ensures, c.before.is-unknown2.ensures, c.is-unknown3.ensures)))
+    (λ c. rw (c.in-Is.is, c.is_unknown.ensures, c.is_unknown-in-Is.ensures, c.is_unknown-in-Is-2.ensures)))

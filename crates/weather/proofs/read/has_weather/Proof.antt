@@ -9,5 +9,5 @@ pub has_weather_spec : {M : Type 1} → statement M
 has_weather_spec =
     tie.close
     (tie.spec
-    (λ c. search rules) (λ c κs. tt) (λ c κs. tt)
-    (λ c. unfold has_weather in rw (c.before.has-pattern.ensures, c.are-signed-codes.ensures)))
+    (λ c κs. tt) (λ c κs. tt)
+    (λ c. unfold has_weather in rw (c.has_pattern.ensures, c.are_signed_codes.ensures)))

@@ -11,7 +11,7 @@ intensity_of_spec =
     tie.close
     (tie.spec
     (λ c κs. tt) (λ c κs. tt)
-    (λ c. rw (← c.before.before.byte_at.ensures, eq-eqb _ _ c.if1.true))
-    (λ c. rw (← c.before.before.before.byte_at.ensures, ne_eqb _ _ c.before.if1.false, eq-eqb _ _ c.if2.true))
-    (λ c. rw (← c.before.before.before.before.byte_at.ensures, ← c.before.before.before.byte-at2.ensures, ne_eqb _ _ c.before.before.if1.false, ne_eqb _ _ c.before.if2.false, c.if3.true))
-    (λ c. rw (← c.before.before.before.before.byte_at.ensures, ← c.before.before.before.byte-at2.ensures, ne_eqb _ _ c.before.before.if1.false, ne_eqb _ _ c.before.if2.false, c.if3.false)))
+    (λ c. rw (← c.byte_at-a.ensures, eq-eqb _ _ c.if-a-eq43.true))
+    (λ c. rw (← c.byte_at-a.ensures, ne_eqb _ _ c.if-a-eq43.false, eq-eqb _ _ c.if-a-eq45.true))
+    (λ c. rw (← c.byte_at-a.ensures, ← c.byte_at-b.ensures, ne_eqb _ _ c.if-a-eq43.false, ne_eqb _ _ c.if-a-eq45.false, c.if-a-b.true))
+    (λ c. rw (← c.byte_at-a.ensures, ← c.byte_at-b.ensures, ne_eqb _ _ c.if-a-eq43.false, ne_eqb _ _ c.if-a-eq45.false, c.if-a-b.false)))

@@ -9,4 +9,4 @@ is_plain_spec =
     tie.close
     (tie.spec
     (λ c. search rules) (λ c. search rules) (λ c κs. tt) (λ c. search rules)
-    (λ c. rw c.before.before.p.given.1 c.has-no-sign.ensures))
+    (λ c. rw c.in-Is.is c.has_no_sign.ensures))

@@ -9,4 +9,4 @@ is_unknown_spec =
     tie.close
     (tie.spec
     (λ c. search rules) (λ c. search rules) (λ c. search rules)
-    (λ c. rw c.before.c.given.1))
+    (λ c. rw c.in-Letters.is))

@@ -9,6 +9,6 @@ only_plain_spec =
     tie.close
     (tie.spec
     (λ c. search rules) (λ c κs. tt) (λ c. search rules)
-    (λ c. rw (c.before.before.before.x.given.1, ← c.before.is_plain.ensures, c.if1.true))
-    (λ c. rw (c.before.before.before.x.given.1, ← c.before.is_plain.ensures, c.if1.false))
-    (λ c. rw c.before.x2.given.1))
+    (λ c. rw (c.in-Good.is, ← c.is_plain.ensures, c.if-is_plain.true))
+    (λ c. rw (c.in-Good.is, ← c.is_plain.ensures, c.if-is_plain.false))
+    (λ c. rw c.in-Bad.is))

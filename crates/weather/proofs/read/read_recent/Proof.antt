@@ -12,6 +12,6 @@ read_recent_spec =
     (tie.spec
     (λ c κs. tt) (λ c κs. tt) (λ c κs. tt) (λ c κs. tt)
     (λ c.
-    let said = said_weather (drop 2 c.before.before.before.before.before.args.g.now) in
-    rw (recent-is c.before.before.before.before.before.args.automatic c.before.before.before.before.before.args.g.now)
-    (rw (c.before.only-plain.ensures, c.before.before.say-weather.ensures, c.before.before.before.Rest-from.ensures, reading-of said, reading-of (only_plain said)) at c.unless-unknown.ensures)))
+    let said = said_weather (drop 2 c.args.g.now) in
+    rw (recent-is c.args.automatic c.args.g.now)
+    (rw (c.only_plain.ensures, c.say_weather.ensures, c.rest_from.ensures, reading-of said, reading-of (only_plain said)) at c.unless_unknown.ensures)))

@@ -11,7 +11,7 @@ unfolding read_weather
 read_weather_spec =
     tie.close
     (tie.spec
-    (λ c. search rules) (λ c κs. tt) (λ c κs. tt) (λ c κs. tt)
-    (λ c. rw (← c.before.before.has-pattern.ensures, c.before.if1.true, c.if2.true))
-    (λ c. rw (← c.before.before.has-pattern.ensures, c.before.if1.true, c.if2.false))
-    (λ c. rw (← c.before.before.before.has-pattern.ensures, c.before.before.if1.false) (rw (c.before.say-weather.ensures, reading-of (said_weather c.before.before.before.before.before.before.args.g.now)) at c.unless-unknown.ensures)))
+    (λ c κs. tt) (λ c κs. tt) (λ c κs. tt)
+    (λ c. rw (← c.has_pattern.ensures, c.if-has_pattern.true, c.if-forecast.true))
+    (λ c. rw (← c.has_pattern.ensures, c.if-has_pattern.true, c.if-forecast.false))
+    (λ c. rw (← c.has_pattern.ensures, c.if-has_pattern.false) (rw (c.say_weather.ensures, reading-of (said_weather c.args.g.now)) at c.unless_unknown.ensures)))

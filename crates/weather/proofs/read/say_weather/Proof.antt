@@ -9,4 +9,4 @@ say_weather_spec =
     tie.close
     (tie.spec
     (λ c κs. tt) (λ c κs. tt) (λ c κs. tt) (λ c κs. tt)
-    (λ c. rw (said-is c.before.before.before.before.before.args.g.now, ← c.before.before.before.intensity-of.ensures, ← c.before.before.sign-length.ensures, ← c.before.Rest-from.ensures) c.tell.ensures))
+    (λ c. rw (said-is c.args.g.now, ← c.intensity_of-i.ensures, ← c.sign_length.ensures, ← c.rest_from.ensures) c.tell.ensures))

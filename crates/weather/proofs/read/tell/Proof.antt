@@ -11,11 +11,11 @@ tell_spec =
     (tie.spec
     (λ c κs. tt) (λ c κs. tt) (λ c κs. tt) (λ c κs. tt) (λ c κs. tt) (λ c κs. tt) (λ c κs. tt)
     (λ c.
-    let d = c.before.before.before.before.before in
-    rw (c.before.before.code_at.ensures, c.before.code-at2.ensures, c.code-at3.ensures)
-    (told-good c.before.before.before.before.before.before.before.before.before.args.i c.before.before.before.before.before.before.before.before.before.args.s.now d.before.before.descriptor-of.ensures (rw d.before.code-length.ensures at d.Rest-from.ensures)
-    (sym c.before.before.before.before.intensity-fits.ensures ∙ c.before.before.before.if1.true)))
+    let d = c in
+    rw (c.code_at-first.ensures, c.code_at-second.ensures, c.code_at-third.ensures)
+    (told-good c.args.i c.args.s.now d.descriptor_of-d.ensures (rw d.code_length.ensures at d.rest_from-rest.ensures)
+    (sym c.intensity_fits.ensures ∙ c.if-intensity_fits.true)))
     (λ c.
-    let d = c.before.before in
-    told-bad c.before.before.before.before.before.before.args.i c.before.before.before.before.before.before.args.s.now d.before.before.descriptor-of.ensures (rw d.before.code-length.ensures at d.Rest-from.ensures)
-    (sym c.before.intensity-fits.ensures ∙ c.if1.false)))
+    let d = c in
+    told-bad c.args.i c.args.s.now d.descriptor_of-d.ensures (rw d.code_length.ensures at d.rest_from-rest.ensures)
+    (sym c.intensity_fits.ensures ∙ c.if-intensity_fits.false)))

@@ -9,6 +9,6 @@ unless_unknown_spec =
     tie.close
     (tie.spec
     (λ c. search rules) (λ c κs. tt) (λ c. search rules)
-    (λ c. rw (c.before.before.before.x.given.1, ← c.before.has-unknown.ensures, c.if1.true))
-    (λ c. rw (c.before.before.before.x.given.1, ← c.before.has-unknown.ensures, c.if1.false))
-    (λ c. rw c.before.x2.given.1))
+    (λ c. rw (c.in-Good.is, ← c.has_unknown.ensures, c.if-automatic-has_unknown.true))
+    (λ c. rw (c.in-Good.is, ← c.has_unknown.ensures, c.if-automatic-has_unknown.false))
+    (λ c. rw c.in-Bad.is))

@@ -11,21 +11,21 @@ use Rattle.weather_write.proofs.judge.codes_fit.Statement.{statement}
 use Rattle.weather_write.proofs.judge.codes_fit.Tie as tie
 
 -- the three codes are put one after the other
-spelling : (c : tie.After-letters6)
-    → let a = c.before.before.before.before.before.before.before.before.before.args in
-    Put (replicate 6 0) 0 (code_text a.a ++ code_text a.b ++ code_text a.c) c.before.put-code3.result c.before.put-code3.new.0
+spelling : (c : tie.After-letters-6-1)
+    → let a = c.args in
+    Put (replicate 6 0) 0 (code_text a.a ++ code_text a.b ++ code_text a.c) c.put_code-third.result c.put_code-third.new.out
 spelling c =
-    let third = c.before in
-    let second = third.before.before.before in
-    let first = second.before.before.before in
-    then (then first.put-code.ensures second.put-code2.ensures) third.put-code3.ensures
+    let third = c in
+    let second = third in
+    let first = second in
+    then (then first.put_code-first.ensures second.put_code-second.ensures) third.put_code-third.ensures
 
 pub codes_fit_spec : {M : Type 1} → statement M
 codes_fit_spec =
     tie.close
     (tie.spec
     (λ c. search rules) (λ c κs. tt) (λ c. search rules) (λ c κs. tt) (λ c. search rules) (λ c κs. tt)
-    (λ c. let a = c.before.before.before.before.before.before.before.before.before.args in spelt-within a.a a.b a.c (spelling c))
-    (λ c. let a = c.before.before.before.before.before.before.before.before.before.before.args in spelt-length a.a a.b a.c (spelling c.before))
+    (λ c. let a = c.args in spelt-within a.a a.b a.c (spelling c))
+    (λ c. let a = c.args in spelt-length a.a a.b a.c (spelling c.before))
     (λ c κs. tt)
-    (λ c. let a = c.before.before.before.before.before.before.before.before.before.before.before.args in rw (← spelt-codes a.a a.b a.c (spelling c.before.before)) c.intensity-fits.ensures))
+    (λ c. let a = c.args in rw (← spelt-codes a.a a.b a.c (spelling c.before.before)) c.intensity_fits.ensures))

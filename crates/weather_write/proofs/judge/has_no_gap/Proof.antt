@@ -8,4 +8,4 @@ has_no_gap_spec =
     tie.close
     (tie.spec
     (λ c κs. tt) (λ c κs. tt) (λ c κs. tt) (λ c κs. tt) (λ c κs. tt)
-    (λ c. rw (c.before.before.before.before.is_none.ensures, c.before.before.before.is-none2.ensures, c.before.before.is-none3.ensures, c.before.is-none4.ensures, c.is-none5.ensures)))
+    (λ c. rw (c.is_none.ensures, c.is_none-2.ensures, c.is_none-3.ensures, c.is_none-4.ensures, c.is_none-5.ensures)))

@@ -9,4 +9,4 @@ is_described_spec =
     tie.close
     (tie.spec
     (λ c. search rules) (λ c. search rules) (λ c κs. tt) (λ c. search rules)
-    (λ c. rw c.before.before.d.given.1 c.is-descriptor.ensures))
+    (λ c. rw c.in-Letters.is c.is_descriptor.ensures))

@@ -9,4 +9,4 @@ judge_recent_spec =
     tie.close
     (tie.spec
     (λ c κs. tt) (λ c κs. tt) (λ c κs. tt) (λ c κs. tt)
-    (λ c. unfold judge_recent in rw (c.judge.ensures, c.before.has-unknown.ensures, c.before.before.is_plain.ensures, c.before.before.before.phenomena-fit.ensures)))
+    (λ c. unfold judge_recent in rw (c.judge.ensures, c.has_unknown.ensures, c.is_plain.ensures, c.phenomena_fit.ensures)))

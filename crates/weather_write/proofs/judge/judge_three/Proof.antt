@@ -8,4 +8,4 @@ judge_three_spec =
     tie.close
     (tie.spec
     (λ c κs. tt) (λ c κs. tt) (λ c κs. tt) (λ c κs. tt) (λ c κs. tt) (λ c κs. tt) (λ c κs. tt) (λ c κs. tt)
-    (λ c. rw (c.and-then3.ensures, c.before.judge.ensures, c.before.before.count-fits.ensures, c.before.before.before.and-then2.ensures, c.before.before.before.before.judge-where3.ensures, c.before.before.before.before.before.and_then.ensures, c.before.before.before.before.before.before.judge-where2.ensures, c.before.before.before.before.before.before.before.judge-where.ensures)))
+    (λ c. rw (c.and_then.ensures, c.judge.ensures, c.count_fits.ensures, c.and_then-first.ensures, c.judge_where-2.ensures, c.and_then-second.ensures, c.judge_where.ensures, c.judge_where-third.ensures)))

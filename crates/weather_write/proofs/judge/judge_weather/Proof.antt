@@ -9,4 +9,4 @@ judge_weather_spec =
     tie.close
     (tie.spec
     (λ c κs. tt) (λ c κs. tt) (λ c κs. tt) (λ c κs. tt)
-    (λ c. unfold judge_weather in rw (c.judge.ensures, c.before.has-unknown.ensures, c.before.before.is-missing.ensures, c.before.before.before.phenomena-fit.ensures)))
+    (λ c. unfold judge_weather in rw (c.judge.ensures, c.has_unknown.ensures, c.is_missing.ensures, c.phenomena_fit.ensures)))

@@ -15,6 +15,6 @@ judge_weathers_spec =
     (tie.spec
     (λ c. search rules) (λ c κs. tt) (λ c. search rules) (λ c κs. tt) (λ c. search rules) (λ c κs. tt) (λ c κs. tt)
     (λ c.
-    let a = c.before.before.before.before.before.before.before.before.args in
-    let h : length a.ws.items ≡ 3 = simp length-map at c.before.before.before.before.before.before.before.before.well-formed.1.1.1.0.1.1.0.1.0.1 in
-    rw (c.judge-three.ensures, c.before.before.before.before.before.judge-weather.ensures, c.before.before.before.judge-weather2.ensures, c.before.judge-weather3.ensures, ← each-judged a.ws.items h (judge_weather a.forecast a.automatic a.beside) a.ws.count)))
+    let a = c.args in
+    let h : length a.ws.items ≡ 3 = c.well_formed.1.1.1.0.1.1.0.1.0.1 in
+    rw (c.judge_three.ensures, c.judge_weather.ensures, c.judge_weather-2.ensures, c.judge_weather-3.ensures, ← each-judged a.ws.items h (judge_weather a.forecast a.automatic a.beside) a.ws.count)))

@@ -9,4 +9,4 @@ phenomena_fit_spec =
     tie.close
     (tie.spec
     (λ c. search rules) (λ c. search rules) (λ c κs. tt) (λ c κs. tt) (λ c κs. tt) (λ c. search rules)
-    (λ c. rw (c.before.before.before.before.p.given.1, c.before.before.is-described.ensures, c.before.has-no-gap.ensures, c.codes-fit.ensures)))
+    (λ c. rw (c.in-Is.is, c.is_described.ensures, c.has_no_gap.ensures, c.codes_fit.ensures)))

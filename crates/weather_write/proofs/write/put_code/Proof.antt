@@ -10,6 +10,6 @@ put_code_spec =
     tie.close
     (tie.spec
     (λ c. search rules) (λ c. search rules) (λ c κs. tt) (λ c κs. tt)
-    (λ c. rw c.enum_told.given.1 (put-none _ _))
+    (λ c. rw c.in-None.is (put-none _ _))
     (λ c. search rules)
-    (λ c. rw c.before.before.before.before.before.before.before.before.before.c.given.1 (then c.before.before.before.before.before.before.put_byte.ensures c.before.before.put-byte2.ensures)))
+    (λ c. rw c.in-Letters.is (then c.put_byte-begun.ensures c.put_byte.ensures)))

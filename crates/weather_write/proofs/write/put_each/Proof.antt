@@ -15,10 +15,10 @@ put_each_spec =
     (tie.spec
     (λ c. search rules) (λ c κs. tt) (λ c. search rules) (λ c κs. tt) (λ c. search rules) (λ c κs. tt) (λ c. search rules)
     (λ c.
-    let third = c.before.before in
-    let second = third.before.before.before.before.before in
-    let first = second.before.before.before.before.before in
-    let a = first.before.before.before.before.before.args in
-    let h : length a.ws.items ≡ 3 = simp length-map at first.before.before.before.before.before.well-formed.1.1.1.0.1.1.0.1.0.1 in
+    let third = c in
+    let second = third in
+    let first = second in
+    let a = first.args in
+    let h : length a.ws.items ≡ 3 = first.well_formed.1.1.1.0.1.1.0.1.0.1 in
     rw (each-shown a.ws.items h (shown_as a.recent) a.ws.count)
-    at (write-groups _ _ (write-groups _ _ first.put-weather.ensures second.put-weather2.ensures) third.put-weather3.ensures)))
+    at (write-groups _ _ (write-groups _ _ first.put_weather-first.ensures second.put_weather-second.ensures) third.put_weather.ensures)))

@@ -9,11 +9,11 @@ pub put_intensity_spec : {M : Type 1} → statement M
 put_intensity_spec =
     tie.close
     (tie.spec
-    (λ c. search rules) (λ c. search rules) (λ c κs. tt) (λ c. search rules) (λ c κs. tt) (λ c. search rules) (λ c. search rules) (λ c κs. tt)
-    (λ c. rw c.enum_told.given.1 (put-none _ _))
+    (λ c. search rules) (λ c. search rules) (λ c κs. tt) (λ c. search rules) (λ c κs. tt) (λ c. search rules) (λ c κs. tt)
+    (λ c. rw c.in-None.is (put-none _ _))
     (λ c. search rules)
-    (λ c. rw c.before.before.before.before.enum-told2.given.1 c.before.before.put_byte.ensures)
+    (λ c. rw c.in-Light.is c.put_byte.ensures)
     (λ c. search rules)
-    (λ c. rw c.before.before.before.before.enum-told3.given.1 c.before.before.put-byte2.ensures)
+    (λ c. rw c.in-Heavy.is c.put_byte-in-Heavy.ensures)
     (λ c. search rules)
-    (λ c. rw c.before.before.before.before.before.enum-told4.given.1 c.before.before.put-text.ensures))
+    (λ c. rw c.in-Vicinity.is c.put_text.ensures))

@@ -9,16 +9,16 @@ pub put_phenomena_spec : {M : Type 1} → statement M
 put_phenomena_spec =
     tie.close
     (tie.spec
-    (λ c. search rules) (λ c. search rules) (λ c κs. tt) (λ c. search rules) (λ c κs. tt) (λ c κs. tt) (λ c κs. tt) (λ c κs. tt) (λ c κs. tt)
+    (λ c. search rules) (λ c κs. tt) (λ c. search rules) (λ c κs. tt) (λ c κs. tt) (λ c κs. tt) (λ c κs. tt) (λ c κs. tt)
     (λ c. search rules)
-    (λ c. rw c.before.before.before.before.before.enum_told.given.1 c.before.before.put-text.ensures)
+    (λ c. rw c.in-Missing.is c.put_text.ensures)
     (λ c. search rules)
     (λ c.
-    let third = c.before.before in
-    let second = third.before.before.before.before in
-    let first = second.before.before.before.before in
-    let described = first.before.before.before.before in
-    let signed = described.before.before.before.before in
-    rw signed.before.before.before.p.given.1
-    (then (then (then (then signed.put-intensity.ensures described.put-code.ensures) first.put-code2.ensures) second.put-code3.ensures)
-    third.put-code4.ensures)))
+    let third = c in
+    let second = third in
+    let first = second in
+    let described = first in
+    let signed = described in
+    rw signed.in-Is.is
+    (then (then (then (then signed.put_intensity-signed.ensures described.put_code-described.ensures) first.put_code-one.ensures) second.put_code-two.ensures)
+    third.put_code.ensures)))

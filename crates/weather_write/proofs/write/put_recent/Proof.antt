@@ -9,6 +9,6 @@ pub put_recent_spec : {M : Type 1} → statement M
 put_recent_spec =
     tie.close
     (tie.spec
-    (λ c. search rules) (λ c κs. tt) (λ c. search rules)
-    (λ c. rw c.before.before.before.before.before.if1.true c.before.before.put-text.ensures)
-    (λ c. rw c.if1.false (put-none _ _)))
+    (λ c κs. tt) (λ c. search rules)
+    (λ c. rw c.if-recent.true c.put_text.ensures)
+    (λ c. rw c.if-recent.false (put-none _ _)))

@@ -14,9 +14,9 @@ put_weather_spec =
     (tie.spec
     (λ c κs. tt) (λ c κs. tt) (λ c κs. tt) (λ c. search rules)
     (λ c.
-    let said = c.before.before in
-    let begun = said.before.before.before.before in
-    let opened = begun.before.before.before.before in
-    rw (opened.before.before.if1.true, shown-as c.before.before.before.before.before.before.before.before.before.before.before.before.before.before.args.recent c.before.before.before.before.before.before.before.before.before.before.before.before.before.before.args.w)
-    (write-group opened.open-group.ensures (then begun.put-recent.ensures said.put-phenomena.ensures)))
-    (λ c. unfold written in rw c.if1.false (put-none _ _)))
+    let said = c in
+    let begun = said in
+    let opened = begun in
+    rw (opened.if-stands.true, shown-as c.args.recent c.args.w)
+    (write-group opened.open_group-opened.ensures (then begun.put_recent-begun.ensures said.put_phenomena.ensures)))
+    (λ c. unfold written in rw c.if-stands.false (put-none _ _)))

@@ -10,4 +10,4 @@ put_weathers_spec =
     tie.close
     (tie.spec
     (λ c κs. tt) (λ c. search rules)
-    (λ c. unfold show_weathers in c.before.before.put-each.ensures))
+    (λ c. unfold show_weathers in c.put_each.ensures))

@@ -12,7 +12,7 @@ degrees_text_spec =
     tie.close
     (tie.spec
     (λ c κs. tt) (λ c. search rules)
-    (λ c. omega (arith, rw (sym c.before.before.before.direction-figure.ensures ∙ c.before.f.given.1) at (ddd-most c.before.before.before.before.args.d)))
+    (λ c. omega (arith, rw (sym c.direction_figure-f.ensures ∙ c.in-Is.is) at (ddd-most c.args.d)))
     (λ c. search rules)
-    (λ c. rw (← c.before.before.before.direction-figure.ensures, c.before.f.given.1))
-    (λ c. rw (← c.before.before.direction-figure.ensures, c.enum_told.given.1)))
+    (λ c. rw (← c.direction_figure-f.ensures, c.in-Is.is))
+    (λ c. rw (← c.direction_figure-f.ensures, c.in-OutOfRange.is)))

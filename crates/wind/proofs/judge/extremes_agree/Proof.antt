@@ -9,4 +9,4 @@ extremes_agree_spec =
     tie.close
     (tie.spec
     (λ c. search rules) (λ c. search rules) (λ c κs. tt) (λ c κs. tt) (λ c. search rules)
-    (λ c. rw (c.before.before.before.e.given.1, c.before.degrees-text.ensures, c.degrees-text2.ensures)))
+    (λ c. rw (c.in-Between.is, c.degrees_text.ensures, c.degrees_text-in-Between.ensures)))

@@ -9,4 +9,4 @@ extremes_fit_spec =
     tie.close
     (tie.spec
     (λ c. search rules) (λ c. search rules) (λ c. search rules)
-    (λ c. rw c.before.e.given.1))
+    (λ c. rw c.in-Between.is))

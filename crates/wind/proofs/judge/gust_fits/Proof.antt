@@ -8,4 +8,4 @@ gust_fits_spec =
     tie.close
     (tie.spec
     (λ c κs. tt) (λ c κs. tt)
-    (λ c. rw (c.before.is-missing.ensures, c.speed-fits.ensures)))
+    (λ c. rw (c.is_missing.ensures, c.speed_fits.ensures)))

@@ -9,4 +9,4 @@ judge_variation_spec =
     tie.close
     (tie.spec
     (λ c κs. tt) (λ c κs. tt) (λ c κs. tt)
-    (λ c. unfold judge_variation in rw (c.judge.ensures, c.before.before.extremes-fit.ensures, c.before.extremes-agree.ensures)))
+    (λ c. unfold judge_variation in rw (c.judge.ensures, c.extremes_fit.ensures, c.extremes_agree.ensures)))

@@ -9,4 +9,4 @@ judge_visibility_spec =
     tie.close
     (tie.spec
     (λ c κs. tt) (λ c κs. tt)
-    (λ c. unfold judge_visibility in rw (c.judge.ensures, c.before.view-fits.ensures)))
+    (λ c. unfold judge_visibility in rw (c.judge.ensures, c.view_fits.ensures)))

@@ -11,4 +11,4 @@ judge_wind_spec =
     (λ c κs. tt) (λ c κs. tt) (λ c κs. tt) (λ c κs. tt) (λ c κs. tt) (λ c κs. tt)
     (λ c.
     unfold judge_wind in
-    rw (c.judge.ensures, c.before.before.before.is-missing.ensures, c.before.before.wind-fits.ensures, c.before.wind-agrees.ensures, c.before.before.before.before.class-speed2.ensures, c.before.before.before.before.before.class-speed.ensures)))
+    rw (c.judge.ensures, c.is_missing.ensures, c.wind_fits.ensures, c.wind_agrees.ensures, c.class_speed-gust_written.ensures, c.class_speed-mean_written.ensures)))

@@ -9,5 +9,5 @@ speed_fits_spec =
     tie.close
     (tie.spec
     (λ c. search rules) (λ c. search rules) (λ c κs. tt) (λ c. search rules) (λ c κs. tt) (λ c. search rules)
-    (λ c. rw (c.before.before.s.given.1, c.most-speed.ensures))
-    (λ c. rw (c.before.before.s2.given.1, c.last-exact.ensures)))
+    (λ c. rw (c.in-Is.is, c.most_speed.ensures))
+    (λ c. rw (c.in-Above.is, c.last_exact.ensures)))

@@ -9,4 +9,4 @@ view_fits_spec =
     tie.close
     (tie.spec
     (λ c. search rules) (λ c. search rules) (λ c. search rules) (λ c. search rules) (λ c. search rules)
-    (λ c. rw c.before.v.given.1))
+    (λ c. rw c.in-Metres.is))

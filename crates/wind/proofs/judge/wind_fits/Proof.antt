@@ -10,7 +10,7 @@ wind_fits_spec =
     (tie.spec
     (λ c. search rules) (λ c κs. tt) (λ c κs. tt) (λ c. search rules) (λ c κs. tt) (λ c κs. tt) (λ c. search rules) (λ c κs. tt) (λ c κs. tt)
     (λ c. search rules) (λ c κs. tt) (λ c κs. tt)
-    (λ c. rw (c.before.before.enum_told.given.1, c.before.is-missing.ensures, c.is-missing2.ensures))
-    (λ c. rw (c.before.before.enum-told2.given.1, c.before.speed-fits.ensures, c.gust-fits.ensures))
-    (λ c. rw (c.before.before.enum-told3.given.1, c.before.speed-fits2.ensures, c.gust-fits2.ensures))
-    (λ c. rw (c.before.before.before.d.given.1, c.before.speed-fits3.ensures, c.gust-fits3.ensures)))
+    (λ c. rw (c.in-Missing.is, c.is_missing.ensures, c.is_missing-in-Missing.ensures))
+    (λ c. rw (c.in-Calm.is, c.speed_fits.ensures, c.gust_fits.ensures))
+    (λ c. rw (c.in-Variable.is, c.speed_fits-in-Variable.ensures, c.gust_fits-in-Variable.ensures))
+    (λ c. rw (c.in-Degrees.is, c.speed_fits-in-Degrees.ensures, c.gust_fits-in-Degrees.ensures)))

@@ -13,10 +13,10 @@ pub direction_of_spec : {M : Type 1} → statement M
 direction_of_spec =
     tie.close
     (tie.spec
-    (λ c. rw (eq-eqb _ _ c.if1.true))
+    (λ c. rw (eq-eqb _ _ c.if-v-eq1.true))
     (λ c. search rules)
-    (λ c. rw (ne_eqb _ _ c.before.if1.false) (rw (no-figure c.before.before.before.args.v.field c.match.keys2)))
-    (λ c. rw (ne_eqb _ _ c.before.before.before.before.if1.false, c.before.before.f.given.1, eq-eqb _ _ c.if2.true))
+    (λ c. rw (ne_eqb _ _ c.if-v-eq1.false) (rw (no-figure c.args.v.field c.in_default.in_default-own.keys2)))
+    (λ c. rw (ne_eqb _ _ c.if-v-eq1.false, c.in-Number.is, eq-eqb _ _ c.if-d-eq0.true))
     (λ c κs. tt)
-    (λ c. rw (ne_eqb _ _ c.before.before.before.before.before.before.if1.false, c.before.before.before.before.f.given.1, ne_eqb _ _ c.before.before.if2.false, ddd-used _ (sym c.before.is-tens.ensures ∙ c.if3.true)))
-    (λ c. rw (ne_eqb _ _ c.before.before.before.before.before.before.if1.false, c.before.before.before.before.f.given.1, ne_eqb _ _ c.before.before.if2.false, not-used (ddd_reading c.before.before.before.before.f.given.0.0) (sym c.before.is-tens.ensures ∙ c.if3.false))))
+    (λ c. rw (ne_eqb _ _ c.if-v-eq1.false, c.in-Number.is, ne_eqb _ _ c.if-d-eq0.false, ddd-used _ (sym c.is_tens.ensures ∙ c.if-is_tens.true)))
+    (λ c. rw (ne_eqb _ _ c.if-v-eq1.false, c.in-Number.is, ne_eqb _ _ c.if-d-eq0.false, not-used (ddd_reading c.in-Number.d) (sym c.is_tens.ensures ∙ c.if-is_tens.false))))

@@ -9,5 +9,5 @@ gust_of_spec =
     tie.close
     (tie.spec
     (λ c κs. tt)
-    (λ c. rw (eq-eqb _ _ c.if1.true))
-    (λ c. rw (ne_eqb _ _ c.before.if1.false) c.speed-of.ensures))
+    (λ c. rw (eq-eqb _ _ c.if-v-eq4.true))
+    (λ c. rw (ne_eqb _ _ c.if-v-eq4.false) c.speed_of.ensures))

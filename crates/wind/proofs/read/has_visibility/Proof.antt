@@ -11,5 +11,5 @@ unfolding has_any
 has_visibility_spec =
     tie.close
     (tie.spec
-    (λ c. search rules) (λ c κs. tt) (λ c. search rules) (λ c κs. tt)
-    (λ c. rw (c.before.before.has-pattern.ensures, c.has-pattern2.ensures, or-false)))
+    (λ c κs. tt) (λ c κs. tt)
+    (λ c. rw (c.has_pattern.ensures, c.has_pattern-2.ensures, or-false)))

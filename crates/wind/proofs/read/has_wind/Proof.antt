@@ -9,4 +9,4 @@ use Rattle.wind.proofs.read.has_wind.Tie as tie
 
 pub has_wind_spec : {M : Type 1} → statement M
 unfolding has_shape
-has_wind_spec = tie.close (tie.spec (λ c κs. search rules) (λ c. ap (λ (s : Scan). s.fits) c.scan-wind.ensures))
+has_wind_spec = tie.close (tie.spec (λ c κs. search rules) (λ c. ap (λ (s : Scan). s.fits) c.scan_wind-s.ensures))

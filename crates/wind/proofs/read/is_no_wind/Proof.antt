@@ -8,4 +8,4 @@ is_no_wind_spec =
     tie.close
     (tie.spec
     (λ c κs. tt) (λ c κs. tt)
-    (λ c. rw (c.before.before.before.is-missing.ensures, c.before.is-missing2.ensures)))
+    (λ c. rw (c.is_missing.ensures, c.is_missing-2.ensures)))

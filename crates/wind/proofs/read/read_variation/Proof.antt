@@ -16,25 +16,25 @@ read_variation_spec =
     tie.close
     (tie.spec
     (λ c κs. tt) (λ c. search rules)
-    (λ c. rw (← c.before.field.ensures, no-figure c.before.field.result c.match.keys2))
+    (λ c. rw (← c.field.ensures, no-figure c.field.result c.in_default.in_default-own.keys2))
     (λ c κs. tt) (λ c. search rules)
-    (λ c. rw (← c.before.before.before.before.before.field.ensures, c.before.before.before.a.given.1, ← c.before.field2.ensures, no-figure c.before.field2.result c.match2.keys2))
+    (λ c. rw (← c.field.ensures, c.in-Number.is, ← c.field-2.ensures, no-figure c.field-2.result c.in_default-field.in_default-field-own.keys2))
     (λ c κs. tt) (λ c κs. tt)
     (λ c.
     let two = c.before.before in
-    let b = two.before.before.before in
-    let a = b.before.before.before.before in
-    let used = both_used a.a.given.0.0 b.b.given.0.0 two.before.is-tens.ensures two.is-tens2.ensures c.before.if1.true in
-    rw (← a.before.before.field.ensures, a.a.given.1, ← b.before.before.field2.ensures, b.b.given.1, used.0, used.1, eq-eqb _ _ c.if2.true))
+    let b = two in
+    let a = b in
+    let used = both_used a.in-Number.a b.in-Number-field.b two.is_tens.ensures two.is_tens-2.ensures c.if-is_tens.true in
+    rw (← a.field.ensures, a.in-Number.is, ← b.field-2.ensures, b.in-Number-field.is, used.0, used.1, eq-eqb _ _ c.if-a-b.true))
     (λ c.
     let two = c.before.before in
-    let b = two.before.before.before in
-    let a = b.before.before.before.before in
-    let used = both_used a.a.given.0.0 b.b.given.0.0 two.before.is-tens.ensures two.is-tens2.ensures c.before.if1.true in
-    rw (← a.before.before.field.ensures, a.a.given.1, ← b.before.before.field2.ensures, b.b.given.1, used.0, used.1, ne_eqb _ _ c.if2.false))
+    let b = two in
+    let a = b in
+    let used = both_used a.in-Number.a b.in-Number-field.b two.is_tens.ensures two.is_tens-2.ensures c.if-is_tens.true in
+    rw (← a.field.ensures, a.in-Number.is, ← b.field-2.ensures, b.in-Number-field.is, used.0, used.1, ne_eqb _ _ c.if-a-b.false))
     (λ c.
     let two = c.before in
-    let b = two.before.before.before in
-    let a = b.before.before.before.before in
-    rw (← a.before.before.field.ensures, a.a.given.1, ← b.before.before.field2.ensures, b.b.given.1)
-    (ap as_variation (sym (not-both a.a.given.0.0 b.b.given.0.0 two.before.is-tens.ensures two.is-tens2.ensures _ c.if1.false)))))
+    let b = two in
+    let a = b in
+    rw (← a.field.ensures, a.in-Number.is, ← b.field-2.ensures, b.in-Number-field.is)
+    (ap as_variation (sym (not-both a.in-Number.a b.in-Number-field.b two.is_tens.ensures two.is_tens-2.ensures _ c.if-is_tens.false)))))

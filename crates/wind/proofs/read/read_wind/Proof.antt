@@ -20,12 +20,12 @@ read_wind_spec =
     (tie.spec
     (λ c κs. tt) (λ c. search rules) (λ c. search rules) (λ c. search rules) (λ c. search rules) (λ c κs. tt) (λ c κs. tt)
     (λ c.
-    let scanned = c.before.before.before.before.before.before.before in
-    let g = scanned.before.before.args.g.now in
+    let scanned = c in
+    let g = scanned.args.g.now in
     rw (
-      c.wind-by.ensures,
-      c.before.unit-of.ensures,
-      scanned.scan-wind.ensures,
+      c.wind_by.ensures,
+      c.unit_of.ensures,
+      scanned.scan_wind-s.ensures,
       value-is wind_shape g 0 none (omega arith),
       value-is wind_shape g 1 none (omega arith),
       value-is wind_shape g 2 none (omega arith),

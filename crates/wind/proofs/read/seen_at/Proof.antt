@@ -9,5 +9,5 @@ seen_at_spec =
     tie.close
     (tie.spec
     (λ c κs. tt) (λ c. search rules) (λ c. search rules)
-    (λ c. rw (← c.before.before.before.visibility-reading.ensures, c.before.r.given.1))
-    (λ c. rw (← c.before.before.visibility-reading.ensures, c.enum_told.given.1)))
+    (λ c. rw (← c.visibility_reading-r.ensures, c.in-Is.is))
+    (λ c. rw (← c.visibility_reading-r.ensures, c.in-Unused.is)))

@@ -10,7 +10,7 @@ speed_of_spec =
     tie.close
     (tie.spec
     (λ c. search rules)
-    (λ c. rw (no-figure c.before.args.v.field c.match.keys2))
+    (λ c. rw (no-figure c.args.v.field c.in_default.in_default-own.keys2))
     (λ c κs. tt) (λ c κs. tt)
-    (λ c. rw (c.before.before.before.before.f.given.1, ← c.before.before.in-width.ensures, c.before.if1.true) c.speed-by.ensures)
-    (λ c. rw (c.before.before.before.f.given.1, ← c.before.in-width.ensures, c.if1.false)))
+    (λ c. rw (c.in-Number.is, ← c.in_width.ensures, c.if-in_width.true) c.speed_by.ensures)
+    (λ c. rw (c.in-Number.is, ← c.in_width.ensures, c.if-in_width.false)))

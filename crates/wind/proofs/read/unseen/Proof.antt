@@ -7,5 +7,5 @@ pub unseen_spec : {M : Type 1} → statement M
 unseen_spec =
     tie.close
     (tie.spec
-    (λ c. rw c.if1.true)
-    (λ c. rw c.if1.false))
+    (λ c. rw c.if-forecast.true)
+    (λ c. rw c.if-forecast.false))

@@ -13,10 +13,10 @@ wind_by_spec =
     tie.close
     (tie.spec
     (λ c κs. tt)
-    (λ c. rw (← c.before.before.is-no-wind.ensures, c.before.if1.true, c.if2.true))
-    (λ c. rw (← c.before.before.is-no-wind.ensures, c.before.if1.true, c.if2.false))
+    (λ c. rw (← c.is_no_wind.ensures, c.if-is_no_wind.true, c.if-forecast.true))
+    (λ c. rw (← c.is_no_wind.ensures, c.if-is_no_wind.true, c.if-forecast.false))
     (λ c κs. tt) (λ c κs. tt) (λ c κs. tt) (λ c κs. tt)
     (λ c.
-    let a = c.before.before.before.before.before.before.args in
-    rw (← c.before.before.before.before.before.is-no-wind.ensures, c.before.before.before.before.if1.false, c.wind-of.ensures, c.before.before.before.direction-of.ensures, c.before.before.speed-of.ensures, c.before.gust-of.ensures)
+    let a = c.args in
+    rw (← c.is_no_wind.ensures, c.if-is_no_wind.false, c.wind_of.ensures, c.direction_of-direction.ensures, c.speed_of-mean.ensures, c.gust_of-gust.ensures)
     (ap as_wind (parts-make a.unit (direction_of a.d) (speed_of a.unit a.s) (gust_of a.unit a.g)))))

@@ -9,7 +9,7 @@ wind_of_spec =
     tie.close
     (tie.spec
     (λ c. search rules) (λ c. search rules) (λ c. search rules) (λ c. search rules) (λ c. search rules) (λ c. search rules) (λ c κs. tt)
-    (λ c. rw c.before.d.given.1)
-    (λ c. rw (c.before.before.before.before.d2.given.1, c.before.s.given.1))
-    (λ c. rw (c.before.before.before.before.before.before.before.d2.given.1, c.before.before.before.before.s2.given.1, c.before.g.given.1))
-    (λ c. rw (c.before.before.before.before.before.before.before.before.d2.given.1, c.before.before.before.before.before.s2.given.1, c.before.before.g2.given.1) c.wind-with.ensures))
+    (λ c. rw c.in-Bad.is)
+    (λ c. rw (c.in-Good.is, c.in-Bad-s.is))
+    (λ c. rw (c.in-Good.is, c.in-Good-s.is, c.in-Bad-g.is))
+    (λ c. rw (c.in-Good.is, c.in-Good-s.is, c.in-Good-g.is) c.wind_with.ensures))

@@ -8,5 +8,5 @@ wind_with_spec =
     tie.close
     (tie.spec
     (λ c κs. tt)
-    (λ c. rw (← c.before.wind-agrees.ensures, c.if1.true))
-    (λ c. rw (← c.before.wind-agrees.ensures, c.if1.false)))
+    (λ c. rw (← c.wind_agrees.ensures, c.if-wind_agrees.true))
+    (λ c. rw (← c.wind_agrees.ensures, c.if-wind_agrees.false)))

@@ -9,7 +9,7 @@ direction_value_spec =
     tie.close
     (tie.spec
     (λ c. search rules) (λ c. search rules) (λ c. search rules) (λ c. search rules) (λ c κs. tt)
-    (λ c. rw c.enum_told.given.1)
-    (λ c. rw c.enum-told2.given.1)
-    (λ c. rw c.enum-told3.given.1)
-    (λ c. rw (c.before.before.d.given.1, c.degrees-text.ensures)))
+    (λ c. rw c.in-Missing.is)
+    (λ c. rw c.in-Calm.is)
+    (λ c. rw c.in-Variable.is)
+    (λ c. rw (c.in-Degrees.is, c.degrees_text.ensures)))

@@ -8,5 +8,5 @@ pub number_value_spec : {M : Type 1} → statement M
 number_value_spec =
     tie.close
     (tie.spec
-    (λ c. rw (le-leb _ _ c.if1.true))
-    (λ c. rw (lt-leb _ _ c.if1.false)))
+    (λ c. rw (le-leb _ _ c.if-n-ge100.true))
+    (λ c. rw (lt-leb _ _ c.if-n-ge100.false)))

@@ -13,10 +13,10 @@ put_extremes_spec =
     (tie.spec
     (λ c κs. tt) (λ c κs. tt) (λ c κs. tt) (λ c κs. tt) (λ c κs. tt) (λ c κs. tt) (λ c. search rules)
     (λ c.
-    let third = c.before.before in
-    let second = third.before.before.before.before.before in
-    let first = second.before.before.before.before in
-    let opened = first.before.before.before.before.before in
+    let third = c in
+    let second = third in
+    let first = second in
+    let opened = first in
     unfold number_text in
-    rw (first.before.degrees-text.ensures, third.before.degrees-text2.ensures)
-    at (write-group opened.open-group.ensures (then (then first.put-number.ensures second.put_byte.ensures) third.put-number2.ensures))))
+    rw (first.degrees_text.ensures, third.degrees_text-2.ensures)
+    at (write-group opened.open_group-opened.ensures (then (then first.put_number-first.ensures second.put_byte-second.ensures) third.put_number.ensures))))

@@ -12,6 +12,6 @@ put_variation_spec =
     tie.close
     (tie.spec
     (λ c. search rules) (λ c. search rules) (λ c κs. tt)
-    (λ c. unfold show_variation written in rw c.enum_told.given.1 (put-none _ _))
+    (λ c. unfold show_variation written in rw c.in-Missing.is (put-none _ _))
     (λ c. search rules)
-    (λ c. unfold show_variation in rw c.before.before.before.before.before.extremes.given.1 c.before.before.put-extremes.ensures))
+    (λ c. unfold show_variation in rw c.in-Between.is c.put_extremes.ensures))

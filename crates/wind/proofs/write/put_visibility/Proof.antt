@@ -11,12 +11,12 @@ pub put_visibility_spec : {M : Type 1} → statement M
 put_visibility_spec =
     tie.close
     (tie.spec
-    (λ c κs. tt) (λ c. search rules) (λ c. search rules) (λ c κs. tt) (λ c. search rules) (λ c. search rules) (λ c κs. tt) (λ c. search rules)
+    (λ c κs. tt) (λ c. search rules) (λ c κs. tt) (λ c. search rules) (λ c κs. tt) (λ c. search rules)
     (λ c κs. tt) (λ c κs. tt) (λ c. search rules)
-    (λ c. unfold show_visibility in rw c.before.before.before.before.before.enum_told.given.1 (write-group c.before.before.before.before.before.before.before.before.before.open-group.ensures c.before.before.put-text.ensures))
+    (λ c. unfold show_visibility in rw c.in-Missing.is (write-group c.open_group-opened.ensures c.put_text.ensures))
     (λ c. search rules)
-    (λ c. unfold show_visibility in rw c.before.before.before.before.before.enum-told2.given.1 (write-group c.before.before.before.before.before.before.before.before.before.open-group.ensures c.before.before.put-text2.ensures))
+    (λ c. unfold show_visibility in rw c.in-Cavok.is (write-group c.open_group-opened.ensures c.put_text-in-Cavok.ensures))
     (λ c. search rules)
     (λ c.
     unfold show_visibility number_text in
-    rw c.before.before.before.before.before.before.view.given.1 (write-group c.before.before.before.before.before.before.before.before.before.before.open-group.ensures (rw c.before.before.before.view-figure.ensures at c.before.before.put-number.ensures))))
+    rw c.in-Metres.is (write-group c.open_group-opened.ensures (rw c.view_figure.ensures at c.put_number.ensures))))

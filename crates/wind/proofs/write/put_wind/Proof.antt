@@ -13,26 +13,26 @@ put_wind_spec =
     tie.close
     (tie.spec
     (λ c κs. tt) (λ c κs. tt) (λ c. search rules) (λ c κs. tt) (λ c κs. tt) (λ c. search rules) (λ c κs. tt) (λ c κs. tt) (λ c. search rules)
-    (λ c κs. tt) (λ c. search rules) (λ c κs. tt) (λ c. search rules)
+    (λ c κs. tt) (λ c κs. tt) (λ c. search rules)
     (λ c.
     let printed = c.before.before in
-    let opened = printed.before.before.before.before.before in
-    let gust = opened.before.before in
-    let gust-class = gust.before in
-    let speed = gust-class.before in
-    let speed-class = speed.before in
-    let direction = speed-class.before in
-    let unit = direction.before in
-    let w = unit.before.before.args.w in
+    let opened = printed in
+    let gust = opened in
+    let gust-class = gust in
+    let speed = gust-class in
+    let speed-class = speed in
+    let direction = speed-class in
+    let unit = direction in
+    let w = unit.args.w in
     let u = unit_value w.unit in
     unfold show_wind in
     rw (
-      unit.unit-value.ensures,
-      direction.direction-value.ensures,
-      speed.speed-value.ensures,
-      gust.gust-value.ensures,
-      speed-class.class-speed.ensures,
-      gust-class.class-speed2.ensures,
+      unit.unit_value-last.ensures,
+      direction.direction_value.ensures,
+      speed.speed_value.ensures,
+      gust.gust_value.ensures,
+      speed-class.class_speed.ensures,
+      gust-class.class_speed-2.ensures,
       print-four (direction_value w.direction) (speed_value (class_speed w.unit w.speed)) (gust_value (class_speed w.unit w.gust)) u (u ∷ u ∷ u ∷ u ∷ []),
     )
-    at (write-group opened.open-group.ensures printed.put-shape.ensures)))
+    at (write-group opened.open_group-opened.ensures printed.put_shape.ensures)))

@@ -9,6 +9,6 @@ speed_value_spec =
     tie.close
     (tie.spec
     (λ c. search rules) (λ c. search rules) (λ c κs. tt) (λ c. search rules) (λ c κs. tt)
-    (λ c. rw c.enum_told.given.1)
-    (λ c. rw c.before.before.s.given.1 c.number-value.ensures)
-    (λ c. rw c.before.before.s2.given.1 c.number-value2.ensures))
+    (λ c. rw c.in-Missing.is)
+    (λ c. rw c.in-Is.is c.number_value.ensures)
+    (λ c. rw c.in-Above.is c.number_value-in-Above.ensures))

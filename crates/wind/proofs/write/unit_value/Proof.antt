@@ -9,7 +9,7 @@ unit_value_spec =
     tie.close
     (tie.spec
     (λ c. search rules) (λ c. search rules) (λ c. search rules) (λ c. search rules)
-    (λ c. rw c.enum_told.given.1)
-    (λ c. rw c.enum-told2.given.1)
-    (λ c. rw c.enum-told3.given.1)
-    (λ c. rw c.enum-told4.given.1))
+    (λ c. rw c.in-Missing.is)
+    (λ c. rw c.in-Knots.is)
+    (λ c. rw c.in-MetresPerSecond.is)
+    (λ c. rw c.in-KilometresPerHour.is))

@@ -14,5 +14,5 @@ view_figure_spec =
     tie.close
     (tie.spec
     (λ c κs. tt) (λ c. search rules) (λ c. search rules)
-    (λ c. figure-told visibility _ (sym c.before.before.before.visibility-figure.ensures ∙ c.before.f.given.1))
-    (λ c. figure-far _ (omega (arith, figure-beyond visibility _ (sym c.before.before.visibility-figure.ensures ∙ c.enum_told.given.1)))))
+    (λ c. figure-told visibility _ (sym c.visibility_figure-f.ensures ∙ c.in-Is.is))
+    (λ c. figure-far _ (omega (arith, figure-beyond visibility _ (sym c.visibility_figure-f.ensures ∙ c.in-OutOfRange.is)))))

@@ -9,5 +9,5 @@ gust_agrees_spec =
     tie.close
     (tie.spec
     (λ c. search rules) (λ c. search rules) (λ c κs. tt) (λ c κs. tt) (λ c. search rules) (λ c κs. tt) (λ c. search rules)
-    (λ c. rw (c.before.before.before.gust.given.1, c.before.is-calm.ensures, c.is_below.ensures))
+    (λ c. rw (c.in-Is.is, c.is_calm.ensures, c.is_below.ensures))
     (λ c. search rules))

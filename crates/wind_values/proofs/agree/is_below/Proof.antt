@@ -9,5 +9,5 @@ is_below_spec =
     tie.close
     (tie.spec
     (λ c. search rules) (λ c. search rules) (λ c. search rules) (λ c. search rules)
-    (λ c. rw c.before.mean.given.1)
+    (λ c. rw c.in-Is.is)
     (λ c. search rules))

@@ -8,5 +8,5 @@ wind_agrees_spec =
     tie.close
     (tie.spec
     (λ c κs. tt) (λ c κs. tt) (λ c κs. tt) (λ c κs. tt)
-    (λ c. rw (← c.before.before.is-calm.ensures, c.before.if1.true, c.before.before.before.is-still.ensures, c.gust-agrees.ensures))
-    (λ c. rw (← c.before.before.is-calm.ensures, c.before.if1.false, c.before.before.before.is-still.ensures, c.gust-agrees2.ensures)))
+    (λ c. rw (← c.is_calm.ensures, c.if-is_calm.true, c.is_still-still.ensures, c.gust_agrees.ensures))
+    (λ c. rw (← c.is_calm.ensures, c.if-is_calm.false, c.is_still-still.ensures, c.gust_agrees-else-is_calm.ensures)))

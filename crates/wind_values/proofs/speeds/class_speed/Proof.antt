@@ -8,5 +8,5 @@ class_speed_spec =
     tie.close
     (tie.spec
     (λ c κs. tt) (λ c κs. tt)
-    (λ c. rw (← c.before.before.is-over.ensures, c.before.if1.true, c.last-exact.ensures))
-    (λ c. rw (← c.before.is-over.ensures, c.if1.false)))
+    (λ c. rw (← c.is_over.ensures, c.if-is_over.true, c.last_exact.ensures))
+    (λ c. rw (← c.is_over.ensures, c.if-is_over.false)))

@@ -7,4 +7,4 @@ pub in_width_spec : {M : Type 1} → statement M
 in_width_spec =
     tie.close
     (tie.spec
-    (λ c. rw c.if1.true) (λ c. rw c.if1.false))
+    (λ c. rw c.if-which.true) (λ c. rw c.if-which.false))

@@ -9,5 +9,5 @@ is_over_spec =
     tie.close
     (tie.spec
     (λ c κs. tt) (λ c. search rules) (λ c. search rules) (λ c. search rules) (λ c. search rules)
-    (λ c. rw (c.before.s.given.1, c.before.before.before.last-exact.ensures))
-    (λ c. rw (c.before.s2.given.1, c.before.before.before.last-exact.ensures)))
+    (λ c. rw (c.in-Is.is, c.last_exact-last.ensures))
+    (λ c. rw (c.in-Above.is, c.last_exact-last.ensures)))

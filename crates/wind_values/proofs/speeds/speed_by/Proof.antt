@@ -10,6 +10,6 @@ speed_by_spec =
     tie.close
     (tie.spec
     (λ c κs. tt)
-    (λ c. rw (le-leb _ _ c.if1.true))
-    (λ c. rw (lt-leb _ _ c.before.before.if1.false, eq-eqb _ _ (c.if2.true ∙ c.before.last-exact.ensures)))
-    (λ c. rw (lt-leb _ _ c.before.before.if1.false, ne_eqb _ _ (λ e. c.if2.false (e ∙ sym c.before.last-exact.ensures)))))
+    (λ c. rw (le-leb _ _ c.if-which-le1.true))
+    (λ c. rw (lt-leb _ _ c.if-which-le1.false, eq-eqb _ _ (c.if-n-last_exact.true ∙ c.last_exact.ensures)))
+    (λ c. rw (lt-leb _ _ c.if-which-le1.false, ne_eqb _ _ (λ e. c.if-n-last_exact.false (e ∙ sym c.last_exact.ensures)))))

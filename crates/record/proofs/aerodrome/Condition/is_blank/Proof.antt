@@ -10,4 +10,4 @@ is_blank_spec =
     (tie.spec
     (λ c. search rules) (λ c. search rules) (λ c κs. tt) (λ c κs. tt) (λ c κs. tt) (λ c κs. tt)
     (λ c. search rules)
-    (λ c. rw (c.is-missing4.ensures, c.before.is-missing3.ensures, c.before.before.is-missing2.ensures, c.before.before.before.is-missing.ensures, c.before.before.before.before.before.self.given.1)))
+    (λ c. rw (c.is_missing-in-Covered-3.ensures, c.is_missing-in-Covered-2.ensures, c.is_missing-in-Covered.ensures, c.is_missing.ensures, c.in-Covered.is)))

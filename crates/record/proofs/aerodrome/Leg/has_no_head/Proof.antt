@@ -4,4 +4,4 @@ use Rattle.record.proofs.aerodrome.Leg.has_no_head.Statement.{statement}
 use Rattle.record.proofs.aerodrome.Leg.has_no_head.Tie as tie
 
 pub has_no_head_spec : {M : Type 1} → statement M
-has_no_head_spec = tie.close (tie.spec (λ c κs. tt) (λ c κs. tt) (λ c κs. tt) (λ c κs. tt) (λ c. rw (c.is-blank3.ensures, c.before.is-blank2.ensures, c.before.before.is-blank.ensures, c.before.before.before.is_none.ensures)))
+has_no_head_spec = tie.close (tie.spec (λ c κs. tt) (λ c κs. tt) (λ c κs. tt) (λ c κs. tt) (λ c. rw (c.is_blank-3.ensures, c.is_blank-2.ensures, c.is_blank.ensures, c.is_none.ensures)))

@@ -5,4 +5,4 @@ use Rattle.record.proofs.aerodrome.Observation.has_no_observation.Statement.{sta
 use Rattle.record.proofs.aerodrome.Observation.has_no_observation.Tie as tie
 
 pub has_no_observation_spec : {M : Type 1} → statement M
-has_no_observation_spec = tie.close (tie.spec (λ c κs. tt) (λ c κs. tt) (λ c κs. tt) (λ c κs. tt) (λ c κs. tt) (λ c κs. tt) (λ c κs. tt) (λ c. unfold no_observation in rw (c.is-blank5.ensures, c.before.is-blank4.ensures, c.before.before.is-missing2.ensures, c.before.before.before.is-blank3.ensures, c.before.before.before.before.is-blank2.ensures, c.before.before.before.before.before.is-missing.ensures, c.before.before.before.before.before.before.is-blank.ensures)))
+has_no_observation_spec = tie.close (tie.spec (λ c κs. tt) (λ c κs. tt) (λ c κs. tt) (λ c κs. tt) (λ c κs. tt) (λ c κs. tt) (λ c κs. tt) (λ c. unfold no_observation in rw (c.is_blank-5.ensures, c.is_blank-4.ensures, c.is_missing-2.ensures, c.is_blank-3.ensures, c.is_blank-2.ensures, c.is_missing.ensures, c.is_blank.ensures)))

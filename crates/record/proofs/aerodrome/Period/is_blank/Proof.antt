@@ -4,4 +4,4 @@ use Rattle.record.proofs.aerodrome.Period.is_blank.Statement.{statement}
 use Rattle.record.proofs.aerodrome.Period.is_blank.Tie as tie
 
 pub is_blank_spec : {M : Type 1} → statement M
-is_blank_spec = tie.close (tie.spec (λ c κs. tt) (λ c κs. tt) (λ c. rw (c.is-blank2.ensures, c.before.is-blank.ensures)))
+is_blank_spec = tie.close (tie.spec (λ c κs. tt) (λ c κs. tt) (λ c. rw (c.is_blank-2.ensures, c.is_blank.ensures)))

@@ -4,4 +4,4 @@ use Rattle.record.proofs.aerodrome.Sky.is_blank.Statement.{statement}
 use Rattle.record.proofs.aerodrome.Sky.is_blank.Tie as tie
 
 pub is_blank_spec : {M : Type 1} → statement M
-is_blank_spec = tie.close (tie.spec (λ c κs. tt) (λ c κs. tt) (λ c. rw (c.is-blank-from.ensures, c.before.is-layers.ensures)))
+is_blank_spec = tie.close (tie.spec (λ c κs. tt) (λ c κs. tt) (λ c. rw (c.is_blank_from.ensures, c.is_layers.ensures)))

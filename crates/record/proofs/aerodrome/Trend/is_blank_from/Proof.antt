@@ -11,15 +11,15 @@ use Rattle.record.specs.SilentAerodrome.{is_blank_trend_change}
 use Rattle.record.proofs.aerodrome.Trend.is_blank_from.Statement.{statement}
 use Rattle.record.proofs.aerodrome.Trend.is_blank_from.Tie as tie
 
-abbrev Inv : tie.invariant-loop
+abbrev Inv : tie.invariant-loop-i
 Inv from items i₀ i = every is_blank_trend_change (drop from items) ≡ every is_blank_trend_change (drop i items)
 
-abbrev μ : tie.decreases-loop
+abbrev μ : tie.decreases-loop-i
 μ from items i₀ i = 3 - i
 
 -- the array's length
 slots : (c : tie.Start Inv μ) → length c.args.self.items ≡ 3
-slots c = simp length-map at c.well-formed.0.1.1.0.1.0.1
+slots c = c.well_formed.0.1.1.0.1.0.1
 
 pub is_blank_from_spec : {M : Type 1} → statement M
 is_blank_from_spec =
@@ -30,11 +30,11 @@ is_blank_from_spec =
     (λ c.
     let d = c.before.before.before.before in
     let s = d.before in
-    d.loop.invariant ∙ every-next is_blank_trend_change s.before.args.self.items d.loop.i _ (omega (arith, slots s.before)) (sym c.before.is-blank.ensures ∙ c.if1.true))
+    d.loop-i.invariant ∙ every-next is_blank_trend_change s.args.self.items d.loop-i.i _ (omega (arith, slots s.before)) (sym c.is_blank.ensures ∙ c.if-is_blank.true))
     (λ c.
     let d = c.before.before.before.before in
     let s = d.before in
-    sym (d.loop.invariant ∙ every-stop is_blank_trend_change s.before.args.self.items d.loop.i _ (omega (arith, slots s.before)) (sym c.before.is-blank.ensures ∙ c.if1.false)))
+    sym (d.loop-i.invariant ∙ every-stop is_blank_trend_change s.args.self.items d.loop-i.i _ (omega (arith, slots s.before)) (sym c.is_blank.ensures ∙ c.if-is_blank.false)))
     (λ c.
     let s = c.before.before in
-    sym (c.before.loop.invariant ∙ every-end is_blank_trend_change s.before.args.self.items c.before.loop.i (omega (arith, slots s.before)))))
+    sym (c.loop-i.invariant ∙ every-end is_blank_trend_change s.args.self.items c.loop-i.i (omega (arith, slots s.before)))))

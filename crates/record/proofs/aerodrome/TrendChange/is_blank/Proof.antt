@@ -4,4 +4,4 @@ use Rattle.record.proofs.aerodrome.TrendChange.is_blank.Statement.{statement}
 use Rattle.record.proofs.aerodrome.TrendChange.is_blank.Tie as tie
 
 pub is_blank_spec : {M : Type 1} → statement M
-is_blank_spec = tie.close (tie.spec (λ c κs. tt) (λ c κs. tt) (λ c κs. tt) (λ c. rw (c.is-blank.ensures, c.before.is-none2.ensures, c.before.before.is_none.ensures)))
+is_blank_spec = tie.close (tie.spec (λ c κs. tt) (λ c κs. tt) (λ c κs. tt) (λ c. rw (c.is_blank.ensures, c.is_none-2.ensures, c.is_none.ensures)))

@@ -5,4 +5,4 @@ use Rattle.record.proofs.surface.Synop.is_blank.Statement.{statement}
 use Rattle.record.proofs.surface.Synop.is_blank.Tie as tie
 
 pub is_blank_spec : {M : Type 1} → statement M
-is_blank_spec = tie.close (tie.spec (λ c κs. tt) (λ c κs. tt) (λ c κs. tt) (λ c. unfold is_blank_synop in rw (c.is-blank3.ensures, c.before.is-blank2.ensures, c.before.before.is-blank.ensures)))
+is_blank_spec = tie.close (tie.spec (λ c κs. tt) (λ c κs. tt) (λ c κs. tt) (λ c. unfold is_blank_synop in rw (c.is_blank-3.ensures, c.is_blank-2.ensures, c.is_blank.ensures)))

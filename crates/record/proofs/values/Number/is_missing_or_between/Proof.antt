@@ -5,4 +5,4 @@ use Rattle.record.proofs.values.Number.is_missing_or_between.Statement.{statemen
 use Rattle.record.proofs.values.Number.is_missing_or_between.Tie as tie
 
 pub is_missing_or_between_spec : {M : Type 1} → statement M
-is_missing_or_between_spec = tie.close (tie.spec (λ c. search rules) (λ c. search rules) (λ c. search rules) (λ c. rw c.before.self.given.1))
+is_missing_or_between_spec = tie.close (tie.spec (λ c. search rules) (λ c. search rules) (λ c. search rules) (λ c. rw c.in-Is.is))

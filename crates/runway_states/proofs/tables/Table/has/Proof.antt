@@ -9,7 +9,7 @@ has_spec =
     tie.close
     (tie.spec
     (λ c. search rules) (λ c. search rules) (λ c. search rules) (λ c. search rules)
-    (λ c. rw c.enum_told.given.1)
-    (λ c. rw c.enum-told2.given.1)
-    (λ c. rw c.enum-told3.given.1)
-    (λ c. rw c.enum-told4.given.1))
+    (λ c. rw c.in-Runways.is)
+    (λ c. rw c.in-Deposits.is)
+    (λ c. rw c.in-Extents.is)
+    (λ c. rw c.in-Brakings.is))

@@ -9,4 +9,4 @@ has_optional_spec =
     tie.close
     (tie.spec
     (λ c. search rules) (λ c. search rules) (λ c κs. tt) (λ c. search rules)
-    (λ c. rw (c.has.ensures, c.before.before.n.given.1)))
+    (λ c. rw (c.has.ensures, c.in-Is.is)))

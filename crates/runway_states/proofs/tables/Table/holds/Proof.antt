@@ -9,7 +9,7 @@ holds_spec =
     tie.close
     (tie.spec
     (λ c. search rules) (λ c κs. tt) (λ c. search rules) (λ c. search rules) (λ c. search rules)
-    (λ c. rw (c.has.ensures, c.before.before.f.given.1))
-    (λ c. rw c.enum_told.given.1)
-    (λ c. rw c.enum-told2.given.1)
-    (λ c. rw c.enum-told3.given.1))
+    (λ c. rw (c.has.ensures, c.in-Number.is))
+    (λ c. rw c.in-Missing.is)
+    (λ c. rw c.in-Mixed.is)
+    (λ c. rw c.in-Other.is))
