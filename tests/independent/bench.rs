@@ -14,7 +14,7 @@ mod decoder;
 // The library
 // ---------------------------------------------------------------------------------------------
 
-/// A call of the crate `answers`: the text, whether its record is written, the lent buffer and
+/// A call of the crate `answers_c`: the text, whether its record is written, the lent buffer and
 /// a number. The answer is a refusal and its place, or 0 and the rest's place or the bytes written.
 type Call = unsafe extern "C" fn(*const u8, usize, bool, *mut u8, usize, *mut usize) -> u8;
 
@@ -444,7 +444,7 @@ fn print_stacks(valid: &[Texts]) {
 // Cloud heights
 // ---------------------------------------------------------------------------------------------
 
-/// A call of the crate `answers`: codes of table 1690 and the room for their heights.
+/// A call of the crate `answers_c`: codes of table 1690 and the room for their heights.
 type Heights = unsafe extern "C" fn(*const u32, usize, *mut u32, usize) -> usize;
 
 extern "C" {
