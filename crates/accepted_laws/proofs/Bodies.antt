@@ -1,5 +1,7 @@
 -- The body that is read is judged fine and is its own class but for speeds from P on: wind, visibility or CAVOK, weather or NSW, clouds, wherever a body stands.
 -- Assumes nothing.
+use Rattle.std.specs.Prelude.{⊤, Ok, Result}
+use Rattle.text.specs.declared.kinds.Refusal.{Refusal}
 use Prim.Native.Nat.{ℕ, ◌+◌, ◌≤◌, ◌<◌}
 use native.Mathlib.Omega.{arith}
 use mathlib.Core.Path.{◌≡◌, refl, sym, subst, ◌∙◌}
@@ -9,10 +11,8 @@ use mathlib.Core.List.{List, [], ◌∷◌, ◌++◌}
 use lib.ListN.{length, replicate}
 use lib.Dec.{eqb}
 use borrow.Author.Tests.{lt-ltb, eqb-true, not-true}
-use Rattle.text.specs.declared.kinds.Judged.{Judged}
-use Rattle.text.specs.declared.kinds.Judged.TheVariants as judged
 use Rattle.shapes.proofs.Patterns.{both}
-use Rattle.places.specs.Engine.{Group, Read}
+use Rattle.places.specs.Engine.{Group}
 use Rattle.record.specs.declared.aerodrome.Weather.{Weather}
 use Rattle.record.specs.declared.aerodrome.Weathers.{Weathers}
 use Rattle.record.specs.declared.aerodrome.Body.{Body}
@@ -33,12 +33,12 @@ use Rattle.accepted_laws.proofs.Skies.{SkyHeld, sky-left}
 
 -- ---- wind and visibility, which need not stand everywhere
 
-unless : (x : Bool) {j : Judged} → j ≡ judged.Fine → cond x judged.Fine j ≡ judged.Fine
+unless : (x : Bool) {j : Result ⊤ Refusal} → j ≡ Ok tt → cond x (Ok tt) j ≡ Ok tt
 unless true e = refl
 unless false e = e
 
 module _ (t : Terms) (b : Body) where
-  pub wind-fine : Given (WindRead t.forecast) blank_wind t.required b.wind → wind_judged t b ≡ judged.Fine
+  pub wind-fine : Given (WindRead t.forecast) blank_wind t.required b.wind → wind_judged t b ≡ Ok tt
   wind-fine (inl (free, is)) = rw (free, is)
   wind-fine (inr r) = unless (not t.required && is_blank_wind b.wind) r.fine
 
@@ -46,7 +46,7 @@ module _ (t : Terms) (b : Body) where
   wind-own (inl (free, is)) = rw is
   wind-own (inr r) = r.own
 
-  pub visibility-fine : Given (VisibilityRead t.forecast) blank_visibility t.required b.visibility → visibility_judged t b ≡ judged.Fine
+  pub visibility-fine : Given (VisibilityRead t.forecast) blank_visibility t.required b.visibility → visibility_judged t b ≡ Ok tt
   visibility-fine (inl (free, is)) = rw (free, is)
   visibility-fine (inr r) = unless (not t.required && no_view b.visibility.is) r.fine
 
@@ -66,7 +66,7 @@ weathers-none test = record { count = refl; filled = filled_none test blank_weat
 pub weathers-more : {test : Weather → Type 0} {k : ℕ} {ws : Weathers} → WeathersHeld test k ws → k < 3 → (w : Weather) → test w → WeathersHeld test (k + 1) (with_weather k ws w)
 weathers-more {k = k} h room w p = rw (lt-ltb k 3 room) (record { count = refl; filled = filled_more h.filled w room p })
 
-pub weathers-fine : {one : Weather → Judged} {k : ℕ} {ws : Weathers} → WeathersHeld (λ w. one w ≡ judged.Fine) k ws → judge_weathers one ws ≡ judged.Fine
+pub weathers-fine : {one : Weather → Result ⊤ Refusal} {k : ℕ} {ws : Weathers} → WeathersHeld (λ w. one w ≡ Ok tt) k ws → judge_weathers one ws ≡ Ok tt
 unfolding judge_weathers
 weathers-fine {one} {k} {ws} h =
     rw (h.count, filled-slots h.filled is_blank_weather refl) (filled-fine h.filled one (judge_each one) refl (λ x xs. refl) (λ x p. p))
@@ -86,7 +86,7 @@ none_done ws z f = same ws.items ws.count (f.are ∙ empty f.done f.many) z
 
 pub data WeatherHeld (t : Terms) (cavok : Bool) (k : ℕ) (nsw : Bool) (ws : Weathers) : Type 0 where
   by-nsw : nsw ≡ true → ws ≡ blank_weathers → t.may_nsw ≡ true → cavok ≡ false → 1 ≤ k → WeatherHeld t cavok k nsw ws
-  by-weather : nsw ≡ false → WeathersHeld (λ w. judge_weather t.forecast t.automatic false w ≡ judged.Fine) k ws → (1 ≤ k → cavok ≡ false) → WeatherHeld t cavok k nsw ws
+  by-weather : nsw ≡ false → WeathersHeld (λ w. judge_weather t.forecast t.automatic false w ≡ Ok tt) k ws → (1 ≤ k → cavok ≡ false) → WeatherHeld t cavok k nsw ws
 
 pub no-weather : (t : Terms) (cavok : Bool) → WeatherHeld t cavok 0 false blank_weathers
 no-weather t cavok = by-weather refl (weathers-none _) (λ h. absurd (omega arith))
@@ -105,7 +105,7 @@ module _ (t : Terms) (k : ℕ) (g : Group) (b : Body) (room : k < 3) (h : Weathe
       blank-still z (by-nsw n is m c some) = is
       blank-still z (by-weather n ws c) = none_done b.weathers (ws.count ∙ z) (rw z at ws.filled)
 
-  weather-added : (w : Weather) → judge_weather t.forecast t.automatic false w ≡ judged.Fine → (not cavok && not b.nsw) ≡ true → WeatherHeld t cavok (k + 1) b.nsw (with_weather k b.weathers w)
+  weather-added : (w : Weather) → judge_weather t.forecast t.automatic false w ≡ Ok tt → (not cavok && not b.nsw) ≡ true → WeatherHeld t cavok (k + 1) b.nsw (with_weather k b.weathers w)
   weather-added w fine e = go h
     where
       agrees : (not cavok ≡ true) × (not b.nsw ≡ true)
@@ -122,23 +122,23 @@ module _ (t : Terms) (k : ℕ) (g : Group) (b : Body) (room : k < 3) (h : Weathe
       (λ n. gives_then (beside (read_weather t.forecast t.automatic g) (weather-read t.forecast t.automatic g))
       (λ w p. good (sets b.nsw (with_weather k b.weathers w) (weather-added w p.0 p.1))))
     where
-      beside : {Q : Weather → Type 0} (x : Read Weather) → Gives Q x → Gives (λ w. Q w × ((not cavok && not b.nsw) ≡ true)) (beside_others b x)
+      beside : {Q : Weather → Type 0} (x : Result Weather Refusal) → Gives Q x → Gives (λ w. Q w × ((not cavok && not b.nsw) ≡ true)) (beside_others b x)
       beside _ (good q) = gives-agreeing (not cavok && not b.nsw) (λ e. good (q, e))
       beside _ bad = bad
 
-pub weather-fine : (t : Terms) (b : Body) (k : ℕ) → WeatherHeld t (is_cavok b.visibility) k b.nsw b.weathers → weather_judged t b ≡ judged.Fine
+pub weather-fine : (t : Terms) (b : Body) (k : ℕ) → WeatherHeld t (is_cavok b.visibility) k b.nsw b.weathers → weather_judged t b ≡ Ok tt
 unfolding judge_weathers
 weather-fine t b k (by-nsw n is m c some) = rw (n, m, c, is)
 weather-fine t b k (by-weather n ws c) =
     rw (n, or-false (is_cavok b.visibility), ws.count, filled-slots ws.filled is_blank_weather refl, filled-take ws.filled) (each ws.filled.done ws.filled.many (rw (filled-take ws.filled) at (filled-fine ws.filled one (judge_each one) refl (λ x xs. refl) (λ x p. p))))
   where
-    one : Weather → Judged
+    one : Weather → Result ⊤ Refusal
     one w = judge_weather t.forecast t.automatic false w
 
-    each : (xs : List Weather) → length xs ≡ k → judge_each (judge_weather t.forecast t.automatic false) xs ≡ judged.Fine
-        → judge_each (judge_weather t.forecast t.automatic (is_cavok b.visibility)) xs ≡ judged.Fine
+    each : (xs : List Weather) → length xs ≡ k → judge_each (judge_weather t.forecast t.automatic false) xs ≡ Ok tt
+        → judge_each (judge_weather t.forecast t.automatic (is_cavok b.visibility)) xs ≡ Ok tt
     each [] m j = refl
-    each (x ∷ xs) m j = subst (λ (z : Bool). judge_each (judge_weather t.forecast t.automatic z) (x ∷ xs) ≡ judged.Fine) (sym (c (omega (arith, m)))) j
+    each (x ∷ xs) m j = subst (λ (z : Bool). judge_each (judge_weather t.forecast t.automatic z) (x ∷ xs) ≡ Ok tt) (sym (c (omega (arith, m)))) j
 
 pub weather-slots : {t : Terms} {cavok : Bool} {k : ℕ} {nsw : Bool} {ws : Weathers} → WeatherHeld t cavok k nsw ws → length ws.items ≡ 3
 weather-slots (by-nsw n is m c some) = rw is
@@ -154,7 +154,7 @@ blank-body b w v x s = rw (← w, ← v, ← x.0, ← x.1, ← s)
 -- ---- THE BODY
 
 pub record BodyRead (t : Terms) (b : Body) : Type 0 where
-  pub fine : judge_body t b ≡ judged.Fine
+  pub fine : judge_body t b ≡ Ok tt
   pub own : class_body b ≡ open_body b
   pub arrays : BodyArrays b
 

@@ -1,12 +1,14 @@
 -- Stages of common kinds: a group that stands once and is read into a part of the record, several groups, a word, and places of which nothing is left.
 -- Assumes nothing.
+use Rattle.std.specs.Prelude.{Ok, Result}
+use Rattle.text.specs.declared.kinds.Refusal.{Refusal}
 use Prim.Native.Nat.{ℕ, ◌+◌, ◌≤◌, ◌<◌}
 use native.Mathlib.Omega.{arith}
 use mathlib.Core.Path.{◌≡◌, refl, sym}
 use mathlib.Core.Logic.{◌⊎◌, inl, inr}
 use mathlib.Core.Bool.{Bool, true, false, false≢true}
 use mathlib.Core.List.{List, [], ◌∷◌}
-use Rattle.places.specs.Engine.{Group, Read, Good, Place, then}
+use Rattle.places.specs.Engine.{Group, Place, then}
 use Rattle.accepted_laws.proofs.Gives.{Gives, good, bad, gives_more}
 use Rattle.accepted_laws.proofs.Stages.{Stage, Blank, and_past, Left, Moved, Serves}
 
@@ -16,7 +18,7 @@ abbrev pub ◌&◌ : {A B : Type 0} → A → B → A × B
 a & b = (a, b)
 
 -- what is read is set into the record
-pub gives-onto : {A R : Type 0} {P : R → Type 0} (f : A → R) {x : Read A} → Gives (λ a. P (f a)) x → Gives P (then x (λ a. Good (f a)))
+pub gives-onto : {A R : Type 0} {P : R → Type 0} (f : A → R) {x : Result A Refusal} → Gives (λ a. P (f a)) x → Gives P (then x (λ a. Ok (f a)))
 gives-onto f (good p) = good p
 gives-onto f bad = bad
 
@@ -74,7 +76,7 @@ abbrev pub free : {R : Type 0} → Stage R
 free = record { blank = λ r. Unit {0}; held = λ k r. Unit {0}; past = λ r. Unit {0} }
 
 module _ {R : Type 0} (Z B : R → Type 0) (p : Place R) (ss : List (Stage R)) where
-  moved : (s : Stage R) (k : ℕ) (r : R) {x : Read R} → p.ends ≡ false → Gives (λ r'. B r' × s.held k r' × Blank ss r') x → Gives (Moved Z B s ss p.ends k) x
+  moved : (s : Stage R) (k : ℕ) (r : R) {x : Result R Refusal} → p.ends ≡ false → Gives (λ r'. B r' × s.held k r' × Blank ss r') x → Gives (Moved Z B s ss p.ends k) x
   moved s k r e x = rw e x
 
   pub serves-once : {A : Type 0} (P : A → Type 0) (blank : A) (get : R → A) → p.ends ≡ false

@@ -1,5 +1,7 @@
 -- A list of slots that is filled from the front, one reading after the other: so many are done, of each of which something holds, and the others are blank.
 -- Assumes nothing.
+use Rattle.std.specs.Prelude.{⊤, Ok, Result}
+use Rattle.text.specs.declared.kinds.Refusal.{Refusal}
 use Prim.Native.Nat.{ℕ, zero, suc, ◌+◌, ◌-◌, ◌≤◌, ◌<◌}
 use native.Mathlib.Omega.{arith}
 use mathlib.Core.Path.{◌≡◌, refl, sym, ap, ◌∙◌}
@@ -10,8 +12,6 @@ use lib.Seq.{set_at, take_at, drop_at}
 use lib.Dec.{leb}
 use borrow.Author.Tests.{le-leb}
 use Rattle.figures.specs.Figures.{every}
-use Rattle.text.specs.declared.kinds.Judged.{Judged}
-use Rattle.text.specs.declared.kinds.Judged.TheVariants as judged
 use Rattle.text.specs.Judge.{and_then}
 use Rattle.text.proofs.Judging.{and-then}
 use Rattle.record.specs.Arrays.{Each}
@@ -95,11 +95,11 @@ module _ {A : Type 0} where
     pub filled-slots : (is_blank : A → Bool) → is_blank blank ≡ true → (leb k most && every is_blank (drop k xs)) ≡ true
     filled-slots is_blank b = rw (filled-drop, le-leb k most f.few) (every-blank is_blank blank b (most - k))
 
-    pub filled-fine : (one : A → Judged) (each : List A → Judged) → each [] ≡ judged.Fine → ((x : A) (ys : List A) → each (x ∷ ys) ≡ and_then (one x) (each ys))
-        → ((x : A) → P x → one x ≡ judged.Fine) → each (take k xs) ≡ judged.Fine
+    pub filled-fine : (one : A → Result ⊤ Refusal) (each : List A → Result ⊤ Refusal) → each [] ≡ Ok tt → ((x : A) (ys : List A) → each (x ∷ ys) ≡ and_then (one x) (each ys))
+        → ((x : A) → P x → one x ≡ Ok tt) → each (take k xs) ≡ Ok tt
     filled-fine one each none more fine = rw filled-take (go f.done f.each)
       where
-        go : (ys : List A) → Each P ys → each ys ≡ judged.Fine
+        go : (ys : List A) → Each P ys → each ys ≡ Ok tt
         go [] a = none
         go (y ∷ ys) a = more y ys ∙ rw (fine y a.0) (go ys a.1)
 
@@ -114,12 +114,12 @@ module _ {A : Type 0} where
         ∙ sym (ap (map h) f.are ∙ map-append h f.done (replicate (most - k) blank) ∙ ap (λ (l : List A). map h f.done ++ l) (map-blanks h blank b (most - k)))
 
 -- Items that are judged one after the other, each against those before it, which are kept as `kept` says: one more is judged after them.
-module _ {A : Type 0} (one : List A → A → Judged) (kept : A → A) (each : List A → List A → Judged) (none : (before : List A) → each before [] ≡ judged.Fine)
+module _ {A : Type 0} (one : List A → A → Result ⊤ Refusal) (kept : A → A) (each : List A → List A → Result ⊤ Refusal) (none : (before : List A) → each before [] ≡ Ok tt)
     (more : (before : List A) (x : A) (xs : List A) → each before (x ∷ xs) ≡ and_then (one before x) (each (before ++ (kept x ∷ [])) xs)) where
-  pub judged-snoc : (before xs : List A) (x : A) → each before xs ≡ judged.Fine → one (before ++ map kept xs) x ≡ judged.Fine → each before (xs ++ (x ∷ [])) ≡ judged.Fine
+  pub judged-snoc : (before xs : List A) (x : A) → each before xs ≡ Ok tt → one (before ++ map kept xs) x ≡ Ok tt → each before (xs ++ (x ∷ [])) ≡ Ok tt
   judged-snoc before [] x e fine =
       let all : before ++ [] ≡ before = append-nil before in
-      let here : one before x ≡ judged.Fine = rw all at fine in
+      let here : one before x ≡ Ok tt = rw all at fine in
       more before x [] ∙ rw here (none (before ++ (kept x ∷ [])))
   judged-snoc before (y ∷ xs) x e fine =
       let t = and-then (one before y) (each (before ++ (kept y ∷ [])) xs) (sym (more before y xs) ∙ e) in

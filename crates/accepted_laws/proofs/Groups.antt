@@ -1,5 +1,6 @@
 -- Station, time, runway ranges, temperatures, Q and runway states that are read are judged fine and are their own class.
 -- Assumes nothing.
+use Rattle.std.specs.Prelude.{ℤ, None, Ok, Option, Some}
 use Prim.Native.Nat.{ℕ, ◌+◌, ◌<◌}
 use native.Mathlib.Omega.{arith}
 use mathlib.Core.Path.{◌≡◌, refl, sym, ap, ◌∙◌}
@@ -12,23 +13,16 @@ use Rattle.figures.proofs.Impossible.{impossible}
 use Rattle.figures.specs.declared.kinds.Field.{Field}
 use Rattle.figures.specs.declared.kinds.Field.TheVariants as field
 use Rattle.figures.specs.Figures.{field_at, is_letter}
-use Rattle.text.specs.declared.kinds.Judged.TheVariants as judged
 use Rattle.text.specs.Judge.{judge}
 use Rattle.shapes.specs.declared.kinds.Value.{Value}
 use Rattle.shapes.specs.Pattern.{low, high, fits, has_pattern}
 use Rattle.shapes.proofs.Patterns.{both}
-use Rattle.places.specs.Engine.{Group, Good, then}
-use Rattle.scales.specs.declared.kinds.Tenths.{Tenths}
-use Rattle.scales.specs.declared.kinds.Tenths.TheVariants as tenths
+use Rattle.places.specs.Engine.{Group, then}
 use Rattle.scales.specs.Metres.{range_reading, metres_reading}
 use Rattle.scales.specs.Rounded.{pressure_reading}
 use Rattle.scales.specs.Degrees.{degrees_reading}
 use Rattle.scales.specs.Depth.{depth}
 use Rattle.scales.proofs.DepthLaws.{depth-rounds}
-use Rattle.record.specs.declared.values.Number.{Number}
-use Rattle.record.specs.declared.values.Number.TheVariants as number
-use Rattle.record.specs.declared.values.Tenths.{Tenths as Signed}
-use Rattle.record.specs.declared.values.Tenths.TheVariants as signed
 use Rattle.record.specs.declared.aerodrome.Station.{Station}
 use Rattle.record.specs.declared.aerodrome.Instant.{Instant}
 use Rattle.record.specs.declared.aerodrome.Runway.{Runway}
@@ -59,7 +53,7 @@ use Rattle.accepted_laws.proofs.Filled.{Filled, filled_none, filled_more, filled
 -- ---- STATION AND TIME
 
 pub record StationRead (s : Station) : Type 0 where
-  pub fine : judge_station s ≡ judged.Fine
+  pub fine : judge_station s ≡ Ok tt
   pub four : length s.letters ≡ 4
 
 pub station-read : (g : Group) → has_pattern g station_shape ≡ true → StationRead (station_of g)
@@ -78,7 +72,7 @@ station-read (a ∷ b ∷ c ∷ d ∷ e ∷ g) h =
     absurd (false≢true (both (is_letter d) false (both (is_letter c) _ (both (is_letter b) _ (both (is_letter a) _ h).1).1).1).1)
 
 pub record TimeRead (t : Instant) : Type 0 where
-  pub fine : judge_time t ≡ judged.Fine
+  pub fine : judge_time t ≡ Ok tt
 
 pub time-read : (g : Group) → Gives TimeRead (read_time g)
 unfolding read_time judge_time
@@ -95,7 +89,7 @@ pub record RunwayRead (w : Runway) : Type 0 where
 range-read : (mark f : Value) → Gives (λ n. (metres_fit false n ≡ true) × (class_range n ≡ n)) (read_range mark f)
 range-read mark f =
     gives-may-miss f.field (λ m. gives-provided (eqb mark.which 2) (λ e. good (refl, refl)))
-    (λ n q. gives-used (range_reading (range_of mark.which n)) (λ m e. good (range-low _ m e, ap number.Is (range-own _ m e))))
+    (λ n q. gives-used (range_reading (range_of mark.which n)) (λ m e. good (range-low _ m e, ap Some (range-own _ m e))))
 
 pub runway-read : (g : Group) → Gives RunwayRead (read_runway g)
 unfolding read_runway
@@ -114,7 +108,7 @@ runways-none = record { count = refl; filled = filled_none RunwayRead blank_runw
 pub runways-more : {k : ℕ} {rs : Runways} → RunwaysHeld k rs → k < 4 → (w : Runway) → RunwayRead w → RunwaysHeld (k + 1) (with_runway k rs w)
 runways-more {k} h room w r = rw (lt-ltb k 4 room) (record { count = refl; filled = filled_more h.filled w room r })
 
-pub runways-fine : {k : ℕ} {rs : Runways} → RunwaysHeld k rs → judge_runways rs ≡ judged.Fine
+pub runways-fine : {k : ℕ} {rs : Runways} → RunwaysHeld k rs → judge_runways rs ≡ Ok tt
 unfolding judge_runways
 runways-fine h =
     rw (h.count, filled-slots h.filled is_blank_runway refl)
@@ -125,7 +119,7 @@ runways-own h = rw (filled-own h.filled class_runway (λ x r. rw r.own) refl)
 
 -- ---- TEMPERATURES AND Q
 
-abbrev DegreesRead : Signed → Type 0
+abbrev DegreesRead : Option ℤ → Type 0
 DegreesRead t = (tenths_fit t ≡ true) × (class_tenths t ≡ t)
 
 degrees-read : (mark f : Value) → Gives DegreesRead (read_degrees mark f)
@@ -133,12 +127,12 @@ degrees-read mark f =
     gives-may-miss f.field (λ m. gives-provided (not (eqb mark.which 0)) (λ e. good (refl, refl)))
     (λ n q. whole (eqb mark.which 0) n (degrees_reading (eqb mark.which 0) n) refl)
   where
-    whole : (minus : Bool) (n : ℕ) (x : Tenths) → degrees_reading minus n ≡ x → Gives DegreesRead (degrees_is x)
-    whole minus n (tenths.Is t) e = good (degrees-fit minus n t e, ap signed.Is (degrees-own minus n t e))
-    whole minus n tenths.Unused e = bad
+    whole : (minus : Bool) (n : ℕ) (x : Option ℤ) → degrees_reading minus n ≡ x → Gives DegreesRead (degrees_is x)
+    whole minus n (Some t) e = good (degrees-fit minus n t e, ap Some (degrees-own minus n t e))
+    whole minus n None e = bad
 
 pub record TemperaturesRead (t : Temperatures) : Type 0 where
-  pub fine : judge_temperatures t ≡ judged.Fine
+  pub fine : judge_temperatures t ≡ Ok tt
   pub own : class_temperatures t ≡ t
 
 pub temperatures-read : (g : Group) → Gives TemperaturesRead (read_temperatures g)
@@ -149,7 +143,7 @@ temperatures-read g =
     (λ y q. good (record { fine = rw (p.0, q.0); own = rw (p.1, q.1) })))
 
 pub record QnhRead (q : Qnh) : Type 0 where
-  pub fine : judge_qnh q ≡ judged.Fine
+  pub fine : judge_qnh q ≡ Ok tt
   pub own : class_qnh q ≡ q
 
 pub qnh-read : (g : Group) → Gives QnhRead (read_qnh g)
@@ -214,16 +208,16 @@ states-none = record { many = refl; filled = filled_none StateRead blank_state 4
 
 pub states-set : (k : ℕ) (g : Group) (ss : RunwayStates) → StatesHeld k ss.items ss.count → k < 4 → (P : RunwayStates → Type 0)
     → ((items : List RunwayState) → StatesHeld (k + 1) items (k + 1) → P (record { items = items; count = k + 1; snoclo = ss.snoclo }))
-    → Gives P (then (read_state g) (λ x. Good (with_state k ss x)))
+    → Gives P (then (read_state g) (λ x. Ok (with_state k ss x)))
 states-set k g ss h room P sets =
     gives_then (state-read g) (λ s r. rw (lt-ltb k 4 room) (good (sets _ (record { many = refl; filled = filled_more h.filled s room r }))))
 
 -- SNOCLO stands alone
-pub states-fine : {k : ℕ} {ss : RunwayStates} → StatesHeld k ss.items ss.count → (ss.snoclo ≡ true → ss.count ≡ 0) → judge_states ss ≡ judged.Fine
+pub states-fine : {k : ℕ} {ss : RunwayStates} → StatesHeld k ss.items ss.count → (ss.snoclo ≡ true → ss.count ≡ 0) → judge_states ss ≡ Ok tt
 unfolding judge_states
 states-fine {k} {ss} h alone = rw (h.many, filled-slots h.filled is_blank_state refl) (each ss.snoclo refl)
   where
-    each : (b : Bool) → ss.snoclo ≡ b → judge_each_state ss.snoclo (take k ss.items) ≡ judged.Fine
+    each : (b : Bool) → ss.snoclo ≡ b → judge_each_state ss.snoclo (take k ss.items) ≡ Ok tt
     each true e = let none : k ≡ 0 = sym h.many ∙ alone e in rw none
     each false e =
         rw e (filled-fine h.filled (λ s. judge (state_fits s) true) (judge_each_state false) refl (λ x xs. refl) (λ x r. rw r.fits))

@@ -1,5 +1,7 @@
 -- A METAR or SPECI that is read is judged fine, and is its own class but for speeds from P on: its observation, NIL, and its trend.
 -- Assumes nothing.
+use Rattle.std.specs.Prelude.{⊤, Ok, Option, Result}
+use Rattle.text.specs.declared.kinds.Refusal.{Refusal}
 use Prim.Native.Nat.{ℕ}
 use native.Mathlib.Omega.{arith}
 use mathlib.Core.Path.{◌≡◌, refl, sym, ap, ◌∙◌}
@@ -11,9 +13,6 @@ use lib.Dec.{ltb, eqb}
 use borrow.Author.Tests.{ltb-false, eqb-true}
 use Rattle.figures.specs.Quote.{bytes}
 use Rattle.text.specs.declared.kinds.Refusal.TheVariants as refusal
-use Rattle.text.specs.declared.kinds.Judged.{Judged}
-use Rattle.text.specs.declared.kinds.Judged.TheVariants as judged
-use Rattle.text.specs.declared.kinds.Tail.{Tail}
 use Rattle.text.specs.Judge.{judge, and_then}
 use Rattle.text.specs.Groups.{Piece}
 use Rattle.shapes.specs.Pattern.{has_pattern, has_any}
@@ -66,7 +65,7 @@ use Rattle.accepted_laws.proofs.Trends as trend
 
 -- recent weather, UP under AUTO alone
 abbrev RecentsHeld : ℕ → Observation → Type 0
-RecentsHeld k r = WeathersHeld (λ w. judge_recent r.automatic w ≡ judged.Fine) k r.recents
+RecentsHeld k r = WeathersHeld (λ w. judge_recent r.automatic w ≡ Ok tt) k r.recents
 
 -- SNOCLO where no state stands
 abbrev Alone : RunwayStates → Type 0
@@ -179,7 +178,7 @@ begins-at = (tt, tt, tt & refl & refl & refl & refl & refl & refl & refl & refl 
 
 -- ---- THE OBSERVATION
 
-variation-fine : (v : Variation) → Given VariationRead blank_observation.variation false v → judge_variation v ≡ judged.Fine
+variation-fine : (v : Variation) → Given VariationRead blank_observation.variation false v → judge_variation v ≡ Ok tt
 unfolding judge_variation
 variation-fine v (inl (free, is)) = rw is
 variation-fine v (inr r) = r.fine
@@ -199,9 +198,9 @@ observation-own o b v r t q s =
     made b v r t q s = set_body b (set_variation v (set_runways r (set_temperatures t (set_qnh q (set_states s o)))))
 
 pub record ObservationRead (o : Observation) : Type 0 where
-  pub head : judge_head o ≡ judged.Fine
+  pub head : judge_head o ≡ Ok tt
   pub nil : o.nil ≡ false
-  pub fine : judge_observation o ≡ judged.Fine
+  pub fine : judge_observation o ≡ Ok tt
   pub own : class_observation o ≡ set_body (open_body o.body) o
   pub arrays : ObservationArrays o
 
@@ -250,12 +249,12 @@ record Whole (m : Metar) : Type 0 where
   trend : trend.TrendHeld m.trend
 
 pub record MetarRead (m : Metar) : Type 0 where
-  pub fine : judge_of m ≡ judged.Fine
+  pub fine : judge_of m ≡ Ok tt
   pub own : classed_of m ≡ open_metar m
   pub arrays : MetarArrays m
 
-whole-fine : (nil blank : Bool) (h o t : Judged) → nil ≡ false → h ≡ judged.Fine → o ≡ judged.Fine → t ≡ judged.Fine
-    → and_then (judge (not nil || blank) true) (and_then h (cond nil judged.Fine (and_then o t))) ≡ judged.Fine
+whole-fine : (nil blank : Bool) (h o t : Result ⊤ Refusal) → nil ≡ false → h ≡ Ok tt → o ≡ Ok tt → t ≡ Ok tt
+    → and_then (judge (not nil || blank) true) (and_then h (cond nil (Ok tt) (and_then o t))) ≡ Ok tt
 whole-fine nil blank h o t n a b c = rw (n, a, b, c)
 
 whole-read : (m : Metar) → Whole m → MetarRead m
@@ -353,7 +352,7 @@ main-leaves =
     }
 
 -- WHATEVER METAR OR SPECI IS ACCEPTED IS JUDGED FINE, AND COMES BACK WITH ITS SPEEDS OPENED.
-pub metar-read : (tail : Tail) (end : ℕ) (gs : List Piece) → Comes MetarRead (groups_read tail end gs)
+pub metar-read : (tail : Option ℕ) (end : ℕ) (gs : List Piece) → Comes MetarRead (groups_read tail end gs)
 unfolding groups_read
 metar-read tail end gs =
     report-leaves Whole MetarRead Opened tail end parts whole-read part-leaves (λ m w c g o e. absurd (false≢true e)) 3 main_part blank_observation main-leaves gs

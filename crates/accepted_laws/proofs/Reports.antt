@@ -1,5 +1,6 @@
 -- What the reading of a report of parts leaves at its end: whatever is accepted, all places of each row are left behind, or the report has ended.
 -- Assumes nothing.
+use Rattle.std.specs.Prelude.{None, Option, Result, Some}
 use Prim.Native.Nat.{ℕ, zero, suc}
 use mathlib.Core.Path.{◌≡◌, refl}
 use mathlib.Core.Bool.{Bool, true, false}
@@ -7,13 +8,11 @@ use mathlib.Core.List.{List, [], ◌∷◌}
 use lib.ListN.{drop}
 use Rattle.figures.proofs.Impossible.{impossible}
 use Rattle.text.specs.declared.kinds.Refusal.{Refusal}
-use Rattle.text.specs.declared.kinds.Tail.{Tail}
-use Rattle.text.specs.declared.kinds.Tail.TheVariants.{Clear, Junk}
 use Rattle.text.specs.Groups.{Piece}
 use Rattle.shapes.proofs.Patterns.{both_false}
 use Rattle.places.specs.Seek.{owed}
-use Rattle.places.specs.Engine.{Group, Read, musts_of, Outcome, Done, Fault, finish}
-use Rattle.places.specs.Parts.{Begun, Word, Ends, Opens, Bars, Part, Parts, Further, turned, ended, unless, owes, part_exits, part_from, after_first, begins as begins-part, opened, further, report_of}
+use Rattle.places.specs.Engine.{Group, musts_of, Outcome, Done, Fault, finish}
+use Rattle.places.specs.Parts.{Begun, Word, Ends, Opens, Bars, Part, Parts, Further, turned, ended, unless, owes, part_exits, part_from, after_first, begins as begins-part, further, report_of}
 use Rattle.accepted_laws.proofs.Gives.{Gives, good, bad}
 use Rattle.accepted_laws.proofs.Stages.{Stage, Left, ServesRow, StandsAt, left_at, Reached, within, ended as over-there, runs_to}
 
@@ -31,9 +30,9 @@ module _ {T : Type 0} (Q : T → Type 0) where
   finished true at t q = fault
   finished false at t q = done (q refl)
 
-  at-end : (tail : Tail) (end : ℕ) (owes : Bool) (t : T) → (owes ≡ false → Q t) → Comes Q (ended tail end owes t)
-  at-end (Junk at) end owes t q = fault
-  at-end Clear end owes t q = finished owes end t q
+  at-end : (tail : Option ℕ) (end : ℕ) (owes : Bool) (t : T) → (owes ≡ false → Q t) → Comes Q (ended tail end owes t)
+  at-end (Some at) end owes t q = fault
+  at-end None end owes t q = finished owes end t q
 
   at-word : (owes : Bool) (at : ℕ) {o : Outcome T} → (owes ≡ false → Comes Q o) → Comes Q (unless owes at o)
   at-word true at q = fault
@@ -47,7 +46,7 @@ module _ {T P W : Type 0} (F G : T → Type 0) (O : T → W → P → Type 0) wh
   pub data Turns (t : T) : Word W P → Type 0 where
     ends : Turns t Ends
     bars : {f : Refusal} → Turns t (Bars f)
-    opens : {x : Read (Begun W P)} → Gives (λ b. O t b.kind b.start) x → Turns t (Opens x)
+    opens : {x : Result (Begun W P) Refusal} → Gives (λ b. O t b.kind b.start) x → Turns t (Opens x)
 
   -- a part leaves what the report needs of it
   pub record Leaves {R : Type 0} (part : Part T P W R) (start : R) : Type 1 where
@@ -60,11 +59,11 @@ module _ {T P W : Type 0} (F G : T → Type 0) (O : T → W → P → Type 0) wh
     pub ended : (r : R) → over r → G (part.takes r)
     pub word : (t : T) (g : Group) → F t → part.halts g ≡ true → Turns t (part.word t g)
 
-  module _ (tail : Tail) (end : ℕ) (parts : Parts T P W) (full : (t : T) → F t → G t)
+  module _ (tail : Option ℕ) (end : ℕ) (parts : Parts T P W) (full : (t : T) → F t → G t)
       (leaves : (t : T) (w : W) (p : P) → F t → O t w p → Leaves (parts.part t w) p)
       (joins : (t : T) (w : W) (p : P) (g : Group) → O t w p → parts.joins w g ≡ true → O t (parts.joined w) p) where
     abbrev Goes_on : Further T P W → Type 0
-    Goes_on f = (t : T) (g : Piece) (x : Read (Begun W P)) (gs : List Piece) → F t → Gives (λ b. O t b.kind b.start) x → Comes G (f t g x gs)
+    Goes_on f = (t : T) (g : Piece) (x : Result (Begun W P) Refusal) (gs : List Piece) → F t → Gives (λ b. O t b.kind b.start) x → Comes G (f t g x gs)
 
     turned-comes : (f : Further T P W) → Goes_on f → (t : T) (g : Piece) (gs : List Piece) (x : Word W P) → F t → Turns t x → Comes G (turned f t g gs x)
     turned-comes f on t g gs _ h ends = done (full t h)

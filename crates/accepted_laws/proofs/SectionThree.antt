@@ -1,6 +1,8 @@
 -- Section 3 that is read is judged fine and is its own class: the maximum, the minimum, and layers that are counted and do not fall within a scale. 8//// is
 -- read as no layer, and 333 with no group as a section that is blank.
 -- Assumes nothing.
+use Rattle.std.specs.Prelude.{⊤, Ok, Result}
+use Rattle.text.specs.declared.kinds.Refusal.{Refusal}
 use Prim.Native.Nat.{◌+◌}
 use mathlib.Core.Path.{◌≡◌, refl}
 use mathlib.Core.Bool.{Bool, true, false, cond}
@@ -10,8 +12,6 @@ use lib.Dec.{leb, ltb}
 use borrow.Author.Tests.{ltb-true}
 use Rattle.figures.specs.Quote.{bytes}
 use Rattle.text.specs.declared.kinds.Refusal.TheVariants as refusal
-use Rattle.text.specs.declared.kinds.Judged.{Judged}
-use Rattle.text.specs.declared.kinds.Judged.TheVariants as judged
 use Rattle.text.specs.Judge.{judge}
 use Rattle.shapes.specs.Pattern.{has_pattern}
 use Rattle.places.specs.Engine.{Group}
@@ -40,14 +40,14 @@ use Rattle.accepted_laws.proofs.Surfaces.{air-told, LayerRead, layer-told}
 
 pub record LayersHeld (ls : CloudLayers) : Type 0 where
   pub filled : Filled LayerRead blank_layer 4 ls.count ls.items
-  pub each : judge_each [] filled.done ≡ judged.Fine
+  pub each : judge_each [] filled.done ≡ Ok tt
 
 layers-none : LayersHeld blank_layers
 unfolding filled_none
 layers-none = record { filled = filled_none LayerRead blank_layer 4; each = refl }
 
 -- a layer after those before it
-abbrev judge_layer : List CloudLayer → CloudLayer → Judged
+abbrev judge_layer : List CloudLayer → CloudLayer → Result ⊤ Refusal
 judge_layer before l = judge (layer_fits l) (rises before l)
 
 layer-added : (ls : CloudLayers) (l : CloudLayer) → LayersHeld ls → LayerRead l → rises (take ls.count ls.items) l ≡ true → LayersHeld (add_layer l ls)
@@ -57,7 +57,7 @@ layer-added ls l h r up = go (ltb ls.count 4) refl
     same : map (λ (x : CloudLayer). x) h.filled.done ≡ h.filled.done
     same = map_same LayerRead (λ x. x) (λ x y. refl) h.filled.done h.filled.each
 
-    after : judge_layer (map (λ (x : CloudLayer). x) h.filled.done) l ≡ judged.Fine
+    after : judge_layer (map (λ (x : CloudLayer). x) h.filled.done) l ≡ Ok tt
     after = rw (same, r.fits, rw (filled-take h.filled) at up)
 
     go : (b : Bool) → ltb ls.count 4 ≡ b → LayersHeld (cond b (record { items = set ls.items ls.count l; count = ls.count + 1 }) ls)
@@ -93,7 +93,7 @@ layer-gives J g s has h same sets = some (has_pattern g (bytes "8////")) refl
     some true e = good same
     some false e = counts (leb 4 s.layers.count) e
 
-layers-fine : (ls : CloudLayers) → LayersHeld ls → judge_layers ls ≡ judged.Fine
+layers-fine : (ls : CloudLayers) → LayersHeld ls → judge_layers ls ≡ Ok tt
 unfolding judge_layers
 layers-fine ls h = rw (filled-slots h.filled is_blank_layer refl, filled-take h.filled, h.each)
 
@@ -103,7 +103,7 @@ layers-own ls h = rw (filled-read h.filled class_layer class_layer (λ x r. refl
 -- ---- THE SECTION
 
 abbrev pub stages : List (Stage Section3)
-stages = kept (λ s. judge_air s.maximum ≡ judged.Fine) ∷ kept (λ s. judge_air s.minimum ≡ judged.Fine) ∷ kept (λ s. LayersHeld s.layers) ∷ []
+stages = kept (λ s. judge_air s.maximum ≡ Ok tt) ∷ kept (λ s. judge_air s.minimum ≡ Ok tt) ∷ kept (λ s. LayersHeld s.layers) ∷ []
 
 abbrev pub start : Section3 → Type 0
 start s = Unit {0}
@@ -124,11 +124,11 @@ unfolding judge_air
 begins-blank = (tt, refl, refl & layers-none & tt)
 
 pub record SectionThreeRead (s : Section3) : Type 0 where
-  pub fine : judge_section3 s ≡ judged.Fine
+  pub fine : judge_section3 s ≡ Ok tt
   pub own : class_section3 s ≡ s
   pub four : length s.layers.items ≡ 4
 
-section-held : (s : Section3) → judge_air s.maximum ≡ judged.Fine → judge_air s.minimum ≡ judged.Fine → LayersHeld s.layers → SectionThreeRead s
+section-held : (s : Section3) → judge_air s.maximum ≡ Ok tt → judge_air s.minimum ≡ Ok tt → LayersHeld s.layers → SectionThreeRead s
 unfolding judge_section3
 section-held s a b h =
     record { fine = rw (a, b, layers-fine s.layers h); own = rw (layers-own s.layers h); four = filled-length h.filled }

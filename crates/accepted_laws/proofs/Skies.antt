@@ -1,5 +1,7 @@
 -- Clouds that are read are judged fine and are their own class: layers that rise, or what stands alone.
 -- Assumes nothing.
+use Rattle.std.specs.Prelude.{⊤, Ok, Option, Result, Some}
+use Rattle.text.specs.declared.kinds.Refusal.{Refusal}
 use Prim.Native.Nat.{ℕ, ◌+◌, ◌-◌, ◌≤◌, ◌<◌}
 use native.Mathlib.Omega.{arith}
 use mathlib.Core.Path.{◌≡◌, refl, sym, ap, subst, ◌∙◌}
@@ -11,8 +13,6 @@ use borrow.Author.Tests.{lt-ltb, eqb-true, not-true}
 use Rattle.figures.specs.Quote.{bytes}
 use Rattle.figures.specs.declared.kinds.Field.{Field}
 use Rattle.figures.specs.Figures.{field_at}
-use Rattle.text.specs.declared.kinds.Judged.{Judged}
-use Rattle.text.specs.declared.kinds.Judged.TheVariants as judged
 use Rattle.text.specs.Judge.{judge}
 use Rattle.shapes.specs.Pattern.{has_pattern}
 use Rattle.shapes.specs.Shape.{has_shape}
@@ -20,8 +20,6 @@ use Rattle.shapes.proofs.Patterns.{both}
 use Rattle.places.specs.Engine.{Group}
 use Rattle.scales.specs.Metres.{cloud, metres_reading}
 use Rattle.scales.proofs.MetresRounds.{cloud-rounds}
-use Rattle.record.specs.declared.values.Number.{Number}
-use Rattle.record.specs.declared.values.Number.TheVariants as number
 use Rattle.record.specs.declared.aerodrome.Amount.TheVariants as amount
 use Rattle.record.specs.declared.aerodrome.Layer.{Layer}
 use Rattle.record.specs.declared.aerodrome.Cover.{Cover}
@@ -38,13 +36,13 @@ use Rattle.accepted_laws.proofs.Filled.{Filled, filled_none, filled_more, filled
 
 -- ---- a height, a layer, what stands alone
 
-abbrev HeightRead : Bool → Number → Type 0
+abbrev HeightRead : Bool → Option ℕ → Type 0
 HeightRead forecast h = (metres_fit forecast h ≡ true) × (written_height h ≡ h)
 
 height-read : (forecast : Bool) (f : Field) → Gives (HeightRead forecast) (height_of forecast f)
 height-read forecast f =
     gives-may-miss f (λ m. gives-provided (not forecast) (λ e. good (e, refl)))
-    (λ n q. gives-used (metres_reading cloud n) (λ m e. good (metres-low cloud cloud-rounds n m e, ap number.Is (metres-own cloud cloud-rounds n m e))))
+    (λ n q. gives-used (metres_reading cloud n) (λ m e. good (metres-low cloud cloud-rounds n m e, ap Some (metres-own cloud cloud-rounds n m e))))
 
 pub record LayerRead (forecast : Bool) (l : Layer) : Type 0 where
   pub fits : (has_amount l.amount && metres_fit forecast l.height) ≡ true
@@ -78,13 +76,13 @@ alone-read forecast g =
     (λ c. gives_then (height-read forecast (field_at g 2 3)) (λ h r. good (record { alone = refl; fits = r.0; own = ap cover.Vertical r.1 })))))
 
 -- a layer after those before it
-abbrev judge_layer : Bool → List Layer → Layer → Judged
+abbrev judge_layer : Bool → List Layer → Layer → Result ⊤ Refusal
 judge_layer forecast before l = judge (has_amount l.amount && metres_fit forecast l.height) (rises before (written_height l.height))
 
 -- ---- THE CLOUDS, where k groups stand
 
 pub data SkyHeld (forecast cavok : Bool) (k : ℕ) (s : Sky) : Type 0 where
-  by-layers : s.cover ≡ cover.Layers → s.count ≡ k → (f : Filled (LayerRead forecast) blank_layer 4 k s.layers) → judge_layers forecast false [] f.done ≡ judged.Fine
+  by-layers : s.cover ≡ cover.Layers → s.count ≡ k → (f : Filled (LayerRead forecast) blank_layer 4 k s.layers) → judge_layers forecast false [] f.done ≡ Ok tt
       → (1 ≤ k → cavok ≡ false) → SkyHeld forecast cavok k s
   by-cover : AloneRead forecast s.cover → s.count ≡ 0 → s.layers ≡ replicate 4 blank_layer → 1 ≤ k → cavok ≡ false → SkyHeld forecast cavok k s
 
@@ -130,7 +128,7 @@ module _ (forecast cavok : Bool) (k : ℕ) (s : Sky) (room : k < 4) where
       (λ l. gives_then (alone-read forecast g) (λ c r. gives-agreeing (alone_agrees cavok k) (λ e. good (cover-set h c r e))))
 
 pub record SkyRead (forecast cavok : Bool) (s : Sky) : Type 0 where
-  pub fine : judge_sky forecast cavok s ≡ judged.Fine
+  pub fine : judge_sky forecast cavok s ≡ Ok tt
   pub own : class_sky s ≡ s
   pub slots : length s.layers ≡ 4
 
@@ -143,12 +141,12 @@ sky-left forecast cavok k s (by-layers is n f j b) =
       slots = filled-length f;
     }
   where
-    each : (k : ℕ) → (1 ≤ k → cavok ≡ false) → (f : Filled (LayerRead forecast) blank_layer 4 k s.layers) → judge_layers forecast false [] f.done ≡ judged.Fine
-        → judge_layers forecast (cavok || false) [] f.done ≡ judged.Fine
+    each : (k : ℕ) → (1 ≤ k → cavok ≡ false) → (f : Filled (LayerRead forecast) blank_layer 4 k s.layers) → judge_layers forecast false [] f.done ≡ Ok tt
+        → judge_layers forecast (cavok || false) [] f.done ≡ Ok tt
     each k b f j = go f.done f.many j
       where
-        go : (xs : List Layer) → length xs ≡ k → judge_layers forecast false [] xs ≡ judged.Fine → judge_layers forecast (cavok || false) [] xs ≡ judged.Fine
+        go : (xs : List Layer) → length xs ≡ k → judge_layers forecast false [] xs ≡ Ok tt → judge_layers forecast (cavok || false) [] xs ≡ Ok tt
         go [] m j = refl
-        go (x ∷ xs) m j = subst (λ (z : Bool). judge_layers forecast (z || false) [] (x ∷ xs) ≡ judged.Fine) (sym (b (omega (arith, m)))) j
+        go (x ∷ xs) m j = subst (λ (z : Bool). judge_layers forecast (z || false) [] (x ∷ xs) ≡ Ok tt) (sym (b (omega (arith, m)))) j
 sky-left forecast cavok k s (by-cover a n b h c) =
     record { fine = rw (n, b, a.fits, c); own = rw (a.own, b); slots = ap length b }

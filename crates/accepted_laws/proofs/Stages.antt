@@ -2,6 +2,7 @@
 -- it is what so many groups said, and at the places to come it is blank. So at the end it is what all places have to leave, or what a place at which the
 -- report ends has to.
 -- Assumes nothing.
+use Rattle.std.specs.Prelude.{Result}
 use Prim.Native.Nat.{ℕ, zero, suc, ◌+◌, ◌≤◌, ◌<◌}
 use native.Mathlib.Omega.{arith}
 use mathlib.Core.Path.{◌≡◌, refl, sym, ◌∙◌}
@@ -19,7 +20,7 @@ use Rattle.shapes.proofs.Patterns.{both_false}
 use Rattle.places.specs.declared.kinds.Found.{Found}
 use Rattle.places.specs.declared.kinds.Found.TheVariants.{Take, Skips, Full, Earlier, Unknown}
 use Rattle.places.specs.Seek.{Stand, seek, anywhere, or_earlier, find_of, owed}
-use Rattle.places.specs.Engine.{Group, Read, Place, place_at, onward, stands_of, musts_of, taken, judged, Step, On, Halt, Stop}
+use Rattle.places.specs.Engine.{Group, Place, place_at, onward, stands_of, musts_of, taken, judged, Step, On, Halt, Stop}
 use Rattle.places.specs.Parts.{Exits, carry_to, run_to}
 use Rattle.accepted_laws.proofs.Gives.{Gives, good, bad, gives_more}
 
@@ -100,7 +101,7 @@ module _ {R : Type 0} where
       is : j ≡ i + off
       gives : Gives (Taken B ps ss off (n + 1)) ((place_at ps off).read n g r)
 
-    here : (B : R → Type 0) (p : Place R) (ps : List (Place R)) (s : Stage R) (ss : List (Stage R)) (n : ℕ) {x : Read R} (e : Bool) → p.ends ≡ e
+    here : (B : R → Type 0) (p : Place R) (ps : List (Place R)) (s : Stage R) (ss : List (Stage R)) (n : ℕ) {x : Result R Refusal} (e : Bool) → p.ends ≡ e
         → Gives (Moved B s ss e n) x → Gives (Taken B (p ∷ ps) (s ∷ ss) 0 n) x
     here B p ps s ss n true e x = gives_more x (λ r z. inl (e, z))
     here B p ps s ss n false e x = gives_more x (λ r z. inr (e, z))
@@ -194,7 +195,7 @@ module _ {R : Type 0} where
       Goes Halt = ⊥
       Goes (Stop f) = Unit {0}
 
-      taken-goes : (i n : ℕ) (x : Read R) → Gives (Taken B row ss i n) x → Goes (taken (onward row i) n x)
+      taken-goes : (i n : ℕ) (x : Result R Refusal) → Gives (Taken B row ss i n) x → Goes (taken (onward row i) n x)
       taken-goes i n _ bad = tt
       taken-goes i n _ (good {a} (inl (e, z))) = rw e (ended (omega arith) z)
       taken-goes i n _ (good {a} (inr (e, st))) = rw e (within st)

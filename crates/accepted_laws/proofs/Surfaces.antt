@@ -1,5 +1,6 @@
 -- The groups of a SYNOP or SHIP that are read are judged fine and are their own class.
 -- Assumes nothing.
+use Rattle.std.specs.Prelude.{None, Ok, Option, Some}
 use Prim.Native.Nat.{ℕ, zero, suc, ◌+◌, ◌/◌, ◌%◌, ◌≤◌, ◌<◌}
 use native.Mathlib.Omega.{arith}
 use native.Mathlib.Nat.{mod-lt}
@@ -16,14 +17,11 @@ use Rattle.figures.specs.Quote.{bytes}
 use Rattle.figures.specs.Figures.{field_at, is_slash, every}
 use Rattle.figures.specs.Signed.{negative, with_sign}
 use Rattle.figures.proofs.Signs.{magnitude-back, sign-back}
-use Rattle.text.specs.declared.kinds.Judged.TheVariants as judged
 use Rattle.text.specs.Judge.{judge}
 use Rattle.text.proofs.Judging.{fine}
 use Rattle.shapes.specs.Pattern.{low, high, fits, has_pattern}
 use Rattle.shapes.proofs.Patterns.{both, both_false, pattern-length}
 use Rattle.places.specs.Engine.{Group}
-use Rattle.scales.specs.declared.kinds.Figure.TheVariants as figure
-use Rattle.scales.specs.declared.kinds.Tenths.TheVariants as tenths
 use Rattle.scales.specs.declared.kinds.Rain.{Rain}
 use Rattle.scales.specs.declared.kinds.Rain.TheVariants as rain
 use Rattle.scales.specs.Metres.{land, sea, base, metres_reading}
@@ -33,35 +31,23 @@ use Rattle.scales.specs.Layers.{layer_steps, layer_bands}
 use Rattle.scales.proofs.MetresRounds.{land-rounds, sea-rounds, base-rounds}
 use Rattle.scales.proofs.LayersLaws.{steps-rounds, bands-rounds}
 use Rattle.scales.proofs.RainLaws.{rain-rounds}
-use Rattle.record.specs.declared.values.Number.{Number}
-use Rattle.record.specs.declared.values.Number.TheVariants as number
-use Rattle.record.specs.declared.values.Tenths.TheVariants as signed
 use Rattle.record.specs.declared.values.Direction.{Direction}
 use Rattle.record.specs.declared.values.Direction.TheVariants as direction
 use Rattle.record.specs.declared.values.Speed.{Speed}
 use Rattle.record.specs.declared.values.Speed.TheVariants as speed
 use Rattle.record.specs.declared.surface.Position.{Position}
-use Rattle.record.specs.declared.surface.Time.{Time}
 use Rattle.record.specs.declared.surface.Sight.{Sight}
 use Rattle.record.specs.declared.surface.Sight.TheVariants as sight
 use Rattle.record.specs.declared.surface.Indicators.{Indicators}
 use Rattle.record.specs.declared.surface.Wind.{Wind}
-use Rattle.record.specs.declared.surface.Air.{Air}
-use Rattle.record.specs.declared.surface.Moisture.{Moisture}
-use Rattle.record.specs.declared.surface.Pressure.{Pressure}
-use Rattle.record.specs.declared.surface.Level.{Level}
-use Rattle.record.specs.declared.surface.Tendency.{Tendency}
 use Rattle.record.specs.declared.surface.Rainfall.{Rainfall}
-use Rattle.record.specs.declared.surface.Fall.TheVariants as fall
-use Rattle.record.specs.declared.surface.Weather.{Weather}
-use Rattle.record.specs.declared.surface.Clouds.{Clouds}
-use Rattle.record.specs.declared.surface.Clock.{Clock}
 use Rattle.record.specs.declared.surface.BaseHeight.{BaseHeight}
 use Rattle.record.specs.declared.surface.BaseHeight.TheVariants as height
 use Rattle.record.specs.declared.surface.CloudLayer.{CloudLayer}
-use Rattle.record.specs.Missing.{is_missing, between, present, optional}
+use Rattle.record.specs.Missing.{is_missing, between, optional}
 use Rattle.record.specs.SilentSurface.{no_height, is_blank_layer}
 use Rattle.record.specs.Classes.{class_direction}
+use Rattle.record.specs.Values.{fall_of}
 use Rattle.synop_groups.specs.declared.kinds.Said.{Said}
 use Rattle.synop_groups.specs.declared.kinds.Said.TheVariants as said
 use Rattle.synop_groups.specs.Position.{is_quadrant, is_south, is_west, latitude_of, longitude_of}
@@ -78,7 +64,7 @@ from_zero n = le-leb 0 n (omega arith)
 
 -- ---- time, station, position
 
-pub time-told : (g : Group) → Tells said.Time (λ t. judge_time t ≡ judged.Fine) (said_time g)
+pub time-told : (g : Group) → Tells said.Time (λ t. judge_time t ≡ Ok tt) (said_time g)
 unfolding said_time time_of judge_time
 time-told g =
     tells-figured (field_at g 0 2)
@@ -87,13 +73,13 @@ time-told g =
     (λ w c. tells-cond (leb 1 d && leb d 31 && leb h 23 && is_unit w) (λ e. told (fits d h w e)) (λ e. refused))))
   where
     fits : (d h w : ℕ) → (leb 1 d && leb d 31 && leb h 23 && is_unit w) ≡ true
-        → judge ((leb 1 d && leb d 31) && (leb 0 h && leb h 23) && is_unit w) true ≡ judged.Fine
+        → judge ((leb 1 d && leb d 31) && (leb 0 h && leb h 23) && is_unit w) true ≡ Ok tt
     fits d h w e =
         let unit = both (leb 1 d && leb d 31 && leb h 23) (is_unit w) e in
         let hour = both (leb 1 d && leb d 31) (leb h 23) unit.0 in
         rw (hour.0, from_zero h, hour.1, unit.1)
 
-pub station-told : (g : Group) → Tells said.Station (λ n. judge_station (number.Is n) ≡ judged.Fine) (said_station g)
+pub station-told : (g : Group) → Tells said.Station (λ n. judge_station (Some n) ≡ Ok tt) (said_station g)
 unfolding said_station judge_station
 station-told g = tells-figured (field_at g 0 5) (λ n e. told (rw (from_zero n, le-leb n 99999 (omega (arith, field_bound g 0 5 n e)))))
 
@@ -101,19 +87,19 @@ pub latitude-told : (g : Group) → Tells said.Position (λ p. Unit {0}) (said_l
 unfolding said_latitude latitude_is
 latitude-told g = tells-figured (field_at g 2 3) (λ m e. tells-cond (leb m 900) (λ h. told tt) (λ h. refused))
 
-west-fits : (west : Bool) (m : ℕ) → m ≤ 1800 → longitude_fits (signed.Is (with_sign (west && not (eqb m 1800)) m)) ≡ true
+west-fits : (west : Bool) (m : ℕ) → m ≤ 1800 → longitude_fits (Some (with_sign (west && not (eqb m 1800)) m)) ≡ true
 west-fits false m h = le-leb m 1800 h
 west-fits true m h = go (eqb m 1800) refl
   where
-    cold : (m : ℕ) → m ≤ 1799 → longitude_fits (signed.Is (with_sign true m)) ≡ true
+    cold : (m : ℕ) → m ≤ 1799 → longitude_fits (Some (with_sign true m)) ≡ true
     cold zero h = refl
     cold (suc m) h = rw (le-leb m 1798 (omega (arith, h)))
 
-    go : (b : Bool) → eqb m 1800 ≡ b → longitude_fits (signed.Is (with_sign (true && not b) m)) ≡ true
+    go : (b : Bool) → eqb m 1800 ≡ b → longitude_fits (Some (with_sign (true && not b) m)) ≡ true
     go true e = le-leb m 1800 h
     go false e = cold m (omega (arith, h, eqb-false m 1800 e))
 
-pub longitude-told : (p : Position) (g : Group) → Tells said.Position (λ q. judge_position q ≡ judged.Fine) (said_longitude p g)
+pub longitude-told : (p : Position) (g : Group) → Tells said.Position (λ q. judge_position q ≡ Ok tt) (said_longitude p g)
 unfolding said_longitude position_of judge_position
 longitude-told p g =
     tells-figured (field_at g 0 1)
@@ -121,7 +107,7 @@ longitude-told p g =
     (λ m b. tells-cond (leb (read_latitude p.latitude) 900 && leb m 1800 && is_quadrant q) (λ e. told (fits q m e)) (λ e. refused)))
   where
     fits : (q m : ℕ) → (leb (read_latitude p.latitude) 900 && leb m 1800 && is_quadrant q) ≡ true
-        → judge (latitude_fits (signed.Is (latitude_of q (read_latitude p.latitude))) && longitude_fits (signed.Is (longitude_of q m))) true ≡ judged.Fine
+        → judge (latitude_fits (Some (latitude_of q (read_latitude p.latitude))) && longitude_fits (Some (longitude_of q m))) true ≡ Ok tt
     fits q m e =
         let x = (both (leb (read_latitude p.latitude) 900 && leb m 1800) (is_quadrant q) e).0 in
         let y = both (leb (read_latitude p.latitude) 900) (leb m 1800) x in
@@ -130,7 +116,7 @@ longitude-told p g =
 -- ---- iR ix h VV
 
 pub record IndicatorsRead (i : Indicators) : Type 0 where
-  pub fine : judge_indicators i ≡ judged.Fine
+  pub fine : judge_indicators i ≡ Ok tt
   pub own : class_indicators i ≡ i
 
 pub indicators-told : (g : Group) → Tells said.Indicators IndicatorsRead (said_indicators g)
@@ -141,11 +127,11 @@ indicators-told g =
     (λ x b. base-told (λ h. sight_of (field_at g 3 2) (λ v. indicators_of r x h v)) (λ h hr. sight-told (λ v. indicators_of r x h v)
     (λ v vr. tells-cond (leb r 4 && leb 1 x && leb x 7) (λ e. told (record { fine = fits r x h v e hr.0 vr.0; own = rw (hr.1, vr.1) })) (λ e. refused)))))
   where
-    base-told : (k : Number → Said) → ((h : Number) → (optional metres h ≡ true) × (class_base h ≡ h) → Tells said.Indicators IndicatorsRead (k h))
+    base-told : (k : Option ℕ → Said) → ((h : Option ℕ) → (optional metres h ≡ true) × (class_base h ≡ h) → Tells said.Indicators IndicatorsRead (k h))
         → Tells said.Indicators IndicatorsRead (base_of (field_at g 2 1) k)
     base-told k p =
-        tells-may-miss (field_at g 2 1) (λ none. p number.Missing (refl, refl))
-        (λ n e. tells-used (metres_reading base n) (λ m f. p (number.Is m) (metres-low base base-rounds n m f, ap number.Is (metres-own base base-rounds n m f))))
+        tells-may-miss (field_at g 2 1) (λ none. p None (refl, refl))
+        (λ n e. tells-used (metres_reading base n) (λ m f. p (Some m) (metres-low base base-rounds n m f, ap Some (metres-own base base-rounds n m f))))
 
     sight-told : (k : Sight → Said) → ((v : Sight) → (sight_fits v ≡ true) × (class_sight v ≡ v) → Tells said.Indicators IndicatorsRead (k v))
         → Tells said.Indicators IndicatorsRead (sight_of (field_at g 3 2) k)
@@ -153,8 +139,8 @@ indicators-told g =
         tells-either (λ v. (sight_fits v ≡ true) × (class_sight v ≡ v)) land sea sight.Land sight.Sea sight.Missing (field_at g 3 2) k land-rounds sea-rounds
         (λ none. (refl, refl)) (λ m low own. (low, ap sight.Land own)) (λ m low own. (low, ap sight.Sea own)) p
 
-    fits : (r x : ℕ) (h : Number) (v : Sight) → (leb r 4 && leb 1 x && leb x 7) ≡ true → optional metres h ≡ true → sight_fits v ≡ true
-        → judge ((leb 0 r && leb r 4) && (leb 1 x && leb x 7) && optional metres h && sight_fits v) true ≡ judged.Fine
+    fits : (r x : ℕ) (h : Option ℕ) (v : Sight) → (leb r 4 && leb 1 x && leb x 7) ≡ true → optional metres h ≡ true → sight_fits v ≡ true
+        → judge ((leb 0 r && leb r 4) && (leb 1 x && leb x 7) && optional metres h && sight_fits v) true ≡ Ok tt
     fits r x h v e a b =
         let l = both (leb r 4 && leb 1 x) (leb x 7) e in
         let m = both (leb r 4) (leb 1 x) l.0 in
@@ -163,10 +149,10 @@ indicators-told g =
 -- ---- N dd ff, and 00fff after ff 99
 
 pub record WindRead (w : Wind) : Type 0 where
-  pub fine : judge_wind w ≡ judged.Fine
+  pub fine : judge_wind w ≡ Ok tt
   pub own : class_wind w ≡ w
 
-wind-by-told : (n : Number) (dd ff : ℕ) → optional (between 0 9) n ≡ true → ff < 100 → Tells said.Wind WindRead (wind_by n dd ff)
+wind-by-told : (n : Option ℕ) (dd ff : ℕ) → optional (between 0 9) n ≡ true → ff < 100 → Tells said.Wind WindRead (wind_by n dd ff)
 unfolding wind_by judge_wind
 wind-by-told n dd ff c few =
     let most = le-leb ff 999 (omega (arith, few)) in
@@ -210,22 +196,22 @@ speed-set w n r three low high = go w.direction w.speed three (fine _ _ r.fine) 
 
 -- ---- 1, 2, 3, 4, 5
 
-signed_low : (s t : ℕ) (z : ℤ) → signed_reading s t ≡ tenths.Is z → leb (nat_abs z) 999 ≡ true
+signed_low : (s t : ℕ) (z : ℤ) → signed_reading s t ≡ Some z → leb (nat_abs z) 999 ≡ true
 unfolding signed_reading
 signed_low s t z e = go (ltb 1 s || ltb 999 t || (eqb s 1 && eqb t 0)) refl e
   where
-    go : (b : Bool) → (ltb 1 s || ltb 999 t || (eqb s 1 && eqb t 0)) ≡ b → cond b tenths.Unused (tenths.Is (with_sign (eqb s 1) t)) ≡ tenths.Is z → leb (nat_abs z) 999 ≡ true
+    go : (b : Bool) → (ltb 1 s || ltb 999 t || (eqb s 1 && eqb t 0)) ≡ b → cond b None (Some (with_sign (eqb s 1) t)) ≡ Some z → leb (nat_abs z) 999 ≡ true
     go true q e = impossible (cc)
     go false q e =
         let is : with_sign (eqb s 1) t ≡ z = cc in
         let low = (both_false (ltb 1 s) (ltb 999 t) (both_false (ltb 1 s || ltb 999 t) _ q).0).1 in
         rw (← is, magnitude-back (eqb s 1) t) (le-leb t 999 (ltb-false 999 t low))
 
-pub air-told : (g : Group) → Tells said.Air (λ a. judge_air a ≡ judged.Fine) (said_air g)
+pub air-told : (g : Group) → Tells said.Air (λ a. judge_air a ≡ Ok tt) (said_air g)
 unfolding said_air air_is judge_air
 air-told g = tells-may-miss (field_at g 1 4) (λ none. told refl) (λ n e. tells-tenths (signed_reading (n / 1000) (n % 1000)) (λ t f. told (rw (signed_low _ _ t f))))
 
-pub moisture-told : (g : Group) → Tells said.Moisture (λ m. judge_moisture m ≡ judged.Fine) (said_moisture g)
+pub moisture-told : (g : Group) → Tells said.Moisture (λ m. judge_moisture m ≡ Ok tt) (said_moisture g)
 unfolding said_moisture moisture_is judge_moisture
 moisture-told g =
     tells-may-miss (field_at g 1 4) (λ none. told refl)
@@ -239,12 +225,12 @@ pressure-within n low h z l = go (leb n 999) refl
     go true e = let m = leb-true n 999 e in rw (le-leb low (n + 10000) (omega arith), le-leb (n + 10000) 10999 (omega (arith, m)))
     go false e = let m = leb-false n 999 e in rw (le-leb low n (l m), le-leb n 10999 (omega arith))
 
-pub pressure-told : (g : Group) → Tells said.Pressure (λ p. judge_pressure p ≡ judged.Fine) (said_pressure g)
+pub pressure-told : (g : Group) → Tells said.Pressure (λ p. judge_pressure p ≡ Ok tt) (said_pressure g)
 unfolding said_pressure judge_pressure
 pressure-told g =
     tells-may-miss (field_at g 1 4) (λ none. told refl) (λ n e. told (rw (pressure-within n 1000 (field_bound g 1 4 n e) (omega arith) (λ h. omega arith))))
 
-pub level-told : (g : Group) → Tells said.Level (λ l. judge_level l ≡ judged.Fine) (said_level g)
+pub level-told : (g : Group) → Tells said.Level (λ l. judge_level l ≡ Ok tt) (said_level g)
 unfolding said_level level_is judge_level
 level-told g =
     tells-may-miss (field_at g 1 4) (λ none. told refl)
@@ -254,7 +240,7 @@ level-told g =
     high : (n : ℕ) → (leb n 999 || leb 9000 n) ≡ true → 999 < n → 9000 ≤ n
     high n t h = leb-true 9000 n (rw (lt-leb n 999 h) at t)
 
-pub tendency-told : (g : Group) → Tells said.Tendency (λ t. judge_tendency t ≡ judged.Fine) (said_tendency g)
+pub tendency-told : (g : Group) → Tells said.Tendency (λ t. judge_tendency t ≡ Ok tt) (said_tendency g)
 unfolding said_tendency tendency_is judge_tendency
 tendency-told g =
     tells-may-miss (field_at g 1 4) (λ none. told refl)
@@ -278,19 +264,19 @@ tendency-told g =
                 rw (far, minus)
 
     fits : (a p : ℕ) → p ≤ 999 → (ltb 8 a || (eqb a 4 && not (eqb p 0))) ≡ false
-        → judge (leb a 8 && leb (nat_abs (with_sign (ltb 4 a) p)) 999) (change_suits a (with_sign (ltb 4 a) p)) ≡ judged.Fine
+        → judge (leb a 8 && leb (nat_abs (with_sign (ltb 4 a) p)) 999) (change_suits a (with_sign (ltb 4 a) p)) ≡ Ok tt
     fits a p h t =
         let x = both_false (ltb 8 a) (eqb a 4 && not (eqb p 0)) t in
         rw (suits a p x.1, le-leb a 8 (ltb-false 8 a x.0), magnitude-back (ltb 4 a) p, le-leb p 999 h)
 
 -- ---- 6, 7, 8, 9
 
-rain-fits : (f : ℕ) (r : Rain) → rain_figure r ≡ figure.Is f → rain_fits r ≡ true
+rain-fits : (f : ℕ) (r : Rain) → rain_figure r ≡ Some f → rain_fits r ≡ true
 unfolding rain_figure
 rain-fits f rain.Trace e = refl
 rain-fits f (rain.Tenths t) e = go (eqb t 0 || ltb 99999 t) refl e
   where
-    go : (b : Bool) → (eqb t 0 || ltb 99999 t) ≡ b → cond b figure.OutOfRange (cond (ltb t 10) (figure.Is (990 + t)) (cond (ltb t 9885) (figure.Is ((t + 5) / 10)) (figure.Is 989))) ≡ figure.Is f
+    go : (b : Bool) → (eqb t 0 || ltb 99999 t) ≡ b → cond b None (cond (ltb t 10) (Some (990 + t)) (cond (ltb t 9885) (Some ((t + 5) / 10)) (Some 989))) ≡ Some f
         → (leb 1 t && leb t 99999) ≡ true
     go true q e = impossible (cc)
     go false q e =
@@ -298,28 +284,28 @@ rain-fits f (rain.Tenths t) e = go (eqb t 0 || ltb 99999 t) refl e
         rw (le-leb 1 t (omega (arith, eqb-false t 0 x.0)), le-leb t 99999 (ltb-false 99999 t x.1))
 
 pub record RainfallRead (forbidden : Bool) (r : Rainfall) : Type 0 where
-  pub fine : judge_rainfall forbidden r ≡ judged.Fine
+  pub fine : judge_rainfall forbidden r ≡ Ok tt
   pub own : class_rainfall r ≡ r
 
 pub rainfall-told : (forbidden : Bool) (g : Group) → Tells said.Rainfall (RainfallRead forbidden) (said_rainfall forbidden g)
 unfolding said_rainfall judge_rainfall
 rainfall-told forbidden g =
-    tells-may-miss (field_at g 1 3) (λ none. tells-missing (field_at g 4 1) (tells-unless forbidden (λ may. told {a = record { is = fall.Missing }} (record { fine = rw may; own = refl }))))
+    tells-may-miss (field_at g 1 3) (λ none. tells-missing (field_at g 4 1) (tells-unless forbidden (λ may. told {a = record { is = None }} (record { fine = rw may; own = refl }))))
     (λ n e. tells-part g 4 1 9 (λ t. rainfall_of forbidden n t) (omega arith)
     (λ t c. tells-rain (rain_reading n)
-    (λ r f. tells-unless forbidden (λ may. told {a = record { is = fall.Is r t }} (record { fine = rw (rain-fits n r (rain-rounds.own n r f), c, may); own = rw (rain-own n r f) })))))
+    (λ r f. tells-unless forbidden (λ may. told {a = record { is = Some (fall_of r t) }} (record { fine = rw (rain-fits n r (rain-rounds.own n r f), c, may); own = rw (rain-own n r f) })))))
 
-pub weather-told : (forbidden : Bool) (g : Group) → Tells said.Weather (λ w. judge_weather forbidden w ≡ judged.Fine) (said_weather forbidden g)
+pub weather-told : (forbidden : Bool) (g : Group) → Tells said.Weather (λ w. judge_weather forbidden w ≡ Ok tt) (said_weather forbidden g)
 unfolding said_weather judge_weather
 weather-told forbidden g =
     tells-part g 1 2 99 (λ w. part (field_at g 3 1) (λ p. part (field_at g 4 1) (λ q. said-so w p q))) (omega arith)
     (λ w a. tells-part g 3 1 9 (λ p. part (field_at g 4 1) (λ q. said-so w p q)) (omega arith)
     (λ p b. tells-part g 4 1 9 (λ q. said-so w p q) (omega arith) (λ q c. tells-unless forbidden (λ may. told (rw (a, b, c, may))))))
   where
-    said-so : Number → Number → Number → Said
+    said-so : Option ℕ → Option ℕ → Option ℕ → Said
     said-so w p q = unless forbidden (said.Weather (record { present = w; past = p; past2 = q }))
 
-pub clouds-told : (g : Group) → Tells said.Clouds (λ c. judge_clouds c ≡ judged.Fine) (said_clouds g)
+pub clouds-told : (g : Group) → Tells said.Clouds (λ c. judge_clouds c ≡ Ok tt) (said_clouds g)
 unfolding said_clouds judge_clouds
 clouds-told g =
     tells-part g 1 1 9 (λ n. part (field_at g 2 1) (λ l. part (field_at g 3 1) (λ m. part (field_at g 4 1) (λ h. said-so n l m h)))) (omega arith)
@@ -327,10 +313,10 @@ clouds-told g =
     (λ l b. tells-part g 3 1 9 (λ m. part (field_at g 4 1) (λ h. said-so n l m h)) (omega arith)
     (λ m c. tells-part g 4 1 9 (λ h. said-so n l m h) (omega arith) (λ h d. told (rw (a, b, c, d))))))
   where
-    said-so : Number → Number → Number → Number → Said
+    said-so : Option ℕ → Option ℕ → Option ℕ → Option ℕ → Said
     said-so n l m h = said.Clouds (record { amount = n; low = l; middle = m; high = h })
 
-pub clock-told : (g : Group) → Tells said.Clock (λ c. judge_clock c ≡ judged.Fine) (said_clock g)
+pub clock-told : (g : Group) → Tells said.Clock (λ c. judge_clock c ≡ Ok tt) (said_clock g)
 unfolding said_clock clock_is judge_clock
 clock-told g =
     tells-figured (field_at g 1 2) (λ h a. tells-figured (field_at g 3 2) (λ m b. tells-cond (leb h 23 && leb m 59) (λ e. told (rw e)) (λ e. refused)))
@@ -374,13 +360,13 @@ layer-told g has filled =
     (λ none. (refl, refl, λ m. none)) (λ m low own. (low, ap height.Steps own, λ m. absurd (false≢true m))) (λ m low own. (low, ap height.Bands own, λ m. absurd (false≢true m)))
     (λ h d. told (record { fits = rw (some n c h x y d.2, a, b, d.0); own = rw d.1 }))))
   where
-    said-so : Number → Number → BaseHeight → Said
+    said-so : Option ℕ → Option ℕ → BaseHeight → Said
     said-so n c h = said.Layer (record { amount = n; cloud = c; height = h })
 
     HeightRead : BaseHeight → Type 0
     HeightRead h = (height_fits h ≡ true) × (class_height h ≡ h) × (no_height h ≡ true → field_at g 3 2 ≡ field.Missing)
 
-    some : (n c : Number) (h : BaseHeight) → (is_missing n ≡ true → field_at g 1 1 ≡ field.Missing) → (is_missing c ≡ true → field_at g 2 1 ≡ field.Missing)
+    some : (n c : Option ℕ) (h : BaseHeight) → (is_missing n ≡ true → field_at g 1 1 ≡ field.Missing) → (is_missing c ≡ true → field_at g 2 1 ≡ field.Missing)
         → (no_height h ≡ true → field_at g 3 2 ≡ field.Missing) → is_blank_layer (record { amount = n; cloud = c; height = h }) ≡ false
     some n c h x y z = go (is_missing n && is_missing c && no_height h) refl
       where

@@ -1,5 +1,7 @@
 -- A SYNOP or SHIP that is read is judged fine and is its own class: the groups known by position, NIL, section 1 and section 3.
 -- Assumes nothing.
+use Rattle.std.specs.Prelude.{⊤, Err, None, Ok, Option, Result, Some}
+use Rattle.text.specs.declared.kinds.Refusal.{Refusal}
 use Prim.Native.Nat.{ℕ, zero, suc, ◌+◌, ◌-◌, ◌≤◌}
 use native.Mathlib.Omega.{arith}
 use mathlib.Core.Path.{◌≡◌, refl, sym, ap, ◌∙◌}
@@ -11,17 +13,12 @@ use lib.Dec.{leb}
 use borrow.Author.Tests.{leb-true, le-leb}
 use Rattle.figures.specs.Figures.{is_figure, is_letter, every}
 use Rattle.text.specs.declared.kinds.Refusal.TheVariants as refusal
-use Rattle.text.specs.declared.kinds.Judged.{Judged}
-use Rattle.text.specs.declared.kinds.Judged.TheVariants as judged
-use Rattle.text.specs.declared.kinds.Tail.{Tail}
-use Rattle.text.specs.declared.kinds.Tail.TheVariants.{Clear, Junk}
 use Rattle.text.specs.Judge.{judge, and_then}
 use Rattle.text.specs.Groups.{Piece}
 use Rattle.shapes.specs.Pattern.{has_pattern}
 use Rattle.shapes.proofs.Patterns.{both}
-use Rattle.places.specs.Engine.{Group, Read, Good, Fault}
+use Rattle.places.specs.Engine.{Group, Fault}
 use Rattle.places.specs.Parts.{Opens, Ends}
-use Rattle.record.specs.declared.values.Number.TheVariants as number
 use Rattle.record.specs.declared.values.Speed.TheVariants as speed
 use Rattle.record.specs.declared.surface.CallSign.{CallSign}
 use Rattle.record.specs.declared.surface.Position.{Position}
@@ -69,15 +66,15 @@ Windy n s = WindRead s.wind × (n.speed ≡ is_in_three s.wind.speed)
 abbrev stages : Needs → List (Stage Surface)
 stages n =
     kept (Windy n)
-    ∷ kept (λ s. judge_air s.air ≡ judged.Fine)
-    ∷ kept (λ s. judge_moisture s.moisture ≡ judged.Fine)
-    ∷ kept (λ s. judge_pressure s.pressure ≡ judged.Fine)
-    ∷ kept (λ s. judge_level s.level ≡ judged.Fine)
-    ∷ kept (λ s. judge_tendency s.tendency ≡ judged.Fine)
+    ∷ kept (λ s. judge_air s.air ≡ Ok tt)
+    ∷ kept (λ s. judge_moisture s.moisture ≡ Ok tt)
+    ∷ kept (λ s. judge_pressure s.pressure ≡ Ok tt)
+    ∷ kept (λ s. judge_level s.level ≡ Ok tt)
+    ∷ kept (λ s. judge_tendency s.tendency ≡ Ok tt)
     ∷ kept (λ s. RainfallRead (not n.rain) s.rainfall)
-    ∷ kept (λ s. judge_weather (not n.weather) s.weather ≡ judged.Fine)
-    ∷ kept (λ s. judge_clouds s.clouds ≡ judged.Fine)
-    ∷ kept (λ s. judge_clock s.clock ≡ judged.Fine)
+    ∷ kept (λ s. judge_weather (not n.weather) s.weather ≡ Ok tt)
+    ∷ kept (λ s. judge_clouds s.clouds ≡ Ok tt)
+    ∷ kept (λ s. judge_clock s.clock ≡ Ok tt)
     ∷ []
 
 serves : (n : Needs) → ServesRow (λ s. ⊥) (Known n) (row n) (stages n)
@@ -98,7 +95,7 @@ serves n =
     & tt
 
 record SurfaceRead (s : Surface) : Type 0 where
-  fine : judge_surface s ≡ judged.Fine
+  fine : judge_surface s ≡ Ok tt
   indicators : class_indicators s.indicators ≡ s.indicators
   wind : class_wind s.wind ≡ s.wind
   rainfall : class_rainfall s.rainfall ≡ s.rainfall
@@ -136,24 +133,24 @@ section-begins i w ir wr = (
   refl & refl & refl & refl & refl & record { fine = or-fine (not (figure_is rain_due i.rain)); own = refl } & or-fine (not (figure_is weather_due i.weather)) & refl & refl & tt,
 )
   where
-    or-fine : (forbidden : Bool) → judge true (not forbidden || true) ≡ judged.Fine
+    or-fine : (forbidden : Bool) → judge true (not forbidden || true) ≡ Ok tt
     or-fine true = refl
     or-fine false = refl
 
 -- ==== THE HEAD, group after group
 
 -- what the writer judges of a site
-abbrev site_judged : Bool → Site → Judged
+abbrev site_judged : Bool → Site → Result ⊤ Refusal
 site_judged ship site = judge_site (record { ship = ship; site = site; surface = blank_surface; section3 = blank_section3 })
 
 record HeadRead (ship : Bool) (site : Site) : Type 0 where
-  fine : site_judged ship site ≡ judged.Fine
+  fine : site_judged ship site ≡ Ok tt
   own : cond ship (is_missing site.station && not site.nil) (no_sign site.sign && no_position site.position) ≡ true
   heard : site.nil ≡ false
   nine : length site.sign.letters ≡ 9
 
 pub record SynopRead (r : Synop) : Type 0 where
-  pub fine : judge_of r ≡ judged.Fine
+  pub fine : judge_of r ≡ Ok tt
   pub own : classed_of r ≡ r
   pub arrays : SynopArrays r
 
@@ -161,8 +158,8 @@ same-site : (r : Synop) → judge_site r ≡ site_judged r.ship r.site
 unfolding judge_site
 same-site r = refl
 
-whole-fine : (own heard : Bool) (site surface third : Judged) → own ≡ true → heard ≡ false → site ≡ judged.Fine → surface ≡ judged.Fine → third ≡ judged.Fine → (quiet : Bool)
-    → and_then (cond (own && (not heard || quiet)) judged.Fine (judged.Refused refusal.Value)) (and_then site (cond heard judged.Fine (and_then surface third))) ≡ judged.Fine
+whole-fine : (own heard : Bool) (site surface third : Result ⊤ Refusal) → own ≡ true → heard ≡ false → site ≡ Ok tt → surface ≡ Ok tt → third ≡ Ok tt → (quiet : Bool)
+    → and_then (cond (own && (not heard || quiet)) (Ok tt) (Err refusal.Value)) (and_then site (cond heard (Ok tt) (and_then surface third))) ≡ Ok tt
 whole-fine own heard site surface third a b c d e quiet = rw (a, b, c, d, e)
 
 synop-own : (r : Synop) → class_indicators r.surface.indicators ≡ r.surface.indicators → class_wind r.surface.wind ≡ r.surface.wind → class_rainfall r.surface.rainfall ≡ r.surface.rainfall
@@ -227,7 +224,7 @@ padded (suc m) k (b ∷ g) h l =
     rw (less, padded m k g (omega (arith, h)) (omega (arith, l)))
 
 record SignRead (s : CallSign) : Type 0 where
-  fine : judge_sign s ≡ judged.Fine
+  fine : judge_sign s ≡ Ok tt
   nine : length s.letters ≡ 9
 
 sign_read : (g : Group) → is_call_sign g ≡ true → SignRead (sign_of g)
@@ -249,20 +246,20 @@ sign_read g h =
 module _ {Q I J : Synop → Type 0} (p : Post) (ps : List Post)
     (reads : (g : Group) (r : Synop) → p.has g ≡ true → I r → Gives J (p.read g r))
     (silent : p.nil ≡ true → (r : Synop) → I r → Q (set_site (set_nil true r.site) r))
-    (rest : (r : Synop) (tail : Tail) (end : ℕ) (gs : List Piece) → J r → Comes Q (walk ps r tail end gs)) where
-  post-walks : (r : Synop) (tail : Tail) (end : ℕ) (gs : List Piece) → I r → Comes Q (walk (p ∷ ps) r tail end gs)
+    (rest : (r : Synop) (tail : Option ℕ) (end : ℕ) (gs : List Piece) → J r → Comes Q (walk ps r tail end gs)) where
+  post-walks : (r : Synop) (tail : Option ℕ) (end : ℕ) (gs : List Piece) → I r → Comes Q (walk (p ∷ ps) r tail end gs)
   unfolding walk
-  post-walks r (Junk at) end [] i = fault
-  post-walks r Clear end [] i = fault
+  post-walks r (Some at) end [] i = fault
+  post-walks r None end [] i = fault
   post-walks r tail end (g ∷ gs) i = nil p.nil refl (is_nil g.bytes)
     where
-      over : (tail : Tail) (gs : List Piece) → p.nil ≡ true → Comes Q (after_nil tail end r gs)
-      over (Junk at) [] e = fault
-      over Clear [] e = done (silent e r i)
-      over (Junk at) (g ∷ gs) e = fault
-      over Clear (g ∷ gs) e = fault
+      over : (tail : Option ℕ) (gs : List Piece) → p.nil ≡ true → Comes Q (after_nil tail end r gs)
+      over (Some at) [] e = fault
+      over None [] e = done (silent e r i)
+      over (Some at) (g ∷ gs) e = fault
+      over None (g ∷ gs) e = fault
 
-      on : (x : Read Synop) → Gives J x → Comes Q (onward x g.start (λ r'. walk ps r' tail end gs))
+      on : (x : Result Synop Refusal) → Gives J x → Comes Q (onward x g.start (λ r'. walk ps r' tail end gs))
       on _ (good {a} j) = rest a tail end gs j
       on _ bad = fault
 
@@ -299,7 +296,7 @@ Fresh r w s = s ≡ blank_section3
 first_word : (r : Synop) (g : Group) → Turns Whole SynopRead Fresh r (word_of g)
 first_word r g = go (has_pattern g section3_word)
   where
-    go : (b : Bool) → Turns Whole SynopRead Fresh r (cond b (Opens (Good (record { kind = tt; start = blank_section3 }))) Ends)
+    go : (b : Bool) → Turns Whole SynopRead Fresh r (cond b (Opens (Ok (record { kind = tt; start = blank_section3 }))) Ends)
     go true = opens (good refl)
     go false = ends
 
@@ -329,19 +326,19 @@ third-leaves r w s h is =
       word = λ t g f e. ends;
     }
 
-at-section : (ship : Bool) (r : Synop) (tail : Tail) (end : ℕ) (gs : List Piece) → Winded ship r → Comes SynopRead (walk [] r tail end gs)
+at-section : (ship : Bool) (r : Synop) (tail : Option ℕ) (end : ℕ) (gs : List Piece) → Winded ship r → Comes SynopRead (walk [] r tail end gs)
 unfolding walk section
 at-section ship r tail end gs x =
     report-leaves Whole SynopRead Fresh tail end parts whole-read third-leaves (λ t w s g o e. o) 1 (first_part (needs_of r.surface) (λ s. set_surface s r)) r.surface (first-leaves ship r x) gs
 
-at-wind : (ship : Bool) (r : Synop) (tail : Tail) (end : ℕ) (gs : List Piece) → Indicated ship r → Comes SynopRead (walk (wind_post ∷ []) r tail end gs)
+at-wind : (ship : Bool) (r : Synop) (tail : Option ℕ) (end : ℕ) (gs : List Piece) → Indicated ship r → Comes SynopRead (walk (wind_post ∷ []) r tail end gs)
 unfolding with_head with_said
 at-wind ship =
     post-walks wind_post []
     (λ g r has x. gives-told (λ y. with_head y r) (λ w. set_surface (set_wind w r.surface) r) (λ w. refl) (λ f. refl) (wind-told g) (λ w t. (x.0, x.1, (x.2.0, w, ap (set_wind w) x.2.1, x.2.2, t), x.3)))
     (λ e r x. never e) (at-section ship)
 
-at-indicators : (ship land : Bool) → (land ≡ true → ship ≡ false) → (r : Synop) (tail : Tail) (end : ℕ) (gs : List Piece) → Headed ship r → Comes SynopRead (walk (indicators_post land ∷ wind_post ∷ []) r tail end gs)
+at-indicators : (ship land : Bool) → (land ≡ true → ship ≡ false) → (r : Synop) (tail : Option ℕ) (end : ℕ) (gs : List Piece) → Headed ship r → Comes SynopRead (walk (indicators_post land ∷ wind_post ∷ []) r tail end gs)
 unfolding with_head with_said
 at-indicators ship land only =
     post-walks (indicators_post land) (wind_post ∷ [])
@@ -354,21 +351,21 @@ abbrev Started : Bool → Synop → Type 0
 Started ship r = (r.ship ≡ ship) × (r.site ≡ blank_site) × Silent r
 
 abbrev Timed : Synop → Type 0
-Timed r = (r.ship ≡ false) × ((t : Time) × (r.site ≡ set_time t blank_site) × (judge_time t ≡ judged.Fine)) × Silent r
+Timed r = (r.ship ≡ false) × ((t : Time) × (r.site ≡ set_time t blank_site) × (judge_time t ≡ Ok tt)) × Silent r
 
-land-head : (t : Time) (n : ℕ) → judge_time t ≡ judged.Fine → judge_station (number.Is n) ≡ judged.Fine → HeadRead false (set_station (number.Is n) (set_time t blank_site))
+land-head : (t : Time) (n : ℕ) → judge_time t ≡ Ok tt → judge_station (Some n) ≡ Ok tt → HeadRead false (set_station (Some n) (set_time t blank_site))
 unfolding judge_site
 land-head t n a b = record { fine = rw (a, b); own = refl; heard = refl; nine = refl }
 
-at-station : (r : Synop) (tail : Tail) (end : ℕ) (gs : List Piece) → Timed r → Comes SynopRead (walk (station_post ∷ indicators_post true ∷ wind_post ∷ []) r tail end gs)
+at-station : (r : Synop) (tail : Option ℕ) (end : ℕ) (gs : List Piece) → Timed r → Comes SynopRead (walk (station_post ∷ indicators_post true ∷ wind_post ∷ []) r tail end gs)
 unfolding with_head with_said
 at-station =
     post-walks station_post (indicators_post true ∷ wind_post ∷ [])
-    (λ g r has x. gives-told (λ y. with_head y r) (λ n. set_site (set_station (number.Is n) r.site) r) (λ n. refl) (λ f. refl) (station-told g)
+    (λ g r has x. gives-told (λ y. with_head y r) (λ n. set_site (set_station (Some n) r.site) r) (λ n. refl) (λ f. refl) (station-told g)
     (λ n t. (x.0, rw x.1.1 (land-head x.1.0 n x.1.2 t), x.2)))
     (λ e r x. never e) (at-indicators false true (λ e. refl))
 
-land-walks : (r : Synop) (tail : Tail) (end : ℕ) (gs : List Piece) → Started false r → Comes SynopRead (walk (time_post ∷ station_post ∷ indicators_post true ∷ wind_post ∷ []) r tail end gs)
+land-walks : (r : Synop) (tail : Option ℕ) (end : ℕ) (gs : List Piece) → Started false r → Comes SynopRead (walk (time_post ∷ station_post ∷ indicators_post true ∷ wind_post ∷ []) r tail end gs)
 unfolding with_head with_said
 land-walks =
     post-walks time_post (station_post ∷ indicators_post true ∷ wind_post ∷ [])
@@ -381,19 +378,19 @@ abbrev Signed : Synop → Type 0
 Signed r = (r.ship ≡ true) × ((s : CallSign) × (r.site ≡ set_sign s blank_site) × SignRead s) × Silent r
 
 abbrev SignedTimed : Synop → Type 0
-SignedTimed r = (r.ship ≡ true) × ((s : CallSign) × (t : Time) × (r.site ≡ set_time t (set_sign s blank_site)) × SignRead s × (judge_time t ≡ judged.Fine)) × Silent r
+SignedTimed r = (r.ship ≡ true) × ((s : CallSign) × (t : Time) × (r.site ≡ set_time t (set_sign s blank_site)) × SignRead s × (judge_time t ≡ Ok tt)) × Silent r
 
 abbrev Placed : Synop → Type 0
 Placed r =
     (r.ship ≡ true)
-    × ((s : CallSign) × (t : Time) × (p : Position) × (r.site ≡ set_position p (set_time t (set_sign s blank_site))) × SignRead s × (judge_time t ≡ judged.Fine))
+    × ((s : CallSign) × (t : Time) × (p : Position) × (r.site ≡ set_position p (set_time t (set_sign s blank_site))) × SignRead s × (judge_time t ≡ Ok tt))
     × Silent r
 
-ship-head : (s : CallSign) (t : Time) (p : Position) → SignRead s → judge_time t ≡ judged.Fine → judge_position p ≡ judged.Fine → HeadRead true (set_position p (set_time t (set_sign s blank_site)))
+ship-head : (s : CallSign) (t : Time) (p : Position) → SignRead s → judge_time t ≡ Ok tt → judge_position p ≡ Ok tt → HeadRead true (set_position p (set_time t (set_sign s blank_site)))
 unfolding judge_site
 ship-head s t p a b c = record { fine = rw (a.fine, b, c); own = refl; heard = refl; nine = a.nine }
 
-at-longitude : (r : Synop) (tail : Tail) (end : ℕ) (gs : List Piece) → Placed r → Comes SynopRead (walk (longitude_post ∷ indicators_post false ∷ wind_post ∷ []) r tail end gs)
+at-longitude : (r : Synop) (tail : Option ℕ) (end : ℕ) (gs : List Piece) → Placed r → Comes SynopRead (walk (longitude_post ∷ indicators_post false ∷ wind_post ∷ []) r tail end gs)
 unfolding with_head with_said
 at-longitude =
     post-walks longitude_post (indicators_post false ∷ wind_post ∷ [])
@@ -401,7 +398,7 @@ at-longitude =
     (λ p t. (x.0, rw x.1.3 (ship-head x.1.0 x.1.1 p x.1.4 x.1.5 t), x.2)))
     (λ e r x. never e) (at-indicators true false (λ e. never e))
 
-at-latitude : (r : Synop) (tail : Tail) (end : ℕ) (gs : List Piece) → SignedTimed r → Comes SynopRead (walk (latitude_post ∷ longitude_post ∷ indicators_post false ∷ wind_post ∷ []) r tail end gs)
+at-latitude : (r : Synop) (tail : Option ℕ) (end : ℕ) (gs : List Piece) → SignedTimed r → Comes SynopRead (walk (latitude_post ∷ longitude_post ∷ indicators_post false ∷ wind_post ∷ []) r tail end gs)
 unfolding with_head with_said
 at-latitude =
     post-walks latitude_post (longitude_post ∷ indicators_post false ∷ wind_post ∷ [])
@@ -409,7 +406,7 @@ at-latitude =
     (λ p t. (x.0, (x.1.0, x.1.1, p, ap (set_position p) x.1.2, x.1.3, x.1.4), x.2)))
     (λ e r x. never e) at-longitude
 
-at-ship-time : (r : Synop) (tail : Tail) (end : ℕ) (gs : List Piece) → Signed r
+at-ship-time : (r : Synop) (tail : Option ℕ) (end : ℕ) (gs : List Piece) → Signed r
     → Comes SynopRead (walk (time_post ∷ latitude_post ∷ longitude_post ∷ indicators_post false ∷ wind_post ∷ []) r tail end gs)
 unfolding with_head with_said
 at-ship-time =
@@ -418,7 +415,7 @@ at-ship-time =
     (λ t f. (x.0, (x.1.0, t, ap (set_time t) x.1.1, x.1.2, f), x.2)))
     (λ e r x. never e) at-latitude
 
-ship-walks : (r : Synop) (tail : Tail) (end : ℕ) (gs : List Piece) → Started true r
+ship-walks : (r : Synop) (tail : Option ℕ) (end : ℕ) (gs : List Piece) → Started true r
     → Comes SynopRead (walk (sign_post ∷ time_post ∷ latitude_post ∷ longitude_post ∷ indicators_post false ∷ wind_post ∷ []) r tail end gs)
 ship-walks =
     post-walks sign_post (time_post ∷ latitude_post ∷ longitude_post ∷ indicators_post false ∷ wind_post ∷ [])
@@ -426,7 +423,7 @@ ship-walks =
     (λ e r x. never e) at-ship-time
 
 -- WHATEVER SYNOP OR SHIP IS ACCEPTED IS JUDGED FINE, AND COMES BACK AS IT IS.
-pub synop-read : (ship : Bool) (tail : Tail) (end : ℕ) (gs : List Piece) → Comes SynopRead (groups_read ship tail end gs)
+pub synop-read : (ship : Bool) (tail : Option ℕ) (end : ℕ) (gs : List Piece) → Comes SynopRead (groups_read ship tail end gs)
 unfolding groups_read posts
 synop-read false tail end gs = land-walks (begun false) tail end gs (refl, refl, (refl, refl))
 synop-read true tail end gs = ship-walks (begun true) tail end gs (refl, refl, (refl, refl))

@@ -1,5 +1,6 @@
 -- A TAF that is read in an edition names that edition, is judged fine, and is its own class but for speeds from P on: its main part, NIL, CNL, and each change.
 -- Assumes nothing.
+use Rattle.std.specs.Prelude.{Ok, Option}
 use Prim.Native.Nat.{ℕ, ◌+◌, ◌≤◌, ◌<◌}
 use native.Mathlib.Omega.{arith}
 use mathlib.Core.Path.{◌≡◌, refl, sym, ap}
@@ -10,8 +11,6 @@ use lib.ListN.{length, take, drop, set}
 use lib.Dec.{ltb}
 use borrow.Author.Tests.{ltb-true, not-false}
 use Rattle.figures.specs.Figures.{field_at}
-use Rattle.text.specs.declared.kinds.Judged.TheVariants as judged
-use Rattle.text.specs.declared.kinds.Tail.{Tail}
 use Rattle.text.specs.Groups.{Piece}
 use Rattle.shapes.proofs.Patterns.{both}
 use Rattle.places.specs.Engine.{Group, put_all}
@@ -137,7 +136,7 @@ pub record HeadRead (r : Leg) : Type 0 where
 element-there : (w : Part) (b : Body) → not (element_stands w b) ≡ false → element_stands w b ≡ true
 element-there w b e = not-false (element_stands w b) e
 
-judged-part : (w : Part) (b : Body) → BodyRead (forecast_in w) b → element_stands w b ≡ true → judge_part w b ≡ judged.Fine
+judged-part : (w : Part) (b : Body) → BodyRead (forecast_in w) b → element_stands w b ≡ true → judge_part w b ≡ Ok tt
 unfolding judge_part
 judged-part w b r e = rw (r.fine, e)
 
@@ -286,7 +285,7 @@ module _ (chosen : Edition) where
   -- ---- A CHANGE
 
   record ChangeRead (c : Change) : Type 0 where
-    fine : judge_change chosen c ≡ judged.Fine
+    fine : judge_change chosen c ≡ Ok tt
     own : class_change chosen c ≡ open_change c
     arrays : BodyArrays c.body
 
@@ -336,7 +335,7 @@ module _ (chosen : Edition) where
 
   pub record TafRead (t : Taf) : Type 0 where
     pub named : t.edition ≡ chosen
-    pub fine : judge_of t ≡ judged.Fine
+    pub fine : judge_of t ≡ Ok tt
     pub own : classed_of t ≡ open_taf t
     pub arrays : TafArrays t
 
@@ -450,7 +449,7 @@ module _ (chosen : Edition) where
       }
 
   -- WHATEVER TAF IS ACCEPTED NAMES THE EDITION, IS JUDGED FINE, AND COMES BACK WITH ITS SPEEDS OPENED.
-  pub taf-read : (tail : Tail) (end : ℕ) (gs : List Piece) → Comes TafRead (groups_read chosen tail end gs)
+  pub taf-read : (tail : Option ℕ) (end : ℕ) (gs : List Piece) → Comes TafRead (groups_read chosen tail end gs)
   unfolding groups_read
   taf-read tail end gs =
       report-leaves Whole TafRead Opened tail end (changes chosen) whole-read change-leaves joined-so 16 (main_part chosen) blank_leg main-leaves gs

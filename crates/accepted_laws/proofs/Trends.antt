@@ -1,5 +1,6 @@
 -- A trend's change that is read is judged fine and is its own class but for speeds from P on: its times and its body.
 -- Assumes nothing.
+use Rattle.std.specs.Prelude.{Ok}
 use Prim.Native.Nat.{ℕ, ◌+◌, ◌<◌}
 use native.Mathlib.Omega.{arith}
 use mathlib.Core.Path.{◌≡◌, refl, sym, ap, ◌∙◌}
@@ -9,7 +10,6 @@ use lib.ListN.{length, take, set}
 use lib.Dec.{ltb}
 use borrow.Author.Tests.{ltb-true, not-false}
 use Rattle.figures.specs.Figures.{field_at}
-use Rattle.text.specs.declared.kinds.Judged.TheVariants as judged
 use Rattle.shapes.proofs.Patterns.{both}
 use Rattle.places.specs.Engine.{Group}
 use Rattle.record.specs.declared.aerodrome.Moment.{Moment}
@@ -133,7 +133,7 @@ begins-at w may = (refl, tt, refl & tt & tt & refl & refl & (refl, refl) & refl 
 -- ---- A CHANGE
 
 pub record ChangeRead (c : TrendChange) : Type 0 where
-  pub fine : judge_change false c ≡ judged.Fine
+  pub fine : judge_change false c ≡ Ok tt
   pub own : class_change c ≡ open_trend_change c
   pub arrays : BodyArrays c.body
 
@@ -195,11 +195,11 @@ blank-change : is_blank_trend_change blank_trend_change ≡ true
 unfolding is_blank_body
 blank-change = refl
 
-pub trend-fine : (t : Trend) → TrendHeld t → judge_trend t ≡ judged.Fine
+pub trend-fine : (t : Trend) → TrendHeld t → judge_trend t ≡ Ok tt
 unfolding judge_trend
 trend-fine t h = rw (filled-slots h.filled is_blank_trend_change blank-change) (each t.nosig refl)
   where
-    each : (b : Bool) → t.nosig ≡ b → judge_each t.nosig (take t.count t.items) ≡ judged.Fine
+    each : (b : Bool) → t.nosig ≡ b → judge_each t.nosig (take t.count t.items) ≡ Ok tt
     each true e = rw (h.alone e)
     each false e = rw e (filled-fine h.filled (judge_change false) (judge_each false) refl (λ c cs. refl) (λ c r. r.fine))
 

@@ -1,5 +1,7 @@
 -- A weather group that is read is judged fine: its codes are joined as they are read, two letters each and no more than the record holds.
 -- Assumes nothing.
+use Rattle.std.specs.Prelude.{Ok, Result}
+use Rattle.text.specs.declared.kinds.Refusal.{Refusal}
 use Prim.Native.Nat.{ℕ, ◌≤◌}
 use native.Mathlib.Omega.{arith}
 use mathlib.Core.Path.{◌≡◌, refl}
@@ -9,14 +11,13 @@ use lib.ListN.{length, get_or}
 use lib.Dec.{leb, eqb}
 use borrow.Author.Tests.{leb-true, eqb-true}
 use Rattle.figures.specs.Quote.{bytes}
-use Rattle.text.specs.declared.kinds.Judged.TheVariants as judged
 use Rattle.shapes.specs.Pattern.{has_pattern}
 use Rattle.shapes.proofs.Patterns.{both, or_cases}
-use Rattle.places.specs.Engine.{Group, Read, Good}
+use Rattle.places.specs.Engine.{Group}
 use Rattle.record.specs.declared.aerodrome.Intensity.{Intensity}
 use Rattle.record.specs.declared.aerodrome.Intensity.TheVariants as intensity
 use Rattle.record.specs.declared.aerodrome.Weather.{Weather}
-use Rattle.elements.specs.Weather.{codes_of, one, is_descriptor, is_precipitation, is_phenomenon, all_among, precipitations, single, suits, Joined, Bare, Under, joined, right, in_vicinity, signed, letters, code_at, weather_of, unsigned, with_sign, said_weather, has_unknown, unless_unknown, read_weather, is_plain, only_plain, read_recent, gapless, listed, intensity_fits, phenomena_fit, judge_weather, judge_recent}
+use Rattle.elements.specs.Weather.{codes_of, one, is_descriptor, is_precipitation, is_phenomenon, all_among, precipitations, single, suits, Joined, Bare, Under, joined, right, in_vicinity, signed, code_at, weather_of, unsigned, with_sign, said_weather, has_unknown, unless_unknown, read_weather, is_plain, only_plain, read_recent, gapless, listed, intensity_fits, phenomena_fit, judge_weather, judge_recent}
 use Rattle.accepted_laws.proofs.Gives.{Gives, good, bad, gives_more, gives-cond, gives-provided, gives-agreeing}
 
 -- ---- codes of two letters
@@ -110,7 +111,7 @@ joined-fits i (Under d cs) (two, is, p) e = let q = put cs p (fits-few i (Under 
 abbrev Fitting : Weather → Type 0
 Fitting w = phenomena_fit w.is ≡ true
 
-said-as : (i : Intensity) (cs : List (List ℕ)) → Paired cs → intensity_fits i (joined cs) ≡ true → Gives Fitting (Good (weather_of i (joined cs)))
+said-as : (i : Intensity) (cs : List (List ℕ)) → Paired cs → intensity_fits i (joined cs) ≡ true → Gives Fitting (Ok (weather_of i (joined cs)))
 said-as i cs p e = good (joined-fits i (joined cs) (joined-coded cs p) e)
 
 sign_fits : (heavy : Bool) (j : Joined) → (right j && signed heavy j) ≡ true → intensity_fits (cond heavy intensity.Heavy intensity.Light) j ≡ true
@@ -135,22 +136,22 @@ weather-said (b ∷ g) =
 
 -- ---- PRESENT AND RECENT WEATHER
 
-unless-unknown : (automatic : Bool) {P : Weather → Type 0} {x : Read Weather} → Gives P x
+unless-unknown : (automatic : Bool) {P : Weather → Type 0} {x : Result Weather Refusal} → Gives P x
     → Gives (λ w. P w × ((automatic || not (has_unknown w.is)) ≡ true)) (unless_unknown automatic x)
 unless-unknown automatic (good {a = w} p) = gives-agreeing (automatic || not (has_unknown w.is)) (λ e. good (p, e))
 unless-unknown automatic bad = bad
 
-pub weather-read : (forecast automatic : Bool) (g : Group) → Gives (λ w. judge_weather forecast automatic false w ≡ judged.Fine) (read_weather forecast automatic g)
+pub weather-read : (forecast automatic : Bool) (g : Group) → Gives (λ w. judge_weather forecast automatic false w ≡ Ok tt) (read_weather forecast automatic g)
 unfolding read_weather judge_weather
 weather-read forecast automatic g =
     gives-cond (has_pattern g (bytes "//")) (λ m. gives-provided (not forecast) (λ n. good (rw (n, or-true automatic))))
     (λ m. gives_more (unless-unknown automatic (weather-said g)) (λ w f. rw (f.0, f.1)))
 
-only-plain : {P : Weather → Type 0} {x : Read Weather} → Gives P x → Gives (λ w. P w × (is_plain w.is ≡ true)) (only_plain x)
+only-plain : {P : Weather → Type 0} {x : Result Weather Refusal} → Gives P x → Gives (λ w. P w × (is_plain w.is ≡ true)) (only_plain x)
 only-plain (good {a = w} p) = gives-provided (is_plain w.is) (λ e. good (p, e))
 only-plain bad = bad
 
-pub recent-read : (automatic : Bool) (g : Group) → Gives (λ w. judge_recent automatic w ≡ judged.Fine) (read_recent automatic g)
+pub recent-read : (automatic : Bool) (g : Group) → Gives (λ w. judge_recent automatic w ≡ Ok tt) (read_recent automatic g)
 unfolding read_recent judge_recent
 recent-read automatic [] = bad
 recent-read automatic (r ∷ []) = bad

@@ -1,5 +1,6 @@
 -- A wind, a variation and a visibility that are read are judged fine, and are their own class but for speeds from P on.
 -- Assumes nothing.
+use Rattle.std.specs.Prelude.{Ok}
 use Prim.Native.Nat.{ℕ, ◌^◌, ◌≤◌, ◌<◌}
 use native.Mathlib.Omega.{arith}
 use mathlib.Core.Path.{◌≡◌, refl, sym, ap}
@@ -11,7 +12,6 @@ use borrow.Author.Tests.{leb-true, le-leb, le-ltb, ltb-true, ltb-false, eqb-fals
 use Rattle.figures.specs.declared.kinds.Field.TheVariants as field
 use Rattle.figures.specs.Quote.{bytes}
 use Rattle.figures.specs.Figures.{field_at}
-use Rattle.text.specs.declared.kinds.Judged.TheVariants as judged
 use Rattle.shapes.specs.declared.kinds.Value.{Value}
 use Rattle.shapes.specs.Pattern.{has_pattern}
 use Rattle.shapes.specs.Shape.{leading, split, parts_of, field_width}
@@ -132,7 +132,7 @@ agrees-classed u d s g e =
 -- ---- THE WIND
 
 pub record WindRead (forecast : Bool) (w : Wind) : Type 0 where
-  pub fine : judge_wind forecast w ≡ judged.Fine
+  pub fine : judge_wind forecast w ≡ Ok tt
   pub own : class_wind w ≡ open_wind w
 
 -- alternative 1 of the mean and of the gust has two figures
@@ -169,7 +169,7 @@ wind-read forecast g =
 -- ---- VARIATION AND VISIBILITY
 
 pub record VariationRead (v : Variation) : Type 0 where
-  pub fine : judge_variation v ≡ judged.Fine
+  pub fine : judge_variation v ≡ Ok tt
   pub own : class_variation v ≡ v
 
 pub variation-read : (g : Group) → Gives VariationRead (read_variation g)
@@ -187,7 +187,7 @@ variation-read g =
     }))))))
 
 pub record VisibilityRead (forecast : Bool) (v : Visibility) : Type 0 where
-  pub fine : judge_visibility forecast v ≡ judged.Fine
+  pub fine : judge_visibility forecast v ≡ Ok tt
   pub own : class_visibility v ≡ v
 
 pub visibility-read : (forecast : Bool) (g : Group) → Gives (VisibilityRead forecast) (read_visibility forecast g)

@@ -1,5 +1,6 @@
 -- The round trip of the station and the time: what the writer judges fine and writes has its shape, and is read back as it was.
 -- Assumes nothing.
+use Rattle.std.specs.Prelude.{None, Ok, Option, Some}
 use mathlib.Core.Path.{◌≡◌, refl, ap, ◌∙◌}
 use mathlib.Core.Bool.{true, false, ◌&&◌, false≢true}
 use mathlib.Core.List.{List, [], ◌∷◌, ◌++◌, append_assoc}
@@ -14,13 +15,10 @@ use Rattle.figures.specs.declared.kinds.Field.{Field}
 use Rattle.figures.specs.declared.kinds.Field.TheVariants as field
 use Rattle.figures.specs.Figures.{field_at, field_text, is_letter, every, Fits}
 use Rattle.figures.proofs.Figures.{length-field, field_back}
-use Rattle.text.specs.declared.kinds.Judged.TheVariants as judged
 use Rattle.text.proofs.Judging.{fine}
 use Rattle.shapes.specs.Pattern.{low, high, fits, has_pattern}
 use Rattle.shapes.proofs.Patterns.{both, pattern-length, pattern-append, field-pattern}
-use Rattle.places.specs.Engine.{Group, Good}
-use Rattle.record.specs.declared.values.Number.{Number}
-use Rattle.record.specs.declared.values.Number.TheVariants as number
+use Rattle.places.specs.Engine.{Group}
 use Rattle.record.specs.declared.aerodrome.Instant.{Instant}
 use Rattle.record.specs.declared.aerodrome.Station.{Station}
 use Rattle.aerodrome_groups.specs.Head.{station_shape, time_shape, is_day, is_hour, is_minute, read_time, show_time, judge_station, judge_time}
@@ -33,7 +31,7 @@ unfolding has_pattern fits low high
 letters-fit [] e = refl
 letters-fit (b ∷ l) e = let t = both (is_letter b) (every is_letter l) e in rw t.0 (letters-fit l t.1)
 
-pub station-shaped : (s : Station) → judge_station s ≡ judged.Fine → (has_pattern s.letters station_shape ≡ true) × (take 4 s.letters ≡ s.letters)
+pub station-shaped : (s : Station) → judge_station s ≡ Ok tt → (has_pattern s.letters station_shape ≡ true) × (take 4 s.letters ≡ s.letters)
 unfolding judge_station
 station-shaped s e =
     let t = both (eqb (length s.letters) 4) (every is_letter s.letters) (fine _ true e).0 in
@@ -82,18 +80,18 @@ module _ (d h m : Field) (fit-d : Fits 2 d) (fit-h : Fits 2 h) (fit-m : Fits 2 m
 
 -- what the writer judges fine is a day, an hour and a minute
 abbrev Times : Instant → ℕ → ℕ → ℕ → Type 0
-Times t d h m = (t ≡ record { day = number.Is d; hour = number.Is h; minute = number.Is m }) × (is_day d && is_hour h && is_minute m ≡ true)
+Times t d h m = (t ≡ record { day = Some d; hour = Some h; minute = Some m }) × (is_day d && is_hour h && is_minute m ≡ true)
 
-times : (t : Instant) → judge_time t ≡ judged.Fine → (d : ℕ) × (h : ℕ) × (m : ℕ) × Times t d h m
+times : (t : Instant) → judge_time t ≡ Ok tt → (d : ℕ) × (h : ℕ) × (m : ℕ) × Times t d h m
 unfolding judge_time
 times t e = go t.day t.hour t.minute (fine _ true e).0
   where
-    go : (x y z : Number) → (present is_day x && present is_hour y && present is_minute z) ≡ true
+    go : (x y z : Option ℕ) → (present is_day x && present is_hour y && present is_minute z) ≡ true
         → (d : ℕ) × (h : ℕ) × (m : ℕ) × Times (record { day = x; hour = y; minute = z }) d h m
-    go number.Missing y z e = absurd (false≢true e)
-    go (number.Is d) number.Missing z e = absurd (false≢true (both (is_day d) false (both (is_day d && false) (present is_minute z) e).0).1)
-    go (number.Is d) (number.Is h) number.Missing e = absurd (false≢true (both (is_day d && is_hour h) false e).1)
-    go (number.Is d) (number.Is h) (number.Is m) e = (d, h, m, (refl, e))
+    go None y z e = absurd (false≢true e)
+    go (Some d) None z e = absurd (false≢true (both (is_day d) false (both (is_day d && false) (present is_minute z) e).0).1)
+    go (Some d) (Some h) None e = absurd (false≢true (both (is_day d && is_hour h) false e).1)
+    go (Some d) (Some h) (Some m) e = (d, h, m, (refl, e))
 
 two-figures : (d h m : ℕ) → (is_day d && is_hour h && is_minute m) ≡ true → (d ≤ 31) × (h ≤ 23) × (m ≤ 59)
 two-figures d h m e =
@@ -101,14 +99,14 @@ two-figures d h m e =
     let s = both (is_day d) (is_hour h) t.0 in
     (leb-true d 31 (both (leb 1 d) (leb d 31) s.0).1, leb-true h 23 s.1, leb-true m 59 t.1)
 
-pub time-shaped : (t : Instant) → judge_time t ≡ judged.Fine → has_pattern (show_time t) time_shape ≡ true
+pub time-shaped : (t : Instant) → judge_time t ≡ Ok tt → has_pattern (show_time t) time_shape ≡ true
 unfolding show_time
 time-shaped t e =
     let x = times t e in
     let few = two-figures x.0 x.1 x.2 x.3.1 in
     rw x.3.0 (laid-shape (field.Number x.0) (field.Number x.1) (field.Number x.2) (omega arith) (omega arith) (omega arith))
 
-pub time-back : (t : Instant) → judge_time t ≡ judged.Fine → read_time (show_time t) ≡ Good t
+pub time-back : (t : Instant) → judge_time t ≡ Ok tt → read_time (show_time t) ≡ Ok t
 unfolding show_time read_time
 time-back t e =
     let x = times t e in

@@ -1,13 +1,13 @@
 -- The head's places: what is written of a word, a station or a time that is judged fine has the place's shape, takes a known room, and is read back as it was.
 -- Assumes nothing.
+use Rattle.std.specs.Prelude.{Ok}
 use Prim.Native.Nat.{ℕ}
 use Prim.Native.String.{String}
 use native.Mathlib.Omega.{arith}
-use mathlib.Core.Path.{◌≡◌, refl, sym}
+use mathlib.Core.Path.{◌≡◌, refl}
 use mathlib.Core.Bool.{Bool, true, false}
 use mathlib.Core.List.{[], ◌∷◌}
 use Rattle.figures.specs.Quote.{bytes}
-use Rattle.text.specs.declared.kinds.Judged.TheVariants as judged
 use Rattle.shapes.specs.Pattern.{low, high, has_pattern}
 use Rattle.places.proofs.ReadBack.{one-pattern}
 use Rattle.places.proofs.Sizes.{measured, sized-any}
@@ -24,7 +24,7 @@ kept_word word ends n true own room =
     keep_one (bytes word) refl own covered (sized-any n (bytes word ∷ []) (bytes word) room covered) (omega arith) refl
 kept_word word ends n false own room = keep-none refl refl refl
 
-pub kept-station : (s acc : Station) → judge_station s ≡ judged.Fine → Kept station_place 4 s acc
+pub kept-station : (s acc : Station) → judge_station s ≡ Ok tt → Kept station_place 4 s acc
 unfolding station_of low high
 kept-station s acc e =
     let t = station-shaped s e in
@@ -32,7 +32,7 @@ kept-station s acc e =
     keep_one s.letters refl t.0 covered (sized-any 4 (station_shape ∷ []) s.letters refl covered) (omega arith)
     (rw (station-whole s.letters t.0, t.1))
 
-pub kept-time : (t acc : Instant) → judge_time t ≡ judged.Fine → Kept time_place 7 t acc
+pub kept-time : (t acc : Instant) → judge_time t ≡ Ok tt → Kept time_place 7 t acc
 unfolding low high
 kept-time t acc e =
     let s = time-shaped t e in

@@ -1,6 +1,7 @@
 -- What the round trip promises of these groups, in document 01's words: each exact field comes back as it was, each rounded number as the reading of
 -- its class, near its value and never above it where the scale rounds down.
 -- Assumes nothing.
+use Rattle.std.specs.Prelude.{None, Option, Some}
 use Prim.Native.Nat.{ℕ}
 use mathlib.Core.Path.{◌≡◌, refl}
 use mathlib.Core.List.{List, [], ◌∷◌, map}
@@ -11,10 +12,6 @@ use Rattle.scales.specs.Rounded.{rounded_pressure}
 use Rattle.scales.proofs.MetresLaws.{runway-laws}
 use Rattle.scales.proofs.DegreesLaws.{DegreesNear, degrees-near}
 use Rattle.scales.proofs.PressureLaws.{PressureNear, pressure-near}
-use Rattle.record.specs.declared.values.Number.{Number}
-use Rattle.record.specs.declared.values.Number.TheVariants as number
-use Rattle.record.specs.declared.values.Tenths.{Tenths}
-use Rattle.record.specs.declared.values.Tenths.TheVariants as tenths
 use Rattle.record.specs.declared.aerodrome.Runway.{Runway}
 use Rattle.record.specs.declared.aerodrome.Runways.{Runways}
 use Rattle.record.specs.declared.aerodrome.Temperatures.{Temperatures}
@@ -26,26 +23,26 @@ use Rattle.aerodrome_groups.specs.Temperatures.{class_tenths, class_temperatures
 -- ---- which number comes back, and how far off
 
 -- a runway range and its reading
-pub range-kept : (x : Number) → NumberDown runway x (class_range x)
+pub range-kept : (x : Option ℕ) → NumberDown runway x (class_range x)
 range-kept = number-down runway-laws
 
 -- a temperature and its reading, which is that of its class
-pub data TenthsKept : Tenths → Tenths → Type 0 where
-  no-tenths : TenthsKept tenths.Missing tenths.Missing
-  near-tenths : {t u : ℤ} → u ≡ rounded_degrees t → DegreesNear t u → TenthsKept (tenths.Is t) (tenths.Is u)
+pub data TenthsKept : Option ℤ → Option ℤ → Type 0 where
+  no-tenths : TenthsKept None None
+  near-tenths : {t u : ℤ} → u ≡ rounded_degrees t → DegreesNear t u → TenthsKept (Some t) (Some u)
 
-pub tenths-kept : (x : Tenths) → TenthsKept x (class_tenths x)
-tenths-kept tenths.Missing = no-tenths
-tenths-kept (tenths.Is t) = near-tenths refl (degrees-near t)
+pub tenths-kept : (x : Option ℤ) → TenthsKept x (class_tenths x)
+tenths-kept None = no-tenths
+tenths-kept (Some t) = near-tenths refl (degrees-near t)
 
 -- Q and its reading, which is that of its class
-pub data PressureKept : Number → Number → Type 0 where
-  no-pressure : PressureKept number.Missing number.Missing
-  near-pressure : {p q : ℕ} → q ≡ rounded_pressure p → PressureNear p q → PressureKept (number.Is p) (number.Is q)
+pub data PressureKept : Option ℕ → Option ℕ → Type 0 where
+  no-pressure : PressureKept None None
+  near-pressure : {p q : ℕ} → q ≡ rounded_pressure p → PressureNear p q → PressureKept (Some p) (Some q)
 
-pub pressure-kept : (x : Number) → PressureKept x (class_pressure x)
-pressure-kept number.Missing = no-pressure
-pressure-kept (number.Is p) = near-pressure refl (pressure-near p)
+pub pressure-kept : (x : Option ℕ) → PressureKept x (class_pressure x)
+pressure-kept None = no-pressure
+pressure-kept (Some p) = near-pressure refl (pressure-near p)
 
 -- ---- the parts of a record that are read back
 

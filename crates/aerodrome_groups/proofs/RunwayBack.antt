@@ -1,5 +1,6 @@
 -- The round trip of a runway's range: what the writer judges fine and writes has its shape, is read back as its class, and the class is written alike.
 -- Assumes nothing.
+use Rattle.std.specs.Prelude.{None, Ok, Option, Some}
 use Prim.Native.Nat.{ℕ, ◌≤◌}
 use native.Mathlib.Omega.{arith}
 use mathlib.Core.Path.{◌≡◌, refl, ap}
@@ -13,17 +14,14 @@ use Rattle.shapes.specs.declared.kinds.Value.{Value}
 use Rattle.shapes.specs.Shape.{leading, split, parts_of, spellings, unled, unled_each, clear, printable, sound, has_shape}
 use Rattle.shapes.proofs.Patterns.{both}
 use Rattle.shapes.proofs.Shapes.{covered}
-use Rattle.places.specs.Engine.{Group, Good}
+use Rattle.places.specs.Engine.{Group}
 use Rattle.scales.specs.declared.kinds.Range.{Range}
 use Rattle.scales.specs.declared.kinds.Range.TheVariants as range
-use Rattle.scales.specs.declared.kinds.Reading.TheVariants as reading
 use Rattle.scales.specs.Scale.{run, figure_of, foot_of}
-use Rattle.scales.specs.Metres.{runway, answered, range_reading}
+use Rattle.scales.specs.Metres.{runway, range_reading}
 use Rattle.scales.proofs.Laws.{figure-such}
 use Rattle.scales.proofs.Answers.{foot-low}
 use Rattle.scales.proofs.MetresLaws.{runway-laws}
-use Rattle.record.specs.declared.values.Number.{Number}
-use Rattle.record.specs.declared.values.Number.TheVariants as number
 use Rattle.record.specs.declared.aerodrome.Side.{Side}
 use Rattle.record.specs.declared.aerodrome.Side.TheVariants as side
 use Rattle.record.specs.declared.aerodrome.Course.{Course}
@@ -51,10 +49,10 @@ four-figures m =
 
 -- ---- what is written can be said by the shape
 
-number-said : (n : Number) → is_runway n ≡ true → SaidAt (bytes "R##" ∷ []) (numbered 0 (field_of n))
+number-said : (n : Option ℕ) → is_runway n ≡ true → SaidAt (bytes "R##" ∷ []) (numbered 0 (field_of n))
 unfolding leading
-number-said number.Missing e = absurd (false≢true e)
-number-said (number.Is n) e = (refl, omega (arith, leb-true n 36 (both (leb 1 n) (leb n 36) e).1))
+number-said None e = absurd (false≢true e)
+number-said (Some n) e = (refl, omega (arith, leb-true n 36 (both (leb 1 n) (leb n 36) e).1))
 
 side-said : (s : Side) → SaidAt (bytes "L" ∷ bytes "C" ∷ bytes "R" ∷ [] ∷ []) (side_value s)
 unfolding leading
@@ -70,20 +68,20 @@ course-said course.Up = (refl, refl)
 course-said course.Down = (refl, refl)
 course-said course.NoChange = (refl, refl)
 
-mark-said : (x : Number) → SaidAt (bytes "M" ∷ bytes "P" ∷ [] ∷ []) (mark_value x)
+mark-said : (x : Option ℕ) → SaidAt (bytes "M" ∷ bytes "P" ∷ [] ∷ []) (mark_value x)
 unfolding leading
-mark-said number.Missing = (refl, refl)
-mark-said (number.Is m) = by (figure_of runway m)
+mark-said None = (refl, refl)
+mark-said (Some m) = by (figure_of runway m)
   where
     by : (r : Range) → SaidAt (bytes "M" ∷ bytes "P" ∷ [] ∷ []) (mark_of r)
     by (range.Below n) = (refl, refl)
     by (range.Exact n) = (refl, refl)
     by (range.Above n) = (refl, refl)
 
-range-said : (x : Number) → SaidAt (bytes "####" ∷ []) (range_value x)
+range-said : (x : Option ℕ) → SaidAt (bytes "####" ∷ []) (range_value x)
 unfolding leading
-range-said number.Missing = (refl, tt)
-range-said (number.Is m) = by (figure_of runway m) (four-figures m)
+range-said None = (refl, tt)
+range-said (Some m) = by (figure_of runway m) (four-figures m)
   where
     by : (r : Range) → number_of r ≤ 9999 → SaidAt (bytes "####" ∷ []) (figures_of r)
     by (range.Below n) h = (refl, omega arith)
@@ -106,11 +104,11 @@ runway-printed w e =
 
 -- ---- what was written is read back
 
-range_back : (x : Number) → read_range (mark_value x) (range_value x) ≡ Good (class_range x)
-range_back number.Missing = refl
-range_back (number.Is m) = by (figure_of runway m) (unfold range_reading in ap answered (runway-laws.reads-back m))
+range_back : (x : Option ℕ) → read_range (mark_value x) (range_value x) ≡ Ok (class_range x)
+range_back None = refl
+range_back (Some m) = by (figure_of runway m) (unfold range_reading in runway-laws.reads-back m)
   where
-    by : (r : Range) → range_reading r ≡ reading.Is (foot_of runway m) → read_range (mark_of r) (figures_of r) ≡ Good (number.Is (foot_of runway m))
+    by : (r : Range) → range_reading r ≡ Some (foot_of runway m) → read_range (mark_of r) (figures_of r) ≡ Ok (Some (foot_of runway m))
     by (range.Below n) e = rw e
     by (range.Exact n) e = rw e
     by (range.Above n) e = rw e
@@ -127,10 +125,10 @@ course-back course.Up = refl
 course-back course.Down = refl
 course-back course.NoChange = refl
 
-values-back : (n : Number) (s : Side) (x : Number) (c : Course) → is_runway n ≡ true
-    → runway_by (numbered 0 (field_of n)) (side_value s) (mark_value x) (range_value x) (course_value c) ≡ Good (record { number = n; side = s; range = class_range x; course = c })
-values-back number.Missing s x c e = absurd (false≢true e)
-values-back (number.Is n) s x c e = rw (e, range_back x, side-back s, course-back c)
+values-back : (n : Option ℕ) (s : Side) (x : Option ℕ) (c : Course) → is_runway n ≡ true
+    → runway_by (numbered 0 (field_of n)) (side_value s) (mark_value x) (range_value x) (course_value c) ≡ Ok (record { number = n; side = s; range = class_range x; course = c })
+values-back None s x c e = absurd (false≢true e)
+values-back (Some n) s x c e = rw (e, range_back x, side-back s, course-back c)
 
 -- a runway that is judged fine
 abbrev pub runway_fits : Runway → Bool
@@ -140,7 +138,7 @@ module _ (w : Runway) (e : runway_fits w ≡ true) where
   pub runway-shaped : Shaped runway_shape (show_runway w)
   runway-shaped = (runway-printed w (both (is_runway w.number) (metres_fit false w.range) e).0).shaped
 
-  pub runway-back : read_runway (show_runway w) ≡ Good (class_runway w)
+  pub runway-back : read_runway (show_runway w) ≡ Ok (class_runway w)
   unfolding read_runway
   runway-back =
       let n = (both (is_runway w.number) (metres_fit false w.range) e).0 in
@@ -152,18 +150,18 @@ module _ (w : Runway) (e : runway_fits w ≡ true) where
       let t = both (is_runway w.number) (metres_fit false w.range) e in
       rw t.0 (by w.range t.1)
     where
-      by : (x : Number) → metres_fit false x ≡ true → metres_fit false (class_range x) ≡ true
-      by number.Missing e = refl
-      by (number.Is m) e = foot-low runway-laws m e
+      by : (x : Option ℕ) → metres_fit false x ≡ true → metres_fit false (class_range x) ≡ true
+      by None e = refl
+      by (Some m) e = foot-low runway-laws m e
 
 pub runway-again : (w : Runway) → show_runway (class_runway w) ≡ show_runway w
 unfolding show_runway
 runway-again w = rw (mark w.range, figures w.range)
   where
-    mark : (x : Number) → mark_value (class_range x) ≡ mark_value x
-    mark number.Missing = refl
-    mark (number.Is m) = ap mark_of (runway-laws.again m)
+    mark : (x : Option ℕ) → mark_value (class_range x) ≡ mark_value x
+    mark None = refl
+    mark (Some m) = ap mark_of (runway-laws.again m)
 
-    figures : (x : Number) → range_value (class_range x) ≡ range_value x
-    figures number.Missing = refl
-    figures (number.Is m) = ap figures_of (runway-laws.again m)
+    figures : (x : Option ℕ) → range_value (class_range x) ≡ range_value x
+    figures None = refl
+    figures (Some m) = ap figures_of (runway-laws.again m)

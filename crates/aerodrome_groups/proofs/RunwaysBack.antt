@@ -1,5 +1,7 @@
 -- The round trip of up to four runway ranges: what is written of those that stand is read back as their classes, and the rest is blank.
 -- Assumes nothing.
+use Rattle.std.specs.Prelude.{Ok, Result}
+use Rattle.text.specs.declared.kinds.Refusal.{Refusal}
 use Prim.Native.Nat.{ℕ, zero, suc, ◌+◌, ◌-◌, ◌≤◌}
 use native.Mathlib.Nat.{add-zero, zero-add, suc-add}
 use native.Mathlib.Omega.{arith}
@@ -10,11 +12,10 @@ use lib.ListN.{length, take, drop, replicate, length-append, length-take, length
 use lib.Seq.{set_at, length-take-le}
 use lib.Dec.{leb}
 use borrow.Author.Tests.{leb-true, le-leb, lt-ltb}
-use Rattle.text.specs.declared.kinds.Judged.TheVariants as judged
 use Rattle.text.specs.Judge.{judge}
 use Rattle.text.proofs.Judging.{fine, and-then}
 use Rattle.shapes.proofs.Patterns.{both}
-use Rattle.places.specs.Engine.{Group, Read, Good}
+use Rattle.places.specs.Engine.{Group}
 use Rattle.places.proofs.Rows.{drop-map}
 use Rattle.places.proofs.ReadBack.{All}
 use Rattle.record.specs.declared.aerodrome.Runway.{Runway}
@@ -30,8 +31,8 @@ use Rattle.aerodrome_groups.proofs.Printed.{Shaped}
 use Rattle.aerodrome_groups.proofs.RunwayBack.{runway_fits, runway-shaped, runway-back, runway-again, runway-classed}
 
 -- groups read one after the other, from where k stand
-abbrev pub add_each : ℕ → List Group → Runways → Read Runways
-add_each k [] rs = Good rs
+abbrev pub add_each : ℕ → List Group → Runways → Result Runways Refusal
+add_each k [] rs = Ok rs
 add_each k (g ∷ gs) rs = then (read_runway g) (λ x. add_each (k + 1) gs (with_runway k rs x))
 
 -- ---- what is judged fine
@@ -40,11 +41,11 @@ abbrev EachFits : List Runway → Type 0
 EachFits [] = Unit {0}
 EachFits (w ∷ ws) = (runway_fits w ≡ true) × EachFits ws
 
-each_fits : (ws : List Runway) → judge_each_runway ws ≡ judged.Fine → EachFits ws
+each_fits : (ws : List Runway) → judge_each_runway ws ≡ Ok tt → EachFits ws
 each_fits [] e = tt
 each_fits (w ∷ ws) e = let t = and-then (judge (runway_fits w) true) (judge_each_runway ws) e in ((fine (runway_fits w) true t.0).0, each_fits ws t.1)
 
-each-fine : (ws : List Runway) → EachFits ws → judge_each_runway ws ≡ judged.Fine
+each-fine : (ws : List Runway) → EachFits ws → judge_each_runway ws ≡ Ok tt
 each-fine [] f = refl
 each-fine (w ∷ ws) f = rw f.0 (each-fine ws f.1)
 
@@ -53,7 +54,7 @@ record RunwaysFit (rs : Runways) : Type 0 where
   past : every is_blank_runway (drop rs.count rs.items) ≡ true
   each : EachFits (take rs.count rs.items)
 
-runways-fit : (rs : Runways) → judge_runways rs ≡ judged.Fine → RunwaysFit rs
+runways-fit : (rs : Runways) → judge_runways rs ≡ Ok tt → RunwaysFit rs
 unfolding judge_runways
 runways-fit rs e =
     let t = and-then (judge (leb rs.count 4 && every is_blank_runway (drop rs.count rs.items)) true) (judge_each_runway (take rs.count rs.items)) e in
@@ -80,11 +81,11 @@ shaped-each : (ws : List Runway) → EachFits ws → All (Shaped runway_shape) (
 shaped-each [] f = tt
 shaped-each (w ∷ ws) f = (runway-shaped w f.0, shaped-each ws f.1)
 
-pub runways-shaped : (rs : Runways) → judge_runways rs ≡ judged.Fine → All (Shaped runway_shape) (show_runways rs)
+pub runways-shaped : (rs : Runways) → judge_runways rs ≡ Ok tt → All (Shaped runway_shape) (show_runways rs)
 unfolding show_runways
 runways-shaped rs e = shaped-each (take rs.count rs.items) (runways-fit rs e).each
 
-pub runways-few : (rs : Runways) → length rs.items ≡ 4 → judge_runways rs ≡ judged.Fine → length (show_runways rs) ≤ 4
+pub runways-few : (rs : Runways) → length rs.items ≡ 4 → judge_runways rs ≡ Ok tt → length (show_runways rs) ≤ 4
 unfolding show_runways
 runways-few rs four e =
     rw (length-map (take rs.count rs.items) show_runway, length-take rs.count rs.items) (omega (arith, (runways-fit rs e).few))
@@ -94,7 +95,7 @@ runways-few rs four e =
 -- runways that fit, read where n are done and the rest is blank
 add_back : (ws done : List Runway) (n rest : ℕ) → EachFits ws → length done ≡ n → n + (length ws + rest) ≡ 4
     → add_each n (map show_runway ws) (record { items = done ++ replicate (length ws + rest) blank_runway; count = n })
-    ≡ Good (record { items = done ++ (map class_runway ws ++ replicate rest blank_runway); count = n + length ws })
+    ≡ Ok (record { items = done ++ (map class_runway ws ++ replicate rest blank_runway); count = n + length ws })
 add_back [] done n rest f len sum = rw (add-zero n, zero-add rest)
 add_back (w ∷ ws) done n rest f len sum =
     let x = class_runway w in
@@ -103,7 +104,7 @@ add_back (w ∷ ws) done n rest f len sum =
     rw (suc-add (length ws) rest, runway-back w f.0, lt-ltb n 4 (omega arith), set_at done blank_runway (replicate (length ws + rest) blank_runway) x n len)
     (rw count at (simp append_assoc at (add_back ws (done ++ (x ∷ [])) (n + 1) rest f.1 next (omega arith))))
 
-module _ (rs : Runways) (four : length rs.items ≡ 4) (e : judge_runways rs ≡ judged.Fine) where
+module _ (rs : Runways) (four : length rs.items ≡ 4) (e : judge_runways rs ≡ Ok tt) where
   past : drop rs.count rs.items ≡ replicate (4 - rs.count) blank_runway
   past = blanks (drop rs.count rs.items) (runways-fit rs e).past ∙ rw (length-drop, four)
 
@@ -113,7 +114,7 @@ module _ (rs : Runways) (four : length rs.items ≡ 4) (e : judge_runways rs ≡
       ∙ map-append class_runway (take rs.count rs.items) (drop rs.count rs.items)
       ∙ rw (past, blanks-classed)
 
-  pub runways-back : add_each 0 (show_runways rs) blank_runways ≡ Good (class_runways rs)
+  pub runways-back : add_each 0 (show_runways rs) blank_runways ≡ Ok (class_runways rs)
   unfolding show_runways
   runways-back =
       let fit = runways-fit rs e in
@@ -140,7 +141,7 @@ classed-each : (ws : List Runway) → EachFits ws → EachFits (map class_runway
 classed-each [] f = tt
 classed-each (w ∷ ws) f = (runway-classed w f.0, classed-each ws f.1)
 
-pub runways-classed : (rs : Runways) → judge_runways rs ≡ judged.Fine → judge_runways (class_runways rs) ≡ judged.Fine
+pub runways-classed : (rs : Runways) → judge_runways rs ≡ Ok tt → judge_runways (class_runways rs) ≡ Ok tt
 unfolding judge_runways
 runways-classed rs e =
     let fit = runways-fit rs e in

@@ -1,18 +1,16 @@
 -- The head's groups: a word that stands or does not (COR, NIL, AUTO, CNL), the station and the time, CCCC and YYGGggZ: "Days 01-31, minutes 00-59,
 -- .. others 00-23". Each is a place of its own, which the rows of METAR and TAF lift.
 -- Assumes nothing: these are definitions.
-use Rattle.std.specs.Prelude.{ℕ, Bool, true, false, cond, ◌&&◌, [], ◌∷◌, ◌++◌, length, take, replicate, leb, eqb}
+use Rattle.std.specs.Prelude.{⊤, ℕ, Bool, true, false, cond, ◌&&◌, [], ◌∷◌, ◌++◌, length, take, replicate, leb, eqb, None, Ok, Option, Result, Some}
+use Rattle.text.specs.declared.kinds.Refusal.{Refusal}
 use Prim.Native.String.{String}
 use Rattle.figures.specs.Quote.{bytes}
 use Rattle.figures.specs.declared.kinds.Field.{Field}
 use Rattle.figures.specs.declared.kinds.Field.TheVariants as field
 use Rattle.figures.specs.Figures.{field_at, field_text, is_letter, every}
-use Rattle.text.specs.declared.kinds.Judged.{Judged}
 use Rattle.text.specs.Judge.{judge}
 use Rattle.shapes.specs.Pattern.{Pattern, has_pattern}
-use Rattle.places.specs.Engine.{Group, Read, Good, Place}
-use Rattle.record.specs.declared.values.Number.{Number}
-use Rattle.record.specs.declared.values.Number.TheVariants as number
+use Rattle.places.specs.Engine.{Group, Place}
 use Rattle.record.specs.declared.aerodrome.Instant.{Instant}
 use Rattle.record.specs.declared.aerodrome.Station.{Station}
 use Rattle.record.specs.Missing.{present}
@@ -37,31 +35,31 @@ is_hour h = leb h 23
 abbrev pub is_minute : ℕ → Bool
 is_minute m = leb m 59
 
-unfoldable pub read_time : Group → Read Instant
+unfoldable pub read_time : Group → Result Instant Refusal
 read_time g =
     figured (field_at g 0 2)
     (λ d. figured (field_at g 2 2)
     (λ h. figured (field_at g 4 2)
-    (λ m. provided (is_day d && is_hour h && is_minute m) (Good (record { day = number.Is d; hour = number.Is h; minute = number.Is m })))))
+    (λ m. provided (is_day d && is_hour h && is_minute m) (Ok (record { day = Some d; hour = Some h; minute = Some m })))))
 
 -- ---- writing
 
-abbrev pub field_of : Number → Field
-field_of number.Missing = field.Missing
-field_of (number.Is n) = field.Number n
+abbrev pub field_of : Option ℕ → Field
+field_of None = field.Missing
+field_of (Some n) = field.Number n
 
 unfoldable pub show_time : Instant → Group
 show_time t = field_text 2 (field_of t.day) ++ field_text 2 (field_of t.hour) ++ field_text 2 (field_of t.minute) ++ bytes "Z"
 
 -- ---- judging: a station has four letters, and a time is there
 
-unfoldable pub judge_station : Station → Judged
+unfoldable pub judge_station : Station → Result ⊤ Refusal
 judge_station s = judge (eqb (length s.letters) 4 && every is_letter s.letters) true
 
 abbrev pub instant_fits : Instant → Bool
 instant_fits t = present is_day t.day && present is_hour t.hour && present is_minute t.minute
 
-unfoldable pub judge_time : Instant → Judged
+unfoldable pub judge_time : Instant → Result ⊤ Refusal
 judge_time t = judge (instant_fits t) true
 
 -- ---- the places
@@ -76,7 +74,7 @@ word_place w ends =
       most = 1;
       must = false;
       ends = ends;
-      read = λ k g x. Good true;
+      read = λ k g x. Ok true;
       show = λ x. cond x (bytes w ∷ []) [];
       put = λ x acc. x;
     }
@@ -90,7 +88,7 @@ station_place =
       most = 1;
       must = true;
       ends = false;
-      read = λ k g s. Good (station_of g);
+      read = λ k g s. Ok (station_of g);
       show = λ s. s.letters ∷ [];
       put = λ s acc. s;
     }

@@ -2,4 +2,3 @@ pub mod Head
 pub mod Runway
 pub mod Temperatures
 pub mod Values
-pub mod Answers

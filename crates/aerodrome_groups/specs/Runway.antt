@@ -1,21 +1,18 @@
 -- Runway visual ranges, up to four.
 -- Assumes nothing: these are definitions.
-use Rattle.std.specs.Prelude.{ℕ, ◌+◌, Bool, true, false, cond, ◌&&◌, List, [], ◌∷◌, map, take, drop, set, leb, ltb, eqb}
+use Rattle.std.specs.Prelude.{⊤, ℕ, ◌+◌, Bool, true, false, cond, ◌&&◌, List, [], ◌∷◌, map, take, drop, set, leb, ltb, eqb, None, Ok, Option, Result, Some}
+use Rattle.text.specs.declared.kinds.Refusal.{Refusal}
 use Rattle.figures.specs.Quote.{bytes}
 use Rattle.figures.specs.Figures.{every}
 use Rattle.figures.specs.declared.kinds.Field.TheVariants as field
-use Rattle.text.specs.declared.kinds.Judged.{Judged}
-use Rattle.text.specs.declared.kinds.Judged.TheVariants as judged
 use Rattle.text.specs.Judge.{judge, and_then}
 use Rattle.shapes.specs.declared.kinds.Value.{Value}
 use Rattle.shapes.specs.Shape.{print_of}
-use Rattle.places.specs.Engine.{Group, Read, Good}
+use Rattle.places.specs.Engine.{Group}
 use Rattle.scales.specs.declared.kinds.Range.{Range}
 use Rattle.scales.specs.declared.kinds.Range.TheVariants as range
 use Rattle.scales.specs.Scale.{figure_of}
 use Rattle.scales.specs.Metres.{runway, range_reading}
-use Rattle.record.specs.declared.values.Number.{Number}
-use Rattle.record.specs.declared.values.Number.TheVariants as number
 use Rattle.record.specs.declared.aerodrome.Side.{Side}
 use Rattle.record.specs.declared.aerodrome.Side.TheVariants as side
 use Rattle.record.specs.declared.aerodrome.Course.{Course}
@@ -45,17 +42,17 @@ abbrev pub range_of : ℕ → ℕ → Range
 range_of k n = cond (eqb k 0) (range.Below n) (cond (eqb k 1) (range.Above n) (range.Exact n))
 
 -- the mark's alternatives are M, P and none
-abbrev pub read_range : Value → Value → Read Number
+abbrev pub read_range : Value → Value → Result (Option ℕ) Refusal
 read_range mark f =
-    may_miss f.field (provided (eqb mark.which 2) (Good number.Missing)) (λ n. used (range_reading (range_of mark.which n)) (λ m. Good (number.Is m)))
+    may_miss f.field (provided (eqb mark.which 2) (Ok None)) (λ n. used (range_reading (range_of mark.which n)) (λ m. Ok (Some m)))
 
-abbrev pub runway_by : Value → Value → Value → Value → Value → Read Runway
+abbrev pub runway_by : Value → Value → Value → Value → Value → Result Runway Refusal
 runway_by n s mark f c =
     figured n.field
     (λ k. provided (leb 1 k && leb k 36)
-    (then (read_range mark f) (λ x. Good (record { number = number.Is k; side = side_of s.which; range = x; course = course_of c.which }))))
+    (then (read_range mark f) (λ x. Ok (record { number = Some k; side = side_of s.which; range = x; course = course_of c.which }))))
 
-unfoldable pub read_runway : Group → Read Runway
+unfoldable pub read_runway : Group → Result Runway Refusal
 read_runway g = runway_by (value_at runway_shape g 0) (value_at runway_shape g 1) (value_at runway_shape g 3) (value_at runway_shape g 4) (value_at runway_shape g 5)
 
 -- one more where k stand; past the fourth there is no room
@@ -87,13 +84,13 @@ figures_of (range.Below n) = numbered 0 (field.Number n)
 figures_of (range.Exact n) = numbered 0 (field.Number n)
 figures_of (range.Above n) = numbered 0 (field.Number n)
 
-abbrev pub mark_value : Number → Value
-mark_value number.Missing = chosen 2
-mark_value (number.Is m) = mark_of (figure_of runway m)
+abbrev pub mark_value : Option ℕ → Value
+mark_value None = chosen 2
+mark_value (Some m) = mark_of (figure_of runway m)
 
-abbrev pub range_value : Number → Value
-range_value number.Missing = numbered 0 field.Missing
-range_value (number.Is m) = figures_of (figure_of runway m)
+abbrev pub range_value : Option ℕ → Value
+range_value None = numbered 0 field.Missing
+range_value (Some m) = figures_of (figure_of runway m)
 
 unfoldable pub show_runway : Runway → Group
 show_runway w =
@@ -105,20 +102,20 @@ show_runways rs = map show_runway (take rs.count rs.items)
 
 -- ---- judging: "a count over its limit, a slot past its count .. that is not blank", then each in turn
 
-abbrev pub is_runway : Number → Bool
+abbrev pub is_runway : Option ℕ → Bool
 is_runway = present (between 1 36)
 
-abbrev pub judge_each_runway : List Runway → Judged
-judge_each_runway [] = judged.Fine
+abbrev pub judge_each_runway : List Runway → Result ⊤ Refusal
+judge_each_runway [] = Ok tt
 judge_each_runway (w ∷ ws) = and_then (judge (is_runway w.number && metres_fit false w.range) true) (judge_each_runway ws)
 
-unfoldable pub judge_runways : Runways → Judged
+unfoldable pub judge_runways : Runways → Result ⊤ Refusal
 judge_runways w =
     and_then (judge (leb w.count 4 && every is_blank_runway (drop w.count w.items)) true) (judge_each_runway (take w.count w.items))
 
 -- ---- what is read back
 
-abbrev pub class_range : Number → Number
+abbrev pub class_range : Option ℕ → Option ℕ
 class_range = class_on runway
 
 abbrev pub class_runway : Runway → Runway

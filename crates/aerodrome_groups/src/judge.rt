@@ -8,11 +8,12 @@ ghost use Rattle.aerodrome_groups.specs.Temperatures.{tenths_fit, judge_temperat
 use elements::judge::metres_fit;
 use figures::is_letter;
 use record::aerodrome::{Instant, Qnh, Runway, Runways, Station, Temperatures};
-use record::values::Tenths;
-use text::judge::{and_then, judge};
-use text::kinds::Judged;
+use record::values::{is_between, is_missing_or_between, is_up_to};
+use text::judge::judge;
+use text::kinds::Refusal;
 
-pub fn judge_station(s: Station) -> Judged
+#[tactic(auto, using(crate::proofs::Judgings::four_letters), unfolding(crate::specs::Head::judge_station))]
+pub fn judge_station(s: Station) -> Result<(), Refusal>
     ensures { result ≡ judge_station s }
 {
     let letters = s.letters;
@@ -25,13 +26,11 @@ pub fn judge_station(s: Station) -> Judged
 pub fn instant_fits(t: Instant) -> bool
     ensures { result ≡ instant_fits t }
 {
-    let day = t.day;
-    let hour = t.hour;
-    let minute = t.minute;
-    day.is_between(1, 31) & hour.is_up_to(23) & minute.is_up_to(59)
+    is_between(t.day, 1, 31) & is_up_to(t.hour, 23) & is_up_to(t.minute, 59)
 }
 
-pub fn judge_time(t: Instant) -> Judged
+#[tactic(auto, unfolding(crate::specs::Head::judge_time))]
+pub fn judge_time(t: Instant) -> Result<(), Refusal>
     ensures { result ≡ judge_time t }
 {
     judge(instant_fits(t), true)
@@ -42,35 +41,24 @@ pub fn judge_time(t: Instant) -> Judged
 fn runway_fits(w: Runway) -> bool
     ensures { result ≡ (is_runway w.number && metres_fit false w.range) }
 {
-    let number = w.number;
-    let range = w.range;
-    number.is_between(1, 36) & metres_fit(false, range)
+    is_between(w.number, 1, 36) & metres_fit(false, w.range)
 }
 
 // The first `count` slots.
-fn judge_each(items: [Runway; 4], count: usize) -> Judged
+fn judge_each(items: [Runway; 4], count: usize) -> Result<(), Refusal>
     requires { count ≤ 4 }
     ensures { result ≡ judge_each_runway (take count items) }
 {
-    let mut i = 0;
-    while i < count {
-        if runway_fits(items[i]) {
-            i += 1;
-        } else {
-            return judge(false, true);
-        }
-    }
-    judge(true, true)
+    judge(items.iter().take(count).all(|w| runway_fits(*w)), true)
 }
 
-pub fn judge_runways(rs: Runways) -> Judged
+#[tactic(auto, unfolding(crate::specs::Runway::judge_runways))]
+pub fn judge_runways(rs: Runways) -> Result<(), Refusal>
     ensures { result ≡ judge_runways rs }
 {
-    let items = rs.items;
-    let count = rs.count;
-    if count <= 4 {
-        let past = judge(rs.is_blank_from(count), true);
-        and_then(past, judge_each(items, count))
+    if rs.count <= 4 {
+        judge(rs.is_blank_from(rs.count), true)?;
+        judge_each(rs.items, rs.count)
     } else {
         judge(false, true)
     }
@@ -78,26 +66,25 @@ pub fn judge_runways(rs: Runways) -> Judged
 
 // ---- temperatures and Q
 
-fn tenths_fit(t: Tenths) -> bool
+fn tenths_fit(t: Option<i32>) -> bool
     ensures { result ≡ tenths_fit t }
 {
     match t {
-        Tenths::Missing => true,
-        Tenths::Is(t) => (-995 <= t) & (t <= 994),
+        None => true,
+        Some(t) => (-995 <= t) & (t <= 994),
     }
 }
 
-pub fn judge_temperatures(t: Temperatures) -> Judged
+#[tactic(auto, unfolding(crate::specs::Temperatures::judge_temperatures))]
+pub fn judge_temperatures(t: Temperatures) -> Result<(), Refusal>
     ensures { result ≡ judge_temperatures t }
 {
-    let air = t.air;
-    let dew = t.dew;
-    judge(tenths_fit(air) & tenths_fit(dew), true)
+    judge(tenths_fit(t.air) & tenths_fit(t.dew), true)
 }
 
-pub fn judge_qnh(q: Qnh) -> Judged
+#[tactic(auto, unfolding(crate::specs::Temperatures::judge_qnh))]
+pub fn judge_qnh(q: Qnh) -> Result<(), Refusal>
     ensures { result ≡ judge_qnh q }
 {
-    let p = q.is;
-    judge(p.is_missing_or_between(0, 99999), true)
+    judge(is_missing_or_between(q.is, 0, 99999), true)
 }

@@ -3,7 +3,6 @@
 ghost use Rattle.std.specs.Prelude.{◌≡◌, ◌++◌, take, replicate};
 ghost use Rattle.shapes.specs.Shape.{has_shape, scan_of};
 ghost use Rattle.elements.specs.Answers.{as_instant, as_runway, as_temperatures, as_qnh};
-ghost use Rattle.aerodrome_groups.specs.Answers.{as_range, as_degrees};
 ghost use Rattle.aerodrome_groups.specs.Head.{station_of, read_time};
 ghost use Rattle.aerodrome_groups.specs.Runway.{runway_shape, side_of, course_of, range_of, read_range, runway_by, read_runway, with_runway};
 ghost use Rattle.aerodrome_groups.specs.Temperatures.{temperatures_shape, read_degrees, temperatures_by, read_temperatures, read_qnh};
@@ -12,9 +11,8 @@ use elements::kinds::Said;
 use figures::kinds::Field;
 use figures::{byte_at, field};
 use record::aerodrome::{Course, Instant, Qnh, Runway, Runways, Side, Station, Temperatures};
-use record::values::{Number, Tenths};
 use scales::degrees::degrees_reading;
-use scales::kinds::{Range, Reading};
+use scales::kinds::Range;
 use scales::metres::runway_reading;
 use scales::pressure::pressure_reading;
 use shapes::kinds::{Scan, Value};
@@ -22,6 +20,7 @@ use shapes::scan::{absent, figures_or, nothing, scanned, word_or};
 use text::kinds::Refusal;
 
 // CCCC: four letters, 0 past the group's end.
+#[tactic(auto, using(crate::proofs::Readings::four_bytes), unfolding(crate::specs::Head::station_of))]
 pub fn station_of(g: &[u8]) -> Station
     ensures { result ≡ station_of g.now }
 {
@@ -30,6 +29,7 @@ pub fn station_of(g: &[u8]) -> Station
 }
 
 // YYGGggZ
+#[tactic(auto, unfolding(crate::specs::Head::read_time))]
 pub fn read_time(g: &[u8]) -> Said
     ensures { result ≡ as_instant (read_time g.now) }
 {
@@ -44,9 +44,9 @@ pub fn read_time(g: &[u8]) -> Said
     };
     if (1 <= day) & (day <= 31) & (hour <= 23) & (minute <= 59) {
         Said::Time(Instant {
-            day: Number::Is(day),
-            hour: Number::Is(hour),
-            minute: Number::Is(minute),
+            day: Some(day),
+            hour: Some(hour),
+            minute: Some(minute),
         })
     } else {
         Said::Refused(Refusal::Figure)
@@ -80,11 +80,11 @@ fn scan_runway(g: &[u8]) -> Scan
     scanned(g, course.past, number, side, stroke, mark, range, course)
 }
 
+#[tactic(auto, unfolding(shapes::specs::Shape::has_shape))]
 pub fn has_runway(g: &[u8]) -> bool
     ensures { result ≡ has_shape runway_shape g.now }
 {
-    let s = scan_runway(g);
-    s.fits
+    scan_runway(g).fits
 }
 
 fn side_of(which: usize) -> Side
@@ -120,71 +120,46 @@ fn range_of(mark: usize, n: u32) -> Range
     }
 }
 
-// A range that may be missing, or the group's refusal.
-#[derive(Clone, Copy)]
-enum RangeRead {
-    Good(Number),
-    Bad(Refusal),
-}
-
-fn read_range(mark: Value, f: Value) -> RangeRead
-    ensures { result ≡ as_range (read_range mark f) }
+fn read_range(mark: Value, f: Value) -> Result<Option<u32>, Refusal>
+    ensures { result ≡ read_range mark f }
 {
-    let which = mark.which;
-    let told = f.field;
-    match told {
+    match f.field {
         Field::Number(n) => {
-            let r = runway_reading(range_of(which, n));
-            match r {
-                Reading::Is(m) => RangeRead::Good(Number::Is(m)),
-                Reading::Unused => RangeRead::Bad(Refusal::Figure),
-            }
+            let metres = runway_reading(range_of(mark.which, n)).ok_or(Refusal::Figure)?;
+            Ok(Some(metres))
         }
-        Field::Missing => {
-            if which == 2 {
-                RangeRead::Good(Number::Missing)
-            } else {
-                RangeRead::Bad(Refusal::Figure)
-            }
-        }
-        Field::Mixed => RangeRead::Bad(Refusal::Figure),
-        Field::Other => RangeRead::Bad(Refusal::Figure),
+        Field::Missing if mark.which == 2 => Ok(None),
+        Field::Missing | Field::Mixed | Field::Other => Err(Refusal::Figure),
     }
 }
 
-fn runway_by(n: Value, s: Value, mark: Value, f: Value, c: Value) -> Said
-    ensures { result ≡ as_runway (runway_by n s mark f c) }
+fn runway_by(n: Value, s: Value, mark: Value, f: Value, c: Value) -> Result<Runway, Refusal>
+    ensures { result ≡ runway_by n s mark f c }
 {
-    let told = n.field;
-    let Field::Number(k) = told else {
-        return Said::Refused(Refusal::Figure);
+    let Field::Number(k) = n.field else {
+        return Err(Refusal::Figure);
     };
     if (1 <= k) & (k <= 36) {
-        let r = read_range(mark, f);
-        match r {
-            RangeRead::Good(range) => {
-                let side = side_of(s.which);
-                let course = course_of(c.which);
-                Said::Runway(Runway {
-                    number: Number::Is(k),
-                    side,
-                    range,
-                    course,
-                })
-            }
-            RangeRead::Bad(refusal) => Said::Refused(refusal),
-        }
+        Ok(Runway {
+            number: Some(k),
+            side: side_of(s.which),
+            range: read_range(mark, f)?,
+            course: course_of(c.which),
+        })
     } else {
-        Said::Refused(Refusal::Figure)
+        Err(Refusal::Figure)
     }
 }
 
+#[tactic(auto, using(crate::proofs::Readings::scanned), unfolding(crate::specs::Runway::read_runway))]
 pub fn read_runway(g: &[u8]) -> Said
     ensures { result ≡ as_runway (read_runway g.now) }
 {
-    let s = scan_runway(g);
-    let values = s.values;
-    runway_by(values[0], values[1], values[3], values[4], values[5])
+    let values = scan_runway(g).values;
+    match runway_by(values[0], values[1], values[3], values[4], values[5]) {
+        Ok(runway) => Said::Runway(runway),
+        Err(refusal) => Said::Refused(refusal),
+    }
 }
 
 // One more runway where k stand; past the fourth there is no room.
@@ -220,88 +195,59 @@ fn scan_temperatures(g: &[u8]) -> Scan
     scanned(g, dew.past, air_sign, air, stroke, dew_sign, dew, none)
 }
 
+#[tactic(auto, unfolding(shapes::specs::Shape::has_shape))]
 pub fn has_temperatures(g: &[u8]) -> bool
     ensures { result ≡ has_shape temperatures_shape g.now }
 {
-    let s = scan_temperatures(g);
-    s.fits
-}
-
-// A temperature that may be missing, or the group's refusal.
-#[derive(Clone, Copy)]
-enum DegreesRead {
-    Good(Tenths),
-    Bad(Refusal),
+    scan_temperatures(g).fits
 }
 
 // M is alternative 0.
-fn read_degrees(mark: Value, f: Value) -> DegreesRead
-    ensures { result ≡ as_degrees (read_degrees mark f) }
+fn read_degrees(mark: Value, f: Value) -> Result<Option<i32>, Refusal>
+    ensures { result ≡ read_degrees mark f }
 {
     let minus = mark.which == 0;
-    let told = f.field;
-    match told {
+    match f.field {
         Field::Number(n) => {
-            let r = degrees_reading(minus, n);
-            match r {
-                scales::kinds::Tenths::Is(t) => DegreesRead::Good(Tenths::Is(t)),
-                scales::kinds::Tenths::Unused => DegreesRead::Bad(Refusal::Figure),
-            }
+            let tenths = degrees_reading(minus, n).ok_or(Refusal::Figure)?;
+            Ok(Some(tenths))
         }
-        Field::Missing => {
-            if minus {
-                DegreesRead::Bad(Refusal::Figure)
-            } else {
-                DegreesRead::Good(Tenths::Missing)
-            }
-        }
-        Field::Mixed => DegreesRead::Bad(Refusal::Figure),
-        Field::Other => DegreesRead::Bad(Refusal::Figure),
+        Field::Missing if !minus => Ok(None),
+        Field::Missing | Field::Mixed | Field::Other => Err(Refusal::Figure),
     }
 }
 
-fn temperatures_by(m: Value, a: Value, n: Value, b: Value) -> Said
-    ensures { result ≡ as_temperatures (temperatures_by m a n b) }
+fn temperatures_by(m: Value, a: Value, n: Value, b: Value) -> Result<Temperatures, Refusal>
+    ensures { result ≡ temperatures_by m a n b }
 {
-    let x = read_degrees(m, a);
-    match x {
-        DegreesRead::Good(air) => {
-            let y = read_degrees(n, b);
-            match y {
-                DegreesRead::Good(dew) => Said::Temperatures(Temperatures { air, dew }),
-                DegreesRead::Bad(refusal) => Said::Refused(refusal),
-            }
-        }
-        DegreesRead::Bad(refusal) => Said::Refused(refusal),
-    }
+    let air = read_degrees(m, a)?;
+    let dew = read_degrees(n, b)?;
+    Ok(Temperatures { air, dew })
 }
 
 // T/Td
+#[tactic(auto, using(crate::proofs::Readings::scanned), unfolding(crate::specs::Temperatures::read_temperatures))]
 pub fn read_temperatures(g: &[u8]) -> Said
     ensures { result ≡ as_temperatures (read_temperatures g.now) }
 {
-    let s = scan_temperatures(g);
-    let values = s.values;
-    temperatures_by(values[0], values[1], values[3], values[4])
+    let values = scan_temperatures(g).values;
+    match temperatures_by(values[0], values[1], values[3], values[4]) {
+        Ok(temperatures) => Said::Temperatures(temperatures),
+        Err(refusal) => Said::Refused(refusal),
+    }
 }
 
 // Q
+#[tactic(auto, unfolding(crate::specs::Temperatures::read_qnh))]
 pub fn read_qnh(g: &[u8]) -> Said
     ensures { result ≡ as_qnh (read_qnh g.now) }
 {
-    let f = field(g, 1, 4);
-    match f {
-        Field::Number(n) => {
-            let r = pressure_reading(n);
-            match r {
-                Reading::Is(p) => Said::Qnh(Qnh { is: Number::Is(p) }),
-                Reading::Unused => Said::Refused(Refusal::Figure),
-            }
-        }
-        Field::Missing => Said::Qnh(Qnh {
-            is: Number::Missing,
-        }),
-        Field::Mixed => Said::Refused(Refusal::Figure),
-        Field::Other => Said::Refused(Refusal::Figure),
+    match field(g, 1, 4) {
+        Field::Number(n) => match pressure_reading(n) {
+            Some(p) => Said::Qnh(Qnh { is: Some(p) }),
+            None => Said::Refused(Refusal::Figure),
+        },
+        Field::Missing => Said::Qnh(Qnh { is: None }),
+        Field::Mixed | Field::Other => Said::Refused(Refusal::Figure),
     }
 }

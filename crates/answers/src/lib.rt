@@ -9,7 +9,7 @@ use record::aerodrome::Edition;
 use report_record::kinds::Report;
 use std::io;
 use std::io::Write;
-use text::kinds::{Refusal, Verdict, Written};
+use text::kinds::{Refusal, Refused};
 
 pub fn say(out: &mut impl Write, s: &[u8]) -> io::Result<()> {
     out.write_all(s)
@@ -27,15 +27,19 @@ pub fn say_refusal(out: &mut impl Write, r: Refusal, place: usize) -> io::Result
 }
 
 // What was written of a record that was read, in a buffer that has room for every canonical text; were it refused, the refusal is said.
-fn say_written(out: &mut impl Write, written: Written, buffer: &[u8]) -> io::Result<()> {
+fn say_written(
+    out: &mut impl Write,
+    written: Result<usize, Refusal>,
+    buffer: &[u8],
+) -> io::Result<()> {
     match written {
-        Written::Count(n) => {
+        Ok(n) => {
             if n <= buffer.len() {
                 say(out, &buffer[..n])?;
             }
             Ok(())
         }
-        Written::Refused(f) => say_refusal(out, f, 0),
+        Err(f) => say_refusal(out, f, 0),
     }
 }
 
@@ -49,8 +53,8 @@ pub fn say_report(out: &mut impl Write, edition: Edition, r: Report) -> io::Resu
 pub fn say_answer_in(out: &mut impl Write, edition: Edition, text: &[u8]) -> io::Result<()> {
     let reading = report::read_in(edition, text);
     match reading.verdict {
-        Verdict::Accepted { rest: _ } => say_report(out, edition, reading.report)?,
-        Verdict::Refused { refusal, place } => say_refusal(out, refusal, place)?,
+        Ok(_) => say_report(out, edition, reading.report)?,
+        Err(Refused { refusal, place }) => say_refusal(out, refusal, place)?,
     }
     say(out, b"\n")
 }

@@ -6,8 +6,7 @@ ghost use Rattle.text.specs.Refusals.{number_of};
 
 use record::aerodrome::Edition;
 use report_record::kinds::Name;
-use scales::kinds::Reading;
-use text::kinds::{Refusal, Verdict, Written};
+use text::kinds::{Refusal, Refused};
 
 // Nothing was refused: 0, and how many.
 fn say(count: usize, number: &mut usize) -> u8
@@ -25,17 +24,17 @@ fn say_refused(refusal: Refusal, place: usize, number: &mut usize) -> u8
     text::refusal_number(refusal)
 }
 
-fn say_verdict(verdict: Verdict, number: &mut usize) -> u8 {
+fn say_verdict(verdict: Result<usize, Refused>, number: &mut usize) -> u8 {
     match verdict {
-        Verdict::Accepted { rest } => say(rest, number),
-        Verdict::Refused { refusal, place } => say_refused(refusal, place, number),
+        Ok(rest) => say(rest, number),
+        Err(Refused { refusal, place }) => say_refused(refusal, place, number),
     }
 }
 
-fn say_written(written: Written, number: &mut usize) -> u8 {
+fn say_written(written: Result<usize, Refusal>, number: &mut usize) -> u8 {
     match written {
-        Written::Count(count) => say(count, number),
-        Written::Refused(refusal) => say_refused(refusal, 0, number),
+        Ok(count) => say(count, number),
+        Err(refusal) => say_refused(refusal, 0, number),
     }
 }
 
@@ -52,8 +51,7 @@ pub fn delgushar_any(text: &[u8], writes: bool, out: &mut [u8], number: &mut usi
     if writes {
         return say_written(report::write(reading.report, out), number);
     }
-    let verdict = reading.verdict;
-    say_verdict(verdict, number)
+    say_verdict(reading.verdict, number)
 }
 
 pub fn delgushar_synop(text: &[u8], writes: bool, out: &mut [u8], number: &mut usize) -> u8 {
@@ -65,8 +63,7 @@ pub fn delgushar_synop(text: &[u8], writes: bool, out: &mut [u8], number: &mut u
     if writes {
         return say_written(synop_write::write::write(reading.report, out), number);
     }
-    let verdict = reading.verdict;
-    say_verdict(verdict, number)
+    say_verdict(reading.verdict, number)
 }
 
 pub fn delgushar_metar(text: &[u8], writes: bool, out: &mut [u8], number: &mut usize) -> u8 {
@@ -78,8 +75,7 @@ pub fn delgushar_metar(text: &[u8], writes: bool, out: &mut [u8], number: &mut u
     if writes {
         return say_written(metar_write::write::write(reading.report, out), number);
     }
-    let verdict = reading.verdict;
-    say_verdict(verdict, number)
+    say_verdict(reading.verdict, number)
 }
 
 pub fn delgushar_taf(text: &[u8], writes: bool, out: &mut [u8], number: &mut usize) -> u8 {
@@ -91,18 +87,14 @@ pub fn delgushar_taf(text: &[u8], writes: bool, out: &mut [u8], number: &mut usi
     if writes {
         return say_written(taf_write::write::write(reading.report, out), number);
     }
-    let verdict = reading.verdict;
-    say_verdict(verdict, number)
+    say_verdict(reading.verdict, number)
 }
 
 // ---- cloud heights
 
 // One code by the rule, answered as the table answers it.
 fn height_by_rule(code: u32) -> u32 {
-    match scales::metres::cloud_reading(code) {
-        Reading::Is(height) => height,
-        Reading::Unused => cloud_table::UNUSED,
-    }
+    scales::metres::cloud_reading(code).unwrap_or(cloud_table::UNUSED)
 }
 
 pub fn delgushar_heights_by_rule(codes: &[u32], heights: &mut [u32]) -> usize {

@@ -1,7 +1,6 @@
 -- An array's length is part of its type: what owning a body tells of its arrays, and owning a list of each.
 -- Assumes nothing.
-use mathlib.Core.List.{List, [], ◌∷◌, map}
-use lib.ListN.{length-map}
+use mathlib.Core.List.{List, [], ◌∷◌}
 use mir.Val.{Val}
 use denote.RattleType.{RattleType}
 use denote.Array.{each as owned}
@@ -20,8 +19,9 @@ body-arrays b us s =
     let s = s.1.1.1.1 in
     record { weathers = s.0.1.1.0.1.0.1; layers = s.1.1.0.1.1.1.0.1.0.1 }
 
-pub each_owned : {A : Type 0} (T : RattleType) (to : A → T.Denot) (P : A → Type 0) → ((x : A) (us : List Val) → shadow (T.own_val (to x) us) → P x)
-    → (xs : List A) (us : List Val) → shadow (owned T.Denot T.own_val (map to xs) us) → Each P xs
-each_owned T to P tells [] us s = tt
-each_owned T to P tells (x ∷ xs) [] s = absurd s
-each_owned T to P tells (x ∷ xs) (u ∷ us) s = (tells x (u ∷ []) s.0, each_owned T to P tells xs us s.1)
+-- owning a list tells of each of its values
+pub each-owned : (T : RattleType) (P : T.Denot → Type 0) → ((x : T.Denot) (us : List Val) → shadow (T.own_val x us) → P x)
+    → (xs : List T.Denot) (us : List Val) → shadow (owned T.Denot T.own_val xs us) → Each P xs
+each-owned T P tells [] us s = tt
+each-owned T P tells (x ∷ xs) [] s = absurd s
+each-owned T P tells (x ∷ xs) (u ∷ us) s = (tells x (u ∷ []) s.0, each-owned T P tells xs us s.1)

@@ -1,5 +1,6 @@
 -- The next group of a text is met as its turn in the row says and as what it says at its place, for any row and any record.
 -- Assumes nothing.
+use Rattle.std.specs.Prelude.{Err, Ok, Result}
 use Prim.Native.Nat.{ℕ, ◌+◌}
 use native.Mathlib.Omega.{arith}
 use mathlib.Core.Path.{◌≡◌, refl, sym, ap, ◌∙◌}
@@ -10,7 +11,7 @@ use Rattle.text.specs.Groups.{part_of}
 use Rattle.text.proofs.Groups.{Follows}
 use Rattle.places.specs.declared.kinds.Turn.{Turn}
 use Rattle.places.specs.declared.kinds.Turn.TheVariants as turn
-use Rattle.places.specs.Engine.{Group, Read, Good, Bad, then, Place, onward, taken}
+use Rattle.places.specs.Engine.{Group, then, Place, onward, taken}
 use Rattle.places.specs.Parts.{step_by}
 use Rattle.places.specs.Turn.{turn_at}
 use Rattle.places.proofs.Loop.{at_most, turn_step, turn-steps, turn-room}
@@ -23,7 +24,7 @@ use Rattle.body.specs.Met.{met_as, Lies, Meets}
 use Rattle.body.proofs.Says.{unless-then}
 
 -- what is refused is so with any record
-unless-all : {R : Type 0} (r : R) (x : Said) → unless_refused x r ≡ then (unless_refused x (tt {0})) (λ u. Good r)
+unless-all : {R : Type 0} (r : R) (x : Said) → unless_refused x r ≡ then (unless_refused x (tt {0})) (λ u. Ok r)
 unless-all r x = unless-then (λ u. r) (tt {0}) x
 
 module _ {R : Type 0} (row : List (Place R)) (halts : Group → Bool) (put : ℕ → Group → Said → R → R) (c k : ℕ) (seen : R → Type 0)
@@ -49,13 +50,13 @@ module _ {R : Type 0} (row : List (Place R)) (halts : Group → Bool) (put : ℕ
       → {m : Met} → m ≡ met_as start (unless_refused x (record { said = x; place = i; count = j; start = start; end = end })) → meets m
   meets-said {i} {j} is few x says-it e = rw (e, unless-all {R = Saying} (record { said = x; place = i; count = j; start = start; end = end }) x) (go (unless_refused x (tt {0})) refl)
     where
-      reads : (v : Read (Unit {0})) → unless_refused x (tt {0}) ≡ v → (r : R) → seen r
-          → step_by row halts c k r (part_of text start end) ≡ taken (onward row i) (j + 1) (then v (λ u. Good (put j (part_of text start end) x r)))
+      reads : (v : Result (Unit {0}) Refusal) → unless_refused x (tt {0}) ≡ v → (r : R) → seen r
+          → step_by row halts c k r (part_of text start end) ≡ taken (onward row i) (j + 1) (then v (λ u. Ok (put j (part_of text start end) x r)))
       reads v is-v r is_seen =
-          let said : unless_refused x (put j (part_of text start end) x r) ≡ then v (λ u. Good (put j (part_of text start end) x r)) =
+          let said : unless_refused x (put j (part_of text start end) x r) ≡ then v (λ u. Ok (put j (part_of text start end) x r)) =
           rw (unless-all (put j (part_of text start end) x r) x, is-v) in
           steps (turn.At i j) is r ∙ ap (taken (onward row i) (j + 1)) (sym (rw cut at (says-it r is_seen)) ∙ said)
 
-      go : (v : Read (Unit {0})) → unless_refused x (tt {0}) ≡ v → meets (met_as start (then v (λ u. Good (record { said = x; place = i; count = j; start = start; end = end }))))
-      go (Good u) is-v = (lies, turn-room row halts c k g 4 few turns is, reads (Good u) is-v)
-      go (Bad f) is-v = (end, lies, reads (Bad f) is-v)
+      go : (v : Result (Unit {0}) Refusal) → unless_refused x (tt {0}) ≡ v → meets (met_as start (then v (λ u. Ok (record { said = x; place = i; count = j; start = start; end = end }))))
+      go (Ok u) is-v = (lies, turn-room row halts c k g 4 few turns is, reads (Ok u) is-v)
+      go (Err f) is-v = (end, lies, reads (Err f) is-v)

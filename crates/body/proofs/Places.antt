@@ -1,23 +1,24 @@
 -- The body's places one by one: what is written at each of a body that is judged fine has the place's shape, takes a known room, and is read back as what is
 -- put. Proved once, for METAR and SPECI, for a TAF's main part and for its changes.
 -- Assumes nothing.
+use Rattle.std.specs.Prelude.{⊤, Err, Ok, Result}
+use Rattle.text.specs.declared.kinds.Refusal.{Refusal}
 use Prim.Native.Nat.{ℕ, ◌+◌}
 use native.Mathlib.Omega.{arith}
 use mathlib.Core.Path.{◌≡◌, refl, sym, ap, ◌∙◌}
-use mathlib.Core.Bool.{Bool, true, false, not, cond, ◌&&◌, ◌||◌, or-false, or-true, and-true, false≢true}
+use mathlib.Core.Bool.{Bool, true, false, not, cond, ◌&&◌, ◌||◌, or-false, or-true, false≢true}
 use mathlib.Core.List.{List, [], ◌∷◌, ◌++◌}
 use lib.ListN.{length, take}
 use borrow.Author.Tests.{not-true}
 use Rattle.figures.specs.Quote.{bytes}
-use Rattle.text.specs.declared.kinds.Judged.{Judged}
-use Rattle.text.specs.declared.kinds.Judged.TheVariants as judged
 use Rattle.text.specs.Judge.{judge}
 use Rattle.text.proofs.Judging.{fine}
 use Rattle.figures.proofs.Impossible.{impossible}
 use Rattle.shapes.specs.Pattern.{low, high, fits, has_pattern, has_any, clash, clash_each, all_apart}
 use Rattle.shapes.specs.Shape.{leading, split, parts_of, spellings}
 use Rattle.shapes.proofs.Patterns.{both, or_right, neither, all-excluded}
-use Rattle.places.specs.Engine.{Group, Read, Good, Bad, Place}
+use Rattle.record.specs.Missing.{is_missing}
+use Rattle.places.specs.Engine.{Group, Place}
 use Rattle.places.proofs.ReadBack.{All, chain, fill}
 use Rattle.places.proofs.Sizes.{Sized, measured, sized-any, sized-each}
 use Rattle.places.proofs.Kept.{Kept, keep_one, keep-none, keep-each}
@@ -28,7 +29,7 @@ use Rattle.record.specs.declared.aerodrome.Weathers.{Weathers}
 use Rattle.record.specs.declared.aerodrome.Sky.{Sky}
 use Rattle.record.specs.declared.aerodrome.Body.{Body}
 use Rattle.record.specs.Body.{set_wind, set_visibility, set_weathers, set_nsw, set_sky, blank_wind, blank_visibility, blank_weather, blank_weathers, blank_sky}
-use Rattle.record.specs.SilentAerodrome.{is_blank_wind, no_view, no_phenomena}
+use Rattle.record.specs.SilentAerodrome.{is_blank_wind, no_view}
 use Rattle.record.proofs.AerodromeBlanks.{wind-blank, visibility-blank}
 use Rattle.elements.specs.Parts.{then}
 use Rattle.elements.specs.Wind.{wind_shape, show_wind, judge_wind, class_wind}
@@ -62,21 +63,21 @@ left_out_lem t l z e = go t.forecast refl
     go false q = absurd (false≢true (sym l.heard ∙ (rw q at e)))
 
 -- what is not left out is judged
-pub stands-judged : (t : Terms) → Live t → (z : Bool) (j : Judged) → left_out t z ≡ false → unless_absent t z j ≡ judged.Fine → j ≡ judged.Fine
+pub stands-judged : (t : Terms) → Live t → (z : Bool) (j : Result ⊤ Refusal) → left_out t z ≡ false → unless_absent t z j ≡ Ok tt → j ≡ Ok tt
 stands-judged t l false j o e = go t.required e
   where
-    go : (r : Bool) → cond (not r && false) judged.Fine j ≡ judged.Fine → j ≡ judged.Fine
+    go : (r : Bool) → cond (not r && false) (Ok tt) j ≡ Ok tt → j ≡ Ok tt
     go true e = e
     go false e = e
 stands-judged t l true j o e = go t.forecast t.required refl refl
   where
-    go : (f r : Bool) → t.forecast ≡ f → t.required ≡ r → j ≡ judged.Fine
+    go : (f r : Bool) → t.forecast ≡ f → t.required ≡ r → j ≡ Ok tt
     go true r p q = absurd (false≢true (sym (rw p at o)))
     go false true p q = rw q at e
     go false false p q = absurd (false≢true (rw (p, q) at l.stands))
 
 -- what is absent where it would not be judged fine need not stand
-absent-free : (t : Terms) (j : Judged) → unless_absent t true j ≡ judged.Fine → (j ≡ judged.Fine → ⊥) → t.required ≡ false
+absent-free : (t : Terms) (j : Result ⊤ Refusal) → unless_absent t true j ≡ Ok tt → (j ≡ Ok tt → ⊥) → t.required ≡ false
 absent-free t j e wrong = go t.required refl
   where
     go : (r : Bool) → t.required ≡ r → t.required ≡ false
@@ -95,11 +96,11 @@ sky-measured = refl
 
 -- ---- wind and visibility, which a change group may leave out
 
-blank-wind-wrong : judge_wind true blank_wind ≡ judged.Fine → ⊥
+blank-wind-wrong : judge_wind true blank_wind ≡ Ok tt → ⊥
 unfolding judge_wind
 blank-wind-wrong e = impossible (cc)
 
-blank-view-wrong : judge_visibility true blank_visibility ≡ judged.Fine → ⊥
+blank-view-wrong : judge_visibility true blank_visibility ≡ Ok tt → ⊥
 unfolding judge_visibility
 blank-view-wrong e = impossible (cc)
 
@@ -119,7 +120,7 @@ set-sky : (x : Sky) (acc : Body) → acc.sky ≡ x → set_sky x acc ≡ acc
 set-sky x acc e = rw (← e)
 
 module _ (t : Terms) (l : Live t) (b acc : Body) where
-  pub kept-wind : acc.wind ≡ blank_wind → wind_judged t b ≡ judged.Fine → Kept (wind_place t) 15 b acc
+  pub kept-wind : acc.wind ≡ blank_wind → wind_judged t b ≡ Ok tt → Kept (wind_place t) 15 b acc
   kept-wind bare e = go (left_out t (is_blank_wind b.wind)) refl
     where
       go : (o : Bool) → left_out t (is_blank_wind b.wind) ≡ o → Kept (wind_place t) 15 b acc
@@ -134,7 +135,7 @@ module _ (t : Terms) (l : Live t) (b acc : Body) where
           keep_one (show_wind b.wind) (rw o) s.0 s.1 (sized-any 15 (spellings (parts_of wind_shape)) (show_wind b.wind) wind-measured s.1) (omega arith)
           (rw (wind-back t.forecast b.wind j))
 
-  pub kept-visibility : acc.visibility ≡ blank_visibility → visibility_judged t b ≡ judged.Fine → Kept (visibility_place t) 5 b acc
+  pub kept-visibility : acc.visibility ≡ blank_visibility → visibility_judged t b ≡ Ok tt → Kept (visibility_place t) 5 b acc
   unfolding low high
   kept-visibility bare e = go (left_out t (no_view b.visibility.is)) refl
     where
@@ -153,8 +154,8 @@ module _ (t : Terms) (l : Live t) (b acc : Body) where
 -- ---- clouds
 
 module _ (t : Terms) (b acc : Body) (bare : acc.sky ≡ blank_sky) (seen : is_cavok acc.visibility ≡ is_cavok b.visibility) (four : length b.sky.layers ≡ 4)
-    (e : sky_judged t b ≡ judged.Fine) where
-  sky-filled : fill (sky_place t) 0 (show_sky b.sky) acc ≡ Good (set_sky (class_sky b.sky) acc)
+    (e : sky_judged t b ≡ Ok tt) where
+  sky-filled : fill (sky_place t) 0 (show_sky b.sky) acc ≡ Ok (set_sky (class_sky b.sky) acc)
   sky-filled =
       ap (fill (sky_place t) 0 (show_sky b.sky)) (sym (set-sky blank_sky acc bare))
       ∙ filled (sky_place t) set_sky acc (read_sky t.forecast (is_cavok acc.visibility)) (add_sky t.forecast (is_cavok acc.visibility))
@@ -181,28 +182,28 @@ unfolding has_any
 with-nsw ps g h = or_right (has_pattern g (bytes "NSW")) (has_any ps g) h
 
 -- weather is judged beside CAVOK and NSW, so that none stands there
-beside-free : (forecast automatic beside : Bool) (x : Weather) → judge_weather forecast automatic beside x ≡ judged.Fine → not beside ≡ true
+beside-free : (forecast automatic beside : Bool) (x : Weather) → judge_weather forecast automatic beside x ≡ Ok tt → not beside ≡ true
 unfolding judge_weather
 beside-free forecast automatic beside x h =
     (both (not beside) (automatic || not (has_unknown x.is))
-    (fine (phenomena_fit x.is || (not forecast && no_phenomena x.is)) (not beside && (automatic || not (has_unknown x.is))) h).1).0
+    (fine (phenomena_fit x.is || (not forecast && is_missing x.is)) (not beside && (automatic || not (has_unknown x.is))) h).1).0
 
-module _ (forecast automatic : Bool) (ws : Weathers) (three : length ws.items ≡ 3) (e : judge_weathers (judge_weather forecast automatic true) ws ≡ judged.Fine) where
-  abbrev beside : Weather → Judged
+module _ (forecast automatic : Bool) (ws : Weathers) (three : length ws.items ≡ 3) (e : judge_weathers (judge_weather forecast automatic true) ws ≡ Ok tt) where
+  abbrev beside : Weather → Result ⊤ Refusal
   beside = judge_weather forecast automatic true
 
   none_beside : (show_weathers ws ≡ []) × (ws ≡ blank_weathers)
   unfolding show_weathers
   none_beside =
       let none = empty (take ws.count ws.items) (weathers-each beside ws e) in
-      let back = weathers-back ws three (λ g. Good blank_weather) show_weather beside (λ x h. absurd (false≢true (beside-free forecast automatic true x h))) e in
+      let back = weathers-back ws three (λ g. Ok blank_weather) show_weather beside (λ x h. absurd (false≢true (beside-free forecast automatic true x h))) e in
       (rw none, good (rw none at back))
     where
       empty : (l : List Weather) → EachFine beside l → l ≡ []
       empty [] a = refl
       empty (x ∷ l) a = absurd (false≢true (beside-free forecast automatic true x a.0))
 
-      good : {x : Weathers} → Good blank_weathers ≡ Good x → x ≡ blank_weathers
+      good : {x : Weathers} → ◌≡◌ {A = Result Weathers Refusal} (Ok blank_weathers) (Ok x) → x ≡ blank_weathers
       good e = cc
 
 -- a place whose groups are read alike reads them alike
@@ -210,19 +211,19 @@ fill-same : (p q : Place Body) (gs : List Group) → All (λ g. (k : ℕ) (b : B
 fill-same p q [] a k acc = refl
 fill-same p q (g ∷ gs) a k acc = rw (a.0 k acc) (go (λ b. fill-same p q gs a.1 _ b) (q.read k g acc))
   where
-    go : ((b : Body) → fill p (k + 1) gs b ≡ fill q (k + 1) gs b) → (x : Read Body) → chain x (fill p (k + 1) gs) ≡ chain x (fill q (k + 1) gs)
-    go rest (Good b) = rest b
-    go rest (Bad f) = refl
+    go : ((b : Body) → fill p (k + 1) gs b ≡ fill q (k + 1) gs b) → (x : Result Body Refusal) → chain x (fill p (k + 1) gs) ≡ chain x (fill q (k + 1) gs)
+    go rest (Ok b) = rest b
+    go rest (Err f) = refl
 
 module _ (t : Terms) (b acc : Body) (bare : acc.weathers ≡ blank_weathers) (off : acc.nsw ≡ false)
     (seen : is_cavok acc.visibility ≡ is_cavok b.visibility) (three : length b.weathers.items ≡ 3) where
   abbrev stood : Bool
   stood = is_cavok b.visibility || b.nsw
 
-  abbrev test : Weather → Judged
+  abbrev test : Weather → Result ⊤ Refusal
   test = judge_weather t.forecast t.automatic stood
 
-  abbrev reads_beside : Group → Read Weather
+  abbrev reads_beside : Group → Result Weather Refusal
   reads_beside g = beside_others acc (read_weather t.forecast t.automatic g)
 
   -- the place as it reads weather alone
@@ -235,22 +236,22 @@ module _ (t : Terms) (b acc : Body) (bare : acc.weathers ≡ blank_weathers) (of
         most = 3;
         must = false;
         ends = false;
-        read = λ k g b. then (beside_others b (read_weather t.forecast t.automatic g)) (λ x. Good (set_weathers (with_weather k b.weathers x) b));
+        read = λ k g b. then (beside_others b (read_weather t.forecast t.automatic g)) (λ x. Ok (set_weathers (with_weather k b.weathers x) b));
         show = show_weather_or_nsw;
         put = λ b acc. acc;
       }
 
   -- of the body only the visibility and NSW count
-  beside_same : (ws : Weathers) (x : Read Weather) → beside_others (set_weathers ws acc) x ≡ beside_others acc x
-  beside_same ws (Good x) = refl
-  beside_same ws (Bad f) = refl
+  beside_same : (ws : Weathers) (x : Result Weather Refusal) → beside_others (set_weathers ws acc) x ≡ beside_others acc x
+  beside_same ws (Ok x) = refl
+  beside_same ws (Err f) = refl
 
-  weather-read : (x : Weather) → test x ≡ judged.Fine → reads_beside (show_weather x) ≡ Good x
+  weather-read : (x : Weather) → test x ≡ Ok tt → reads_beside (show_weather x) ≡ Ok x
   weather-read x h =
       let free = neither (is_cavok b.visibility) b.nsw (beside-free t.forecast t.automatic stood x h) in
       rw (weather-back t.forecast t.automatic stood x h, seen, free.0, off)
 
-  weathers-filled : judge_weathers test b.weathers ≡ judged.Fine → fill (weather_place t) 0 (show_weathers b.weathers) acc ≡ Good (set_weathers b.weathers acc)
+  weathers-filled : judge_weathers test b.weathers ≡ Ok tt → fill (weather_place t) 0 (show_weathers b.weathers) acc ≡ Ok (set_weathers b.weathers acc)
   unfolding show_weathers read_weather_or_nsw
   weathers-filled e =
       fill-same (weather_place t) alone (show_weathers b.weathers)
@@ -261,7 +262,7 @@ module _ (t : Terms) (b acc : Body) (bare : acc.weathers ≡ blank_weathers) (of
       (λ k g ws. rw (beside_same ws (read_weather t.forecast t.automatic g))) (λ k ws. refl) (λ k g gs ws. refl)
       (show_weathers b.weathers) blank_weathers b.weathers (weathers-back b.weathers three reads_beside show_weather test weather-read e)
 
-  kept-weathers : b.nsw ≡ false → judge_weathers test b.weathers ≡ judged.Fine → Kept (weather_place t) 9 b acc
+  kept-weathers : b.nsw ≡ false → judge_weathers test b.weathers ≡ Ok tt → Kept (weather_place t) 9 b acc
   unfolding show_weathers
   kept-weathers none e =
       keep-each refl
@@ -273,26 +274,26 @@ module _ (t : Terms) (b acc : Body) (bare : acc.weathers ≡ blank_weathers) (of
       (weathers-all show_weather test b.weathers e (Sized 9)
       (λ x h. let z = weather-sized t.forecast t.automatic stood x h in record { whole = z.0; allow = z.1; short = z.2 })))
       (rw none (weathers-three show_weather test b.weathers e three))
-      (rw none (weathers-filled e ∙ ap Good (sym (set-nsw false (set_weathers b.weathers acc) off))))
+      (rw none (weathers-filled e ∙ ap Ok (sym (set-nsw false (set_weathers b.weathers acc) off))))
 
-  kept-nsw : b.nsw ≡ true → t.may_nsw ≡ true → is_cavok b.visibility ≡ false → judge_weathers (judge_weather t.forecast t.automatic true) b.weathers ≡ judged.Fine
+  kept-nsw : b.nsw ≡ true → t.may_nsw ≡ true → is_cavok b.visibility ≡ false → judge_weathers (judge_weather t.forecast t.automatic true) b.weathers ≡ Ok tt
       → Kept (weather_place t) 9 b acc
   unfolding read_weather_or_nsw has_any has_pattern fits low high
   kept-nsw is may sky e =
       let none = none_beside t.forecast t.automatic b.weathers three e in
       keep_one (bytes "NSW") (rw (is, none.0)) refl refl (sized-any 9 (bytes "NSW" ∷ []) (bytes "NSW") refl refl) (omega arith)
-      (rw (may, seen, sky, is, none.1) (ap (λ (q : Body). Good (set_nsw true q)) (sym (set-weathers blank_weathers acc bare))))
+      (rw (may, seen, sky, is, none.1) (ap (λ (q : Body). Ok (set_nsw true q)) (sym (set-weathers blank_weathers acc bare))))
 
   -- what is judged of it
-  weather-judged : weather_judged t b ≡ judged.Fine → (nsw_agrees t b ≡ true) × (judge_weathers test b.weathers ≡ judged.Fine)
+  weather-judged : weather_judged t b ≡ Ok tt → (nsw_agrees t b ≡ true) × (judge_weathers test b.weathers ≡ Ok tt)
   weather-judged e = go (nsw_agrees t b) e
     where
-      go : (u : Bool) → cond u (judge_weathers test b.weathers) (judge (three_fit b.weathers) false) ≡ judged.Fine
-          → (u ≡ true) × (judge_weathers test b.weathers ≡ judged.Fine)
+      go : (u : Bool) → cond u (judge_weathers test b.weathers) (judge (three_fit b.weathers) false) ≡ Ok tt
+          → (u ≡ true) × (judge_weathers test b.weathers ≡ Ok tt)
       go true e = (refl, e)
       go false e = absurd (false≢true (fine (three_fit b.weathers) false e).1)
 
-  pub kept-weather : weather_judged t b ≡ judged.Fine → Kept (weather_place t) 9 b acc
+  pub kept-weather : weather_judged t b ≡ Ok tt → Kept (weather_place t) 9 b acc
   kept-weather e = go b.nsw refl
     where
       go : (n : Bool) → b.nsw ≡ n → Kept (weather_place t) 9 b acc

@@ -1,9 +1,9 @@
 -- What the round trip promises of a body, in document 01's words: each exact field comes back as it was, each rounded number as the reading of its class,
 -- near its value and never above it where the scale rounds down.
 -- Assumes nothing.
+use Rattle.std.specs.Prelude.{Ok}
 use mathlib.Core.Path.{◌≡◌, refl}
 use mathlib.Core.Bool.{Bool, true, false}
-use Rattle.text.specs.declared.kinds.Judged.TheVariants as judged
 use Rattle.text.proofs.Judging.{fine}
 use Rattle.record.specs.declared.aerodrome.Body.{Body}
 use Rattle.record.specs.Body.{blank_wind, blank_body}
@@ -34,14 +34,14 @@ no-wind = record { direction = no-direction; speed = no-speed; gust = no-speed; 
 
 -- a wind and a visibility that are judged fine, or not there
 module _ (t : Terms) (l : Live t) (b : Body) where
-  wind-kept : wind_judged t b ≡ judged.Fine → WindNear b.wind (class_wind b.wind)
+  wind-kept : wind_judged t b ≡ Ok tt → WindNear b.wind (class_wind b.wind)
   wind-kept e = go (left_out t (is_blank_wind b.wind)) refl
     where
       go : (o : Bool) → left_out t (is_blank_wind b.wind) ≡ o → WindNear b.wind (class_wind b.wind)
       go true o = rw (wind-blank b.wind (left_out_lem t l (is_blank_wind b.wind) o).1) no-wind
       go false o = wind-near t.forecast b.wind (stands-judged t l (is_blank_wind b.wind) (judge_wind t.forecast b.wind) o e)
 
-  view-kept : visibility_judged t b ≡ judged.Fine → ViewRead b.visibility.is (class_view b.visibility.is)
+  view-kept : visibility_judged t b ≡ Ok tt → ViewRead b.visibility.is (class_view b.visibility.is)
   unfolding judge_visibility
   view-kept e = go (left_out t (no_view b.visibility.is)) refl
     where

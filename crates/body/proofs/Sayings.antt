@@ -1,5 +1,6 @@
 -- A list of changes as parts of a report: what is known of one change, wherever it stands in the list, is known of all of them.
 -- Assumes nothing.
+use Rattle.std.specs.Prelude.{None}
 use Prim.Native.Nat.{ℕ, ◌+◌, ◌≤◌, ◌<◌}
 use native.Mathlib.Omega.{arith}
 use native.Mathlib.Nat.{zero-add, add-zero}
@@ -10,7 +11,6 @@ use mathlib.Core.List.{List, [], ◌∷◌, ◌++◌, map, append_assoc}
 use lib.ListN.{length, take, drop, set, replicate, length-map, length-replicate}
 use lib.Seq.{sets, sets-eq}
 use Rattle.figures.proofs.Impossible.{impossible}
-use Rattle.text.specs.declared.kinds.Tail.TheVariants.{Clear}
 use Rattle.text.specs.Groups.{Piece}
 use Rattle.shapes.specs.Pattern.{Pattern, has_any}
 use Rattle.places.specs.Engine.{Group, Done, written, put_all}
@@ -105,7 +105,7 @@ module _ {T P W : Type 0} (parts : Parts T P W) where
   -- THE REPORT IS READ BACK, from any pieces that hold its main part and what is said after it.
   pub report-said : {M : Type 0} {u : T} {hs : List Group} {xs : List (Saying P W)} (main : Part T P W M) (m acc : M) (end n : ℕ) (gs : List Piece)
       → KeptPart main m acc → Last parts main m xs → Said main.halts main.word (main.takes (put_all main.row m acc)) u hs xs → length xs ≤ n
-      → groups_of gs ≡ written main.row m ++ hs → report_of Clear end parts n main acc gs ≡ Done end u
+      → groups_of gs ≡ written main.row m ++ hs → report_of None end parts n main acc gs ≡ Done end u
   report-said {xs = xs} main m acc end n gs kept last said few are =
       report-back parts xs end n main m acc gs kept last said.kept said.last few (are ∙ ap (λ (l : List Group). written main.row m ++ l) said.groups)
       ∙ ap (Done end) said.back

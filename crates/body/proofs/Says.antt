@@ -1,5 +1,7 @@
 -- What a group says, put into the body, is what the place's reading makes of the body.
 -- Assumes nothing.
+use Rattle.std.specs.Prelude.{Err, Ok, Result}
+use Rattle.text.specs.declared.kinds.Refusal.{Refusal}
 use Prim.Native.Nat.{ℕ, ◌≤◌}
 use mathlib.Core.Path.{◌≡◌, refl, sym, ap, ◌∙◌}
 use mathlib.Core.Bool.{Bool, true, false, cond, not, ◌&&◌, ◌||◌}
@@ -12,7 +14,7 @@ use Rattle.figures.specs.Quote.{bytes}
 use Rattle.text.specs.declared.kinds.Refusal.TheVariants as refusal
 use Rattle.shapes.specs.Pattern.{has_pattern}
 use Rattle.shapes.specs.Shape.{has_shape}
-use Rattle.places.specs.Engine.{Group, Read, Good, Bad, Place, nowhere, place_at}
+use Rattle.places.specs.Engine.{Group, Place, nowhere, place_at}
 use Rattle.record.specs.declared.aerodrome.Weather.{Weather}
 use Rattle.record.specs.declared.aerodrome.Layer.{Layer}
 use Rattle.record.specs.declared.aerodrome.Cover.{Cover}
@@ -34,26 +36,26 @@ use Rattle.elements.proofs.Answers.{said_put}
 use Rattle.body.specs.Said.{unless_refused, put_said, with_said, weather_said, is_of_body, Says, SaysAt}
 use Rattle.body.proofs.Variants.{each, by-tag, never}
 
-own-as : {A : Type 0} (makes : A → Said) → ((a : A) → is_of_body (makes a) ≡ true) → (x : Read A) → is_of_body (as_said makes x) ≡ true
-own-as makes own (Good a) = own a
-own-as makes own (Bad f) = refl
+own-as : {A : Type 0} (makes : A → Said) → ((a : A) → is_of_body (makes a) ≡ true) → (x : Result A Refusal) → is_of_body (as_said makes x) ≡ true
+own-as makes own (Ok a) = own a
+own-as makes own (Err f) = refl
 
 own-unless : (agrees : Bool) (x : Said) → is_of_body x ≡ true → is_of_body (unless_wrong agrees x) ≡ true
 own-unless true x own = own
 own-unless false x own = refl
 
-own-weather : (beside : Bool) (x : Read Weather) → is_of_body (weather_said beside x) ≡ true
-own-weather true (Good w) = refl
-own-weather false (Good w) = refl
-own-weather beside (Bad f) = refl
+own-weather : (beside : Bool) (x : Result Weather Refusal) → is_of_body (weather_said beside x) ≡ true
+own-weather true (Ok w) = refl
+own-weather false (Ok w) = refl
+own-weather beside (Err f) = refl
 
-own-layer : (cavok : Bool) (k : ℕ) (s : Sky) (x : Read Layer) → is_of_body (layer_said cavok k s x) ≡ true
-own-layer cavok k s (Good l) = own-unless (not cavok && is_layers s.cover && rises (take k s.layers) l.height) (said.Layer l) refl
-own-layer cavok k s (Bad f) = refl
+own-layer : (cavok : Bool) (k : ℕ) (s : Sky) (x : Result Layer Refusal) → is_of_body (layer_said cavok k s x) ≡ true
+own-layer cavok k s (Ok l) = own-unless (not cavok && is_layers s.cover && rises (take k s.layers) l.height) (said.Layer l) refl
+own-layer cavok k s (Err f) = refl
 
-own_alone : (cavok : Bool) (k : ℕ) (x : Read Cover) → is_of_body (alone_said cavok k x) ≡ true
-own_alone cavok k (Good c) = own-unless (not cavok && eqb k 0) (said.Cover c) refl
-own_alone cavok k (Bad f) = refl
+own_alone : (cavok : Bool) (k : ℕ) (x : Result Cover Refusal) → is_of_body (alone_said cavok k x) ≡ true
+own_alone cavok k (Ok c) = own-unless (not cavok && eqb k 0) (said.Cover c) refl
+own_alone cavok k (Err f) = refl
 
 module _ (forecast may automatic : Bool) (k : ℕ) (g : Group) (b : Body) where
   pub says-wind : Says forecast may automatic 0 k g b (as_wind (read_wind forecast g))
@@ -73,19 +75,19 @@ module _ (forecast may automatic : Bool) (k : ℕ) (g : Group) (b : Body) where
       }
 
   -- NSW, or weather
-  nsw-said : (agrees : Bool) → with_said k (unless_wrong agrees said.Nsw) b ≡ agreeing agrees (Good (set_nsw true b))
+  nsw-said : (agrees : Bool) → with_said k (unless_wrong agrees said.Nsw) b ≡ agreeing agrees (Ok (set_nsw true b))
   unfolding put_said
   nsw-said true = refl
   nsw-said false = refl
 
-  weather-said : (x : Read Weather) → with_said k (weather_said (is_cavok b.visibility || b.nsw) x) b
-      ≡ then (beside_others b x) (λ w. Good (set_weathers (with_weather k b.weathers w) b))
+  weather-said : (x : Result Weather Refusal) → with_said k (weather_said (is_cavok b.visibility || b.nsw) x) b
+      ≡ then (beside_others b x) (λ w. Ok (set_weathers (with_weather k b.weathers w) b))
   unfolding put_said
-  weather-said (Bad f) = refl
-  weather-said (Good w) = go (is_cavok b.visibility) b.nsw
+  weather-said (Err f) = refl
+  weather-said (Ok w) = go (is_cavok b.visibility) b.nsw
     where
       go : (c n : Bool) → with_said k (cond (c || n) (said.Refused refusal.Disagreement) (said.Weather w)) b
-          ≡ then (agreeing (not c && not n) (Good w)) (λ w. Good (set_weathers (with_weather k b.weathers w) b))
+          ≡ then (agreeing (not c && not n) (Ok w)) (λ w. Ok (set_weathers (with_weather k b.weathers w) b))
       go true n = refl
       go false true = refl
       go false false = refl
@@ -110,24 +112,24 @@ module _ (forecast may automatic : Bool) (k : ℕ) (g : Group) (b : Body) where
       }
 
   -- clouds
-  layer-said : (x : Read Layer) → with_said k (layer_said (is_cavok b.visibility) k b.sky x) b
-      ≡ then (then x (with_layer (is_cavok b.visibility) k b.sky)) (λ s. Good (set_sky s b))
+  layer-said : (x : Result Layer Refusal) → with_said k (layer_said (is_cavok b.visibility) k b.sky x) b
+      ≡ then (then x (with_layer (is_cavok b.visibility) k b.sky)) (λ s. Ok (set_sky s b))
   unfolding put_said
-  layer-said (Bad f) = refl
-  layer-said (Good l) = go (not (is_cavok b.visibility) && is_layers b.sky.cover && rises (take k b.sky.layers) l.height)
+  layer-said (Err f) = refl
+  layer-said (Ok l) = go (not (is_cavok b.visibility) && is_layers b.sky.cover && rises (take k b.sky.layers) l.height)
     where
-      go : (a : Bool) → with_said k (unless_wrong a (said.Layer l)) b ≡ then (agreeing a (Good (add_layer k b.sky l))) (λ s. Good (set_sky s b))
+      go : (a : Bool) → with_said k (unless_wrong a (said.Layer l)) b ≡ then (agreeing a (Ok (add_layer k b.sky l))) (λ s. Ok (set_sky s b))
       go true = refl
       go false = refl
 
-  alone-said : (x : Read Cover) → with_said k (alone_said (is_cavok b.visibility) k x) b
-      ≡ then (then x (with_alone (is_cavok b.visibility) k b.sky)) (λ s. Good (set_sky s b))
+  alone-said : (x : Result Cover Refusal) → with_said k (alone_said (is_cavok b.visibility) k x) b
+      ≡ then (then x (with_alone (is_cavok b.visibility) k b.sky)) (λ s. Ok (set_sky s b))
   unfolding put_said
-  alone-said (Bad f) = refl
-  alone-said (Good c) = go (not (is_cavok b.visibility) && eqb k 0)
+  alone-said (Err f) = refl
+  alone-said (Ok c) = go (not (is_cavok b.visibility) && eqb k 0)
     where
       go : (a : Bool) → with_said k (unless_wrong a (said.Cover c)) b
-          ≡ then (agreeing a (Good (record { cover = c; layers = b.sky.layers; count = 0 }))) (λ s. Good (set_sky s b))
+          ≡ then (agreeing a (Ok (record { cover = c; layers = b.sky.layers; count = 0 }))) (λ s. Ok (set_sky s b))
       go true = refl
       go false = refl
 
@@ -143,7 +145,7 @@ module _ (forecast may automatic : Bool) (k : ℕ) (g : Group) (b : Body) where
       mine false = own_alone cavok k (read_alone forecast g)
 
       go : (h : Bool) → with_said k (cond h (layer_said cavok k b.sky (read_layer forecast g)) (alone_said cavok k (read_alone forecast g))) b
-          ≡ then (cond h (then (read_layer forecast g) (with_layer cavok k b.sky)) (then (read_alone forecast g) (with_alone cavok k b.sky))) (λ s. Good (set_sky s b))
+          ≡ then (cond h (then (read_layer forecast g) (with_layer cavok k b.sky)) (then (read_alone forecast g) (with_alone cavok k b.sky))) (λ s. Ok (set_sky s b))
       go true = layer-said (read_layer forecast g)
       go false = alone-said (read_alone forecast g)
 
@@ -171,12 +173,12 @@ put-by k b q = rw q
 abbrev pub said-fine : List ℕ
 said-fine = 0 ∷ 1 ∷ 2 ∷ 3 ∷ 4 ∷ 5 ∷ 6 ∷ 7 ∷ 8 ∷ 9 ∷ 10 ∷ 11 ∷ 12 ∷ 13 ∷ 14 ∷ 15 ∷ 16 ∷ 17 ∷ 18 ∷ 19 ∷ 20 ∷ 22 ∷ 23 ∷ 24 ∷ []
 
-pub not-refused : {R : Type 0} (r : R) (x : Said) → OneOf said-fine (tag_of says.the_type x) → unless_refused x r ≡ Good r
-not-refused r = by-tag said-fine (λ x. unless_refused x r ≡ Good r) (search never)
+pub not-refused : {R : Type 0} (r : R) (x : Said) → OneOf said-fine (tag_of says.the_type x) → unless_refused x r ≡ Ok r
+not-refused r = by-tag said-fine (λ x. unless_refused x r ≡ Ok r) (search never)
 
 -- what is said, put into a part of a record, is so put into the record
-pub unless-then : {B R : Type 0} (h : B → R) (b : B) (x : Said) → unless_refused x (h b) ≡ then (unless_refused x b) (λ b. Good (h b))
-unless-then h b = each (λ x. unless_refused x (h b) ≡ then (unless_refused x b) (λ b. Good (h b))) search
+pub unless-then : {B R : Type 0} (h : B → R) (b : B) (x : Said) → unless_refused x (h b) ≡ then (unless_refused x b) (λ b. Ok (h b))
+unless-then h b = each (λ x. unless_refused x (h b) ≡ then (unless_refused x b) (λ b. Ok (h b))) search
 
 -- ---- a group at a place of a row, of any record
 
@@ -185,9 +187,9 @@ module _ {R : Type 0} (row : List (Place R)) (put : ℕ → Group → Said → R
   AtPlace i x = SaysAt row put seen i k g x
 
   -- what a group is read as, where it says one value that goes into one part of the record
-  pub value-says : {A : Type 0} (i : ℕ) (makes : A → Said) (set : A → R → R) (x : Read A)
-      → ((r : R) (a : A) → unless_refused (makes a) (put k g (makes a) r) ≡ Good (set a r))
-      → ((r : R) → seen r → (place_at row i).read k g r ≡ then x (λ a. Good (set a r))) → AtPlace i (as_said makes x)
+  pub value-says : {A : Type 0} (i : ℕ) (makes : A → Said) (set : A → R → R) (x : Result A Refusal)
+      → ((r : R) (a : A) → unless_refused (makes a) (put k g (makes a) r) ≡ Ok (set a r))
+      → ((r : R) → seen r → (place_at row i).read k g r ≡ then x (λ a. Ok (set a r))) → AtPlace i (as_said makes x)
   value-says i makes set x good reads r is = said_put makes (λ y. unless_refused y (put k g y r)) (λ a. set a r) (good r) (λ f. refl) x ∙ sym (reads r is)
 
   -- past the row no group is taken
@@ -200,10 +202,10 @@ module _ {R : Type 0} (row : List (Place R)) (put : ℕ → Group → Said → R
     pub body-says : (i : ℕ) {forecast may automatic : Bool} {j : ℕ} {x : Said} → Says forecast may automatic j k g b x
         → ((r : R) → seen r → (required : Bool) × (silent : Bool)
         × ((place_at row i).read k g r
-        ≡ then ((place_at (body_row (record { forecast = forecast; required = required; may_nsw = may; automatic = automatic; silent = silent })) j).read k g (body r)) (λ b. Good (set b r))))
+        ≡ then ((place_at (body_row (record { forecast = forecast; required = required; may_nsw = may; automatic = automatic; silent = silent })) j).read k g (body r)) (λ b. Ok (set b r))))
         → AtPlace i x
     body-says i {x = x} s reads r is =
         let (required, silent, at) = reads r is in
-        let own : unless_refused x (put k g x r) ≡ then (with_said k x (body r)) (λ b. Good (set b r)) =
+        let own : unless_refused x (put k g x r) ≡ then (with_said k x (body r)) (λ b. Ok (set b r)) =
         rw (← onto r x s.own) (unless-then (λ b. set b r) (put_said k x (body r)) x) in
-        own ∙ ap (λ (y : Read Body). then y (λ b. Good (set b r))) (rw (← held r is) at (s.puts required silent)) ∙ sym at
+        own ∙ ap (λ (y : Result Body Refusal). then y (λ b. Ok (set b r))) (rw (← held r is) at (s.puts required silent)) ∙ sym at

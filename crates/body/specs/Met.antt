@@ -1,8 +1,9 @@
 -- The next group of a text, as the loop of a reader meets it: where it stands, where it goes in a row of places, and what it says there.
 -- Assumes nothing: these are definitions.
-use Rattle.std.specs.Prelude.{ℕ, ◌+◌, ◌≤◌, ◌<◌, ◌≡◌, Bool, List, [], ◌∷◌, length}
+use Rattle.std.specs.Prelude.{ℕ, ◌+◌, ◌≤◌, ◌<◌, ◌≡◌, Bool, List, [], ◌∷◌, length, Err, Ok, Result}
+use Rattle.text.specs.declared.kinds.Refusal.{Refusal}
 use Rattle.text.specs.Groups.{part_of, groups_from}
-use Rattle.places.specs.Engine.{Group, Read, Good, Bad, Place, onward, Step, On, Halt, Stop}
+use Rattle.places.specs.Engine.{Group, Place, onward, Step, On, Halt, Stop}
 use Rattle.places.specs.Parts.{step_by}
 use Rattle.elements.specs.declared.kinds.Said.{Said}
 use Rattle.body.specs.declared.kinds.Saying.{Saying}
@@ -10,9 +11,9 @@ use Rattle.body.specs.declared.kinds.Met.{Met}
 use Rattle.body.specs.declared.kinds.Met.TheVariants as met
 
 -- a group at its place, which is taken, or refused where it starts
-abbrev pub met_as : ℕ → Read Saying → Met
-met_as start (Good x) = met.Says x
-met_as start (Bad f) = met.Refused f start
+abbrev pub met_as : ℕ → Result Saying Refusal → Met
+met_as start (Ok x) = met.Says x
+met_as start (Err f) = met.Refused f start
 
 -- the next group at or after a position of the text stands from `start` up to `end`
 pub record Lies (text : List ℕ) (at start end : ℕ) : Type 0 where

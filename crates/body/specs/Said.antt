@@ -1,8 +1,9 @@
 -- What a group of the body says, put into the body.
 -- Assumes nothing: these are definitions.
-use Rattle.std.specs.Prelude.{ℕ, ◌≡◌, Bool, true, false, cond, List}
+use Rattle.std.specs.Prelude.{ℕ, ◌≡◌, Bool, true, false, cond, List, Err, Ok, Result}
+use Rattle.text.specs.declared.kinds.Refusal.{Refusal}
 use Rattle.text.specs.declared.kinds.Refusal.TheVariants as refusal
-use Rattle.places.specs.Engine.{Group, Read, Good, Bad, Place, place_at}
+use Rattle.places.specs.Engine.{Group, Place, place_at}
 use Rattle.record.specs.declared.aerodrome.Weather.{Weather}
 use Rattle.record.specs.declared.aerodrome.Body.{Body}
 use Rattle.record.specs.Body.{set_wind, set_visibility, set_weathers, set_nsw, set_sky}
@@ -13,32 +14,32 @@ use Rattle.elements.specs.Sky.{add_layer}
 use Rattle.elements.specs.Body.{body_row}
 
 -- a record with what a group says, or the group's refusal
-abbrev pub unless_refused : {R : Type 0} → Said → R → Read R
-unless_refused (said.Special x) r = Good r
-unless_refused said.Corrected r = Good r
-unless_refused (said.Correction x) r = Good r
-unless_refused said.Station r = Good r
-unless_refused (said.Time x) r = Good r
-unless_refused said.Nil r = Good r
-unless_refused said.Automatic r = Good r
-unless_refused (said.Period x) r = Good r
-unless_refused said.Cancelled r = Good r
-unless_refused (said.Wind x) r = Good r
-unless_refused (said.Variation x) r = Good r
-unless_refused (said.Visibility x) r = Good r
-unless_refused (said.Runway x) r = Good r
-unless_refused (said.Weather x) r = Good r
-unless_refused said.Nsw r = Good r
-unless_refused (said.Layer x) r = Good r
-unless_refused (said.Cover x) r = Good r
-unless_refused (said.Temperatures x) r = Good r
-unless_refused (said.Qnh x) r = Good r
-unless_refused (said.Recent x) r = Good r
-unless_refused said.Nothing r = Good r
-unless_refused (said.Refused f) r = Bad f
-unless_refused (said.Times x) r = Good r
-unless_refused (said.State x) r = Good r
-unless_refused said.Snoclo r = Good r
+abbrev pub unless_refused : {R : Type 0} → Said → R → Result R Refusal
+unless_refused (said.Special x) r = Ok r
+unless_refused said.Corrected r = Ok r
+unless_refused (said.Correction x) r = Ok r
+unless_refused said.Station r = Ok r
+unless_refused (said.Time x) r = Ok r
+unless_refused said.Nil r = Ok r
+unless_refused said.Automatic r = Ok r
+unless_refused (said.Period x) r = Ok r
+unless_refused said.Cancelled r = Ok r
+unless_refused (said.Wind x) r = Ok r
+unless_refused (said.Variation x) r = Ok r
+unless_refused (said.Visibility x) r = Ok r
+unless_refused (said.Runway x) r = Ok r
+unless_refused (said.Weather x) r = Ok r
+unless_refused said.Nsw r = Ok r
+unless_refused (said.Layer x) r = Ok r
+unless_refused (said.Cover x) r = Ok r
+unless_refused (said.Temperatures x) r = Ok r
+unless_refused (said.Qnh x) r = Ok r
+unless_refused (said.Recent x) r = Ok r
+unless_refused said.Nothing r = Ok r
+unless_refused (said.Refused f) r = Err f
+unless_refused (said.Times x) r = Ok r
+unless_refused (said.State x) r = Ok r
+unless_refused said.Snoclo r = Ok r
 
 -- The body with what a group says, where k groups stand at its place. What is no part of the body changes nothing of it, nor does a refusal.
 unfoldable pub put_said : ℕ → Said → Body → Body
@@ -68,13 +69,13 @@ put_said k (said.Times x) b = b
 put_said k (said.State x) b = b
 put_said k said.Snoclo b = b
 
-abbrev pub with_said : ℕ → Said → Body → Read Body
+abbrev pub with_said : ℕ → Said → Body → Result Body Refusal
 with_said k x b = unless_refused x (put_said k x b)
 
 -- weather, beside nothing that stands for it
-abbrev pub weather_said : Bool → Read Weather → Said
-weather_said beside (Good w) = cond beside (said.Refused refusal.Disagreement) (said.Weather w)
-weather_said beside (Bad f) = said.Refused f
+abbrev pub weather_said : Bool → Result Weather Refusal → Said
+weather_said beside (Ok w) = cond beside (said.Refused refusal.Disagreement) (said.Weather w)
+weather_said beside (Err f) = said.Refused f
 
 -- something of the body, or a refusal
 abbrev pub is_of_body : Said → Bool

@@ -1,31 +1,30 @@
 // What the writer judges of a body, element by element: first the ranges (refusal 11), then the agreement (refusal 7).
-ghost use Rattle.std.specs.Prelude.{◌≡◌, Bool, cond, not, ◌&&◌};
-ghost use Rattle.text.specs.declared.kinds.Judged.TheVariants as judged;
+ghost use Rattle.std.specs.Prelude.{◌≡◌, Bool, cond, not, ◌&&◌, Ok};
 ghost use Rattle.elements.specs.Body.{wind_judged, visibility_judged, weather_judged, sky_judged, judge_body, has_element};
 
 use record::aerodrome::Body;
 use sky::judge::judge_sky;
-use text::judge::{and_then, judge};
-use text::kinds::Judged;
+use text::judge::judge;
+use text::kinds::Refusal;
 use weather_write::judge::{count_fits, judge_weathers};
 use wind::judge::{judge_visibility, judge_wind};
 use wind::read::is_cavok;
 
 // A wind or visibility that need not stand.
-fn unless_absent(required: bool, absent: bool, j: Judged) -> Judged
-    ensures { result ≡ cond (not required && absent) judged.Fine j }
+fn unless_absent(required: bool, absent: bool, j: Result<(), Refusal>) -> Result<(), Refusal>
+    ensures { result ≡ cond (not required && absent) (Ok tt) j }
 {
-    if !required & absent { Judged::Fine } else { j }
+    if !required & absent { Ok(()) } else { j }
 }
 
-pub fn wind_judged(forecast: bool, required: bool, b: Body) -> Judged
+pub fn wind_judged(forecast: bool, required: bool, b: Body) -> Result<(), Refusal>
     ensures { (may automatic silent : Bool) → result ≡ wind_judged (record { forecast = forecast; required = required; may_nsw = may; automatic = automatic; silent = silent }) b }
 {
     let wind = b.wind;
     unless_absent(required, wind.is_blank(), judge_wind(forecast, wind))
 }
 
-pub fn visibility_judged(forecast: bool, required: bool, b: Body) -> Judged
+pub fn visibility_judged(forecast: bool, required: bool, b: Body) -> Result<(), Refusal>
     ensures { (may automatic silent : Bool) → result ≡ visibility_judged (record { forecast = forecast; required = required; may_nsw = may; automatic = automatic; silent = silent }) b }
 {
     let visibility = b.visibility;
@@ -38,7 +37,7 @@ pub fn visibility_judged(forecast: bool, required: bool, b: Body) -> Judged
 }
 
 // NSW where it may stand, and not beside CAVOK; then the weathers, beside neither.
-pub fn weather_judged(forecast: bool, may: bool, automatic: bool, b: Body) -> Judged
+pub fn weather_judged(forecast: bool, may: bool, automatic: bool, b: Body) -> Result<(), Refusal>
     ensures { (required silent : Bool) → result ≡ weather_judged (record { forecast = forecast; required = required; may_nsw = may; automatic = automatic; silent = silent }) b }
 {
     let visibility = b.visibility;
@@ -52,7 +51,7 @@ pub fn weather_judged(forecast: bool, may: bool, automatic: bool, b: Body) -> Ju
     }
 }
 
-pub fn sky_judged(forecast: bool, b: Body) -> Judged
+pub fn sky_judged(forecast: bool, b: Body) -> Result<(), Refusal>
     ensures { (required may automatic silent : Bool) → result ≡ sky_judged (record { forecast = forecast; required = required; may_nsw = may; automatic = automatic; silent = silent }) b }
 {
     let visibility = b.visibility;
@@ -61,13 +60,19 @@ pub fn sky_judged(forecast: bool, b: Body) -> Judged
 }
 
 // The elements in written order.
-pub fn judge_body(forecast: bool, required: bool, may: bool, automatic: bool, b: Body) -> Judged
+pub fn judge_body(
+    forecast: bool,
+    required: bool,
+    may: bool,
+    automatic: bool,
+    b: Body,
+) -> Result<(), Refusal>
     ensures { (silent : Bool) → result ≡ judge_body (record { forecast = forecast; required = required; may_nsw = may; automatic = automatic; silent = silent }) b }
 {
-    let weather = weather_judged(forecast, may, automatic, b);
-    let from_weather = and_then(weather, sky_judged(forecast, b));
-    let from_view = and_then(visibility_judged(forecast, required, b), from_weather);
-    and_then(wind_judged(forecast, required, b), from_view)
+    wind_judged(forecast, required, b)?;
+    visibility_judged(forecast, required, b)?;
+    weather_judged(forecast, may, automatic, b)?;
+    sky_judged(forecast, b)
 }
 
 // Is there wind, visibility, weather, NSW or sky?

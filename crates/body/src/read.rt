@@ -10,7 +10,7 @@ ghost use Rattle.body.specs.Said.{unless_refused, put_said, Says, weather_said};
 ghost use Rattle.body.specs.Met.{met_as};
 
 use crate::kinds::{Met, Saying};
-use elements::kinds::{Said, WeatherRead};
+use elements::kinds::Said;
 use record::aerodrome::{Body, Cover, Sky};
 use shapes::has_pattern;
 use sky::read::{add_layer, read_sky};
@@ -35,14 +35,14 @@ fn say_weather(forecast: bool, automatic: bool, beside: bool, g: &[u8]) -> Said
 {
     let read = read_weather(forecast, automatic, g);
     match read {
-        WeatherRead::Good(w) => {
+        Ok(w) => {
             if beside {
                 Said::Refused(Refusal::Disagreement)
             } else {
                 Said::Weather(w)
             }
         }
-        WeatherRead::Bad(refusal) => Said::Refused(refusal),
+        Err(refusal) => Said::Refused(refusal),
     }
 }
 

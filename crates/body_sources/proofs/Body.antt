@@ -1,45 +1,42 @@
 -- What each place of a body does to it: its own element is what the group says, and the others stay.
 -- Assumes nothing.
+use Rattle.std.specs.Prelude.{Err, Ok, Result}
+use Rattle.text.specs.declared.kinds.Refusal.{Refusal}
 use Prim.Native.Nat.{ℕ, ◌+◌, ◌<◌}
-use native.Mathlib.Omega.{arith}
 use mathlib.Core.Path.{◌≡◌, refl, sym, ap, subst, ◌∙◌}
 use mathlib.Core.Bool.{Bool, true, false, cond, not, ◌&&◌, false≢true}
-use mathlib.Core.List.{List}
-use lib.ListN.{length, get_or, take, set, length-set}
+use lib.ListN.{length, take, set, length-set}
 use lib.Seq.{get_or-set_same, get_or-set_other}
 use lib.Dec.{eqb, ltb}
 use borrow.Author.Tests.{eqb-true, eqb-false, lt-ltb}
 use Rattle.figures.proofs.Impossible.{impossible}
 use Rattle.shapes.specs.Shape.{has_shape}
-use Rattle.places.specs.Engine.{Group, Read, Good, Bad, then}
-use Rattle.record.specs.declared.aerodrome.Wind.{Wind}
-use Rattle.record.specs.declared.aerodrome.Visibility.{Visibility}
+use Rattle.places.specs.Engine.{Group, then}
 use Rattle.record.specs.declared.aerodrome.Weather.{Weather}
 use Rattle.record.specs.declared.aerodrome.Cover.{Cover}
 use Rattle.record.specs.declared.aerodrome.Cover.TheVariants as cover
 use Rattle.record.specs.declared.aerodrome.Layer.{Layer}
 use Rattle.record.specs.declared.aerodrome.Sky.{Sky}
 use Rattle.record.specs.declared.aerodrome.Body.{Body}
-use Rattle.record.specs.Body.{blank_weather, blank_layer, set_wind, set_visibility, set_weathers, set_nsw, set_sky}
+use Rattle.record.specs.Body.{blank_weather, blank_layer, set_weathers, set_nsw, set_sky}
 use Rattle.record.specs.SilentAerodrome.{is_layers}
 use Rattle.elements.specs.Parts.{agreeing}
-use Rattle.elements.specs.Wind.{read_wind}
-use Rattle.elements.specs.Visibility.{read_visibility, is_cavok}
+use Rattle.elements.specs.Visibility.{is_cavok}
 use Rattle.elements.specs.Weather.{read_weather, with_weather}
 use Rattle.elements.specs.Sky.{layer_shape, read_layer, read_alone, rises, add_layer, layer_agrees, with_layer, alone_agrees, with_alone, read_sky}
-use Rattle.elements.specs.Body.{Terms, is_nsw, beside_others, nsw_stands, read_weather_or_nsw, wind_place, visibility_place, weather_place, sky_place}
+use Rattle.elements.specs.Body.{Terms, is_nsw, beside_others, nsw_stands, read_weather_or_nsw, weather_place}
 use Rattle.sources.proofs.Fields.{then-good, then-bind}
-use Rattle.body_sources.specs.Items.{WeatherItem, weather_at, WeatherSaid, no-weather, a-weather, SkyItem, sky_at, SkySaid, a-layer, a-cover}
+use Rattle.body_sources.specs.Items.{weather_at, WeatherSaid, no-weather, a-weather, sky_at, SkySaid, a-layer, a-cover}
 
-pub agreed : {A : Type 0} (b : Bool) (x y : A) → agreeing b (Good x) ≡ Good y → (b ≡ true) × (y ≡ x)
+pub agreed : {A : Type 0} (b : Bool) (x y : A) → agreeing b (Ok x) ≡ Ok y → (b ≡ true) × (y ≡ x)
 agreed true x y e = (refl, cc)
 agreed false x y e = impossible (cc)
 
 -- what is read into a body, and the body into the record that it stands in
-pub in_body : {R A : Type 0} (within : Body → R) (b : Body) (x : Read A) (f : A → Body → Body) (r : R) → then (then x (λ v. Good (f v b))) (λ c. Good (within c)) ≡ Good r
-    → (v : A) × (x ≡ Good v) × (r ≡ within (f v b))
+pub in_body : {R A : Type 0} (within : Body → R) (b : Body) (x : Result A Refusal) (f : A → Body → Body) (r : R) → then (then x (λ v. Ok (f v b))) (λ c. Ok (within c)) ≡ Ok r
+    → (v : A) × (x ≡ Ok v) × (r ≡ within (f v b))
 in_body within b x f r e =
-    let (c, good, same) = then-good (then x (λ v. Good (f v b))) within r e in
+    let (c, good, same) = then-good (then x (λ v. Ok (f v b))) within r e in
     let (v, is, put) = then-good x (λ v. f v b) c good in
     (v, is, same ∙ ap within put)
 
@@ -49,11 +46,11 @@ module _ (t : Terms) (k : ℕ) (g : Group) (b : Body) where
   -- NSW, or one more weather
   pub data WeatherDone : Body → Type 0 where
     with-nsw : is_nsw g ≡ true → k ≡ 0 → WeatherDone (set_nsw true b)
-    with-weather : (w : Weather) → is_nsw g ≡ false → read_weather t.forecast t.automatic g ≡ Good w → WeatherDone (set_weathers (with_weather k b.weathers w) b)
+    with-weather : (w : Weather) → is_nsw g ≡ false → read_weather t.forecast t.automatic g ≡ Ok w → WeatherDone (set_weathers (with_weather k b.weathers w) b)
 
-  beside-good : (x : Read Weather) (w : Weather) → beside_others b x ≡ Good w → x ≡ Good w
-  beside-good (Good v) w e = ap Good (sym (agreed (not (is_cavok b.visibility) && not b.nsw) v w e).1)
-  beside-good (Bad f) w e = impossible (cc)
+  beside-good : (x : Result Weather Refusal) (w : Weather) → beside_others b x ≡ Ok w → x ≡ Ok w
+  beside-good (Ok v) w e = ap Ok (sym (agreed (not (is_cavok b.visibility) && not b.nsw) v w e).1)
+  beside-good (Err f) w e = impossible (cc)
 
   nsw-first : (m c : Bool) → (m && eqb k 0 && c) ≡ true → k ≡ 0
   nsw-first true c e = go (eqb k 0) refl e
@@ -63,13 +60,13 @@ module _ (t : Terms) (k : ℕ) (g : Group) (b : Body) where
       go false is e = absurd (false≢true e)
   nsw-first false c e = absurd (false≢true e)
 
-  pub weather-done : (b' : Body) → (weather_place t).read k g b ≡ Good b' → WeatherDone b'
+  pub weather-done : (b' : Body) → (weather_place t).read k g b ≡ Ok b' → WeatherDone b'
   unfolding read_weather_or_nsw
   weather-done b' e = go (is_nsw g) refl e
     where
       go : (n : Bool) → is_nsw g ≡ n
-          → cond n (agreeing (nsw_stands t k b.visibility) (Good (set_nsw true b)))
-          (then (beside_others b (read_weather t.forecast t.automatic g)) (λ w. Good (set_weathers (with_weather k b.weathers w) b))) ≡ Good b' → WeatherDone b'
+          → cond n (agreeing (nsw_stands t k b.visibility) (Ok (set_nsw true b)))
+          (then (beside_others b (read_weather t.forecast t.automatic g)) (λ w. Ok (set_weathers (with_weather k b.weathers w) b))) ≡ Ok b' → WeatherDone b'
       go true is e =
           let (a, same) = agreed (nsw_stands t k b.visibility) (set_nsw true b) b' e in
           subst WeatherDone (sym same) (with-nsw is (nsw-first t.may_nsw (not (is_cavok b.visibility)) a))
@@ -101,8 +98,8 @@ module _ (t : Terms) (g : Group) (b : Body) where
 
 module _ (forecast cavok : Bool) (k : ℕ) (g : Group) (s : Sky) where
   pub data SkyDone : Sky → Type 0 where
-    with-layer : (l : Layer) → has_shape layer_shape g ≡ true → read_layer forecast g ≡ Good l → is_layers s.cover ≡ true → SkyDone (add_layer k s l)
-    with-cover : (c : Cover) → has_shape layer_shape g ≡ false → read_alone forecast g ≡ Good c → k ≡ 0 → SkyDone (record { cover = c; layers = s.layers; count = 0 })
+    with-layer : (l : Layer) → has_shape layer_shape g ≡ true → read_layer forecast g ≡ Ok l → is_layers s.cover ≡ true → SkyDone (add_layer k s l)
+    with-cover : (c : Cover) → has_shape layer_shape g ≡ false → read_alone forecast g ≡ Ok c → k ≡ 0 → SkyDone (record { cover = c; layers = s.layers; count = 0 })
 
   and-three : (x y z : Bool) → (x && y && z) ≡ true → y ≡ true
   and-three true true z e = refl
@@ -113,12 +110,12 @@ module _ (forecast cavok : Bool) (k : ℕ) (g : Group) (s : Sky) where
   first_alone true e = eqb-true k 0 e
   first_alone false e = absurd (false≢true e)
 
-  pub sky-done : (s' : Sky) → read_sky forecast cavok k g s ≡ Good s' → SkyDone s'
+  pub sky-done : (s' : Sky) → read_sky forecast cavok k g s ≡ Ok s' → SkyDone s'
   unfolding read_sky
   sky-done s' e = go (has_shape layer_shape g) refl e
     where
       go : (h : Bool) → has_shape layer_shape g ≡ h
-          → cond h (then (read_layer forecast g) (with_layer cavok k s)) (then (read_alone forecast g) (with_alone cavok k s)) ≡ Good s' → SkyDone s'
+          → cond h (then (read_layer forecast g) (with_layer cavok k s)) (then (read_alone forecast g) (with_alone cavok k s)) ≡ Ok s' → SkyDone s'
       go true is e =
           let (l, reads, put) = then-bind (read_layer forecast g) (with_layer cavok k s) s' e in
           let (a, same) = agreed (layer_agrees cavok k s l) (add_layer k s l) s' put in

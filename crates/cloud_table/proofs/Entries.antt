@@ -1,6 +1,7 @@
 -- From the whole table to each of its entries; and what the numbers say: past code 999 there is the mark alone, and no height is the mark.
 -- Assumes nothing.
-use mathlib.Core.Path.{◌≡◌, refl, sym, ap, ◌∙◌}
+use Rattle.std.specs.Prelude.{None, Option, Some}
+use mathlib.Core.Path.{◌≡◌, refl, ap, ◌∙◌}
 use mathlib.Core.Bool.{Bool, true, false, cond, ◌&&◌, and-eq-true_iff}
 use mathlib.Core.List.{List, [], ◌∷◌, map}
 use Prim.Native.Nat.{ℕ, zero, suc, ◌+◌, ◌<◌, ◌≤◌}
@@ -10,9 +11,8 @@ use lib.ListN.{get_or}
 use borrow.Author.Tests.{leb-true, ltb-true, ne_eqb}
 use Rattle.figures.proofs.Impossible.{impossible}
 use Rattle.figures.specs.Figures.{every}
-use Rattle.scales.specs.Scale.{Class, Read, Foot, None, run, read_in, read_of}
-use Rattle.scales.specs.Metres.{cloud, answered, metres_reading}
-use Rattle.scales.specs.declared.kinds.Reading.TheVariants as reading
+use Rattle.scales.specs.Scale.{Class, run, read_in, read_of}
+use Rattle.scales.specs.Metres.{cloud, metres_reading}
 use Rattle.cloud_table.specs.Heights.{unused_mark, marked, height_or_mark, codes_from, cloud_table}
 
 -- ---- from the table to each entry
@@ -54,12 +54,12 @@ none_over [] w code h = refl
 none_over (c ∷ cs) w code h =
     rw (ne_eqb c.figure code (λ e. omega (arith, (one c cs w).0))) (none_over cs (others c cs w) code h)
 
-foot-below : (cs : List (Class ℕ)) → every is_within cs ≡ true → (code : ℕ) {m : ℕ} → read_in eqb cs code ≡ Foot m → m < unused_mark
+foot-below : (cs : List (Class ℕ)) → every is_within cs ≡ true → (code : ℕ) {m : ℕ} → read_in eqb cs code ≡ Some m → m < unused_mark
 unfolding read_in
 foot-below [] w code e = impossible (cc)
 foot-below (c ∷ cs) w code {m} e = go (eqb c.figure code) e (foot-below cs (others c cs w) code)
   where
-    go : (b : Bool) → cond b (Foot c.foot) (read_in eqb cs code) ≡ Foot m → (read_in eqb cs code ≡ Foot m → m < unused_mark) → m < unused_mark
+    go : (b : Bool) → cond b (Some c.foot) (read_in eqb cs code) ≡ Some m → (read_in eqb cs code ≡ Some m → m < unused_mark) → m < unused_mark
     go true e rest =
         let is : c.foot ≡ m = cc in
         rw (← is) (one c cs w).1
@@ -71,30 +71,30 @@ unfolding height_or_mark metres_reading
 over code h = rw (none_over (cloud.lowest ∷ cloud.above) all-within code h)
 
 -- the mark is a number that no height is
-pub no-height : (code : ℕ) {m : ℕ} → metres_reading cloud code ≡ reading.Is m → m < unused_mark
+pub no-height : (code : ℕ) {m : ℕ} → metres_reading cloud code ≡ Some m → m < unused_mark
 unfolding metres_reading
 no-height code {m} e = go (read_of eqb cloud code) refl e
   where
-    go : (r : Read) → read_of eqb cloud code ≡ r → answered r ≡ reading.Is m → m < unused_mark
-    go (Foot h) q e =
+    go : (r : Option ℕ) → read_of eqb cloud code ≡ r → r ≡ Some m → m < unused_mark
+    go (Some h) q e =
         let is : h ≡ m = cc in
         rw (← is) (foot-below (cloud.lowest ∷ cloud.above) all-within code q)
     go None q e = impossible (cc)
 
 -- ---- from a number back to the reading
 module _ (code : ℕ) where
-  pub is-unused : height_or_mark code ≡ unused_mark → reading.Unused ≡ metres_reading cloud code
+  pub is-unused : height_or_mark code ≡ unused_mark → None ≡ metres_reading cloud code
   unfolding height_or_mark metres_reading
   is-unused h = go (read_of eqb cloud code) refl h
     where
-      go : (r : Read) → read_of eqb cloud code ≡ r → marked (answered r) ≡ unused_mark → reading.Unused ≡ answered r
-      go (Foot m) q h = absurd (omega (arith, foot-below (cloud.lowest ∷ cloud.above) all-within code q))
+      go : (r : Option ℕ) → read_of eqb cloud code ≡ r → marked r ≡ unused_mark → None ≡ r
+      go (Some m) q h = absurd (omega (arith, foot-below (cloud.lowest ∷ cloud.above) all-within code q))
       go None q h = refl
 
-  pub is-height : (height_or_mark code ≡ unused_mark → ⊥) → reading.Is (height_or_mark code) ≡ metres_reading cloud code
+  pub is-height : (height_or_mark code ≡ unused_mark → ⊥) → Some (height_or_mark code) ≡ metres_reading cloud code
   unfolding height_or_mark metres_reading
   is-height h = go (read_of eqb cloud code) h
     where
-      go : (r : Read) → (marked (answered r) ≡ unused_mark → ⊥) → reading.Is (marked (answered r)) ≡ answered r
-      go (Foot m) h = refl
+      go : (r : Option ℕ) → (marked r ≡ unused_mark → ⊥) → Some (marked r) ≡ r
+      go (Some m) h = refl
       go None h = absurd (h refl)

@@ -1,18 +1,16 @@
 -- "Keep table 1690 as 1,000 numbers, one for each code 000 to 999, unused codes marked." What each number is, by the present rule.
 -- Assumes nothing: these are definitions.
-use Rattle.std.specs.Prelude.{ℕ, zero, suc, ◌+◌, min, List, [], ◌∷◌, map, ◌++◌, length, take, drop}
+use Rattle.std.specs.Prelude.{ℕ, zero, suc, ◌+◌, min, List, [], ◌∷◌, map, ◌++◌, length, take, drop, None, Option, Some}
 use Rattle.scales.specs.Metres.{cloud, metres_reading}
-use Rattle.scales.specs.declared.kinds.Reading.{Reading}
-use Rattle.scales.specs.declared.kinds.Reading.TheVariants as reading
 
 -- the mark of an unused code, a number that no height is
 abbrev pub unused_mark : ℕ
 unused_mark = 100000
 
 -- a reading as one number: the height, or the mark
-abbrev pub marked : Reading → ℕ
-marked (reading.Is height) = height
-marked reading.Unused = unused_mark
+abbrev pub marked : Option ℕ → ℕ
+marked (Some height) = height
+marked None = unused_mark
 
 -- the number of any code; none over 999 is used
 unfoldable pub height_or_mark : ℕ → ℕ

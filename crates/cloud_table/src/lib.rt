@@ -6,7 +6,6 @@ ghost use Rattle.scales.specs.Metres.{cloud, metres_reading};
 ghost use Rattle.cloud_table.specs.Heights.{height_or_mark, cloud_table, room, heights_over};
 
 use crate::table::CLOUD_HEIGHTS;
-use scales::kinds::Reading;
 
 mod table;
 
@@ -37,12 +36,12 @@ fn fill(table: &[u32; 1000], codes: &[u32], heights: &mut [u32]) -> usize
     ensures count { result ≡ room codes.now heights.old }
     ensures filled { heights.new ≡ heights_over codes.now heights.old }
 {
-    let mut i = 0;
-    while (i < codes.len()) & (i < heights.len()) {
+    let n = codes.len().min(heights.len());
+    // By index: what a zipped `iter_mut` leaves in the slice is not known to a proof.
+    for i in 0..n {
         heights[i] = look_up(table, codes[i]);
-        i += 1;
     }
-    i
+    n
 }
 
 // The table's number for any code: the height in metres, or the mark where the code is unused or over 999.
@@ -54,15 +53,11 @@ pub fn height_or_mark(code: u32) -> u32
 }
 
 // The answer of `scales::metres::cloud_reading`, by the table; for a single code the rule there is faster, as it has no table to put together.
-pub fn cloud_height(code: u32) -> Reading
+pub fn cloud_height(code: u32) -> Option<u32>
     ensures { result ≡ metres_reading cloud code }
 {
     let height = height_or_mark(code);
-    if height == UNUSED {
-        Reading::Unused
-    } else {
-        Reading::Is(height)
-    }
+    if height == UNUSED { None } else { Some(height) }
 }
 
 // The table's numbers for many codes, as many as both slices have room for: how many these are. The heights past them stay as they were.

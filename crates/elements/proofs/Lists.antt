@@ -1,6 +1,7 @@
 -- Lists of which the first ones count, as the changes of a forecast or the states of runways: judged one by one, written one after the other, read back one
 -- after the other, and what is read back of them.
 -- Assumes nothing.
+use Rattle.std.specs.Prelude.{⊤, Err, Ok, Result}
 use Prim.Native.Nat.{ℕ, zero, suc, ◌+◌, ◌-◌, ◌*◌, ◌≤◌, ◌<◌}
 use native.Mathlib.Numerals.{add-one}
 use native.Mathlib.Nat.{mul-suc, mul-le-mul_left, add-zero, zero-add, suc-add}
@@ -13,14 +14,12 @@ use lib.Seq.{drop-cons, get_or-take, length-take-le, set_at}
 use lib.Dec.{leb}
 use borrow.Author.Tests.{leb-true, le-leb}
 use Rattle.figures.specs.Figures.{every}
-use Rattle.text.specs.declared.kinds.Judged.{Judged}
-use Rattle.text.specs.declared.kinds.Judged.TheVariants as judged
 use Rattle.text.specs.declared.kinds.Refusal.{Refusal}
 use Rattle.text.specs.Judge.{judge, and_then}
 use Rattle.text.proofs.Judging.{fine, and-then}
 use Rattle.shapes.specs.Pattern.{Pattern, has_pattern}
 use Rattle.shapes.proofs.Patterns.{both}
-use Rattle.places.specs.Engine.{Group, Good, Place}
+use Rattle.places.specs.Engine.{Group, Place}
 use Rattle.places.proofs.ReadBack.{one-pattern, fill}
 use Rattle.places.proofs.Sizes.{measured, sized-any, Sizes, sizes-none, sizes-cons, sizes-append, sizes-more}
 use Rattle.record.specs.Arrays.{Each}
@@ -29,7 +28,7 @@ use Rattle.record.proofs.Counted.{Listed, each_take, listed_of, taken, dropped}
 -- ---- judged one by one: the first n decide, those that are left after i as all of them
 
 -- how one is judged, and each of a list
-module _ {A : Type 0} (one : A → Judged) (each : List A → Judged) (none : each [] ≡ judged.Fine) (more : (x : A) (xs : List A) → each (x ∷ xs) ≡ and_then (one x) (each xs)) where
+module _ {A : Type 0} (one : A → Result ⊤ Refusal) (each : List A → Result ⊤ Refusal) (none : each [] ≡ Ok tt) (more : (x : A) (xs : List A) → each (x ∷ xs) ≡ and_then (one x) (each xs)) where
   -- one slot more, a slot at fault, and the end
   module _ (xs : List A) (n : ℕ) (slots : n ≤ length xs) (i : ℕ) where
     abbrev counted : List A
@@ -44,23 +43,23 @@ module _ {A : Type 0} (one : A → Judged) (each : List A → Judged) (none : ea
         rw (add-one, drop-cons counted i d here, get_or-take n xs i d h) (more (get_or xs i d) (drop (suc i) counted))
 
     module _ (left : each counted ≡ each (drop i counted)) where
-      pub each_next : (d : A) → i < n → one (get_or xs i d) ≡ judged.Fine → each counted ≡ each (drop (i + 1) counted)
+      pub each_next : (d : A) → i < n → one (get_or xs i d) ≡ Ok tt → each counted ≡ each (drop (i + 1) counted)
       each_next d h e = left ∙ rw e at (split d h)
 
-      pub each-stop : (d : A) {f : Refusal} → i < n → one (get_or xs i d) ≡ judged.Refused f → judged.Refused f ≡ each counted
+      pub each-stop : (d : A) {f : Refusal} → i < n → one (get_or xs i d) ≡ Err f → Err f ≡ each counted
       each-stop d h e = sym (left ∙ rw e at (split d h))
 
-      pub each-end : n ≤ i → judged.Fine ≡ each counted
+      pub each-end : n ≤ i → Ok tt ≡ each counted
       each-end h = sym (left ∙ ap each (drop_of_length-le counted {i = i} (omega (arith, many))) ∙ none)
 
   -- what is known of one that is judged fine is known of each, beside what is known of it anyway
-  each-fair : (P : A → Type 0) {F : A → Type 0} → ((x : A) → one x ≡ judged.Fine → F x) → (xs : List A) → Each P xs → each xs ≡ judged.Fine → Each (λ x. P x × F x) xs
+  each-fair : (P : A → Type 0) {F : A → Type 0} → ((x : A) → one x ≡ Ok tt → F x) → (xs : List A) → Each P xs → each xs ≡ Ok tt → Each (λ x. P x × F x) xs
   each-fair P fair [] a e = tt
   each-fair P fair (x ∷ xs) a e =
       let j = and-then (one x) (each xs) (sym (more x xs) ∙ e) in
       ((a.0, fair x j.0), each-fair P fair xs a.1 j.1)
 
-  each-judged : {P : A → Type 0} (f : A → A) → ((x : A) → P x → one (f x) ≡ judged.Fine) → (xs : List A) → Each P xs → each (map f xs) ≡ judged.Fine
+  each-judged : {P : A → Type 0} (f : A → A) → ((x : A) → P x → one (f x) ≡ Ok tt) → (xs : List A) → Each P xs → each (map f xs) ≡ Ok tt
   each-judged f again [] a = none
   each-judged f again (x ∷ xs) a = rw (more (f x) (map f xs), again x a.0) (each-judged f again xs a.1)
 
@@ -70,20 +69,20 @@ module _ {A : Type 0} (one : A → Judged) (each : List A → Judged) (none : ea
     abbrev within : List A → Bool
     within ys = leb n most && every is_blank (drop n ys)
 
-    abbrev pub judge_listed : List A → Judged
+    abbrev pub judge_listed : List A → Result ⊤ Refusal
     judge_listed ys = and_then (judge (within ys) true) (each (take n ys))
 
     -- WHAT A LIST HOLDS THAT IS JUDGED FINE: few enough, each judged fine, and blank past them.
-    pub list-fair : {P F : A → Type 0} {blank : A} → ((x : A) → one x ≡ judged.Fine → F x) → ((x : A) → P x → is_blank x ≡ true → x ≡ blank) → length xs ≡ most → Each P xs
-        → judge_listed xs ≡ judged.Fine → Listed (λ x. P x × F x) is_blank blank most n xs
+    pub list-fair : {P F : A → Type 0} {blank : A} → ((x : A) → one x ≡ Ok tt → F x) → ((x : A) → P x → is_blank x ≡ true → x ≡ blank) → length xs ≡ most → Each P xs
+        → judge_listed xs ≡ Ok tt → Listed (λ x. P x × F x) is_blank blank most n xs
     list-fair {P} fair is all arrays e =
         let j = and-then (judge (within xs) true) (each (take n xs)) e in
         let s = both (leb n most) (every is_blank (drop n xs)) (fine (within xs) true j.0).0 in
         listed_of is all arrays (leb-true n most s.0) (each-fair P fair (take n xs) (each_take P n xs arrays) j.1) s.1
 
     -- THE LIST THAT IS READ BACK IS JUDGED FINE.
-    pub list-judged : {P : A → Type 0} {blank : A} (f : A → A) → ((x : A) → P x → one (f x) ≡ judged.Fine) → Listed P is_blank blank most n xs
-        → judge_listed (map f (take n xs) ++ drop n xs) ≡ judged.Fine
+    pub list-judged : {P : A → Type 0} {blank : A} (f : A → A) → ((x : A) → P x → one (f x) ≡ Ok tt) → Listed P is_blank blank most n xs
+        → judge_listed (map f (take n xs) ++ drop n xs) ≡ Ok tt
     list-judged f again l =
         rw (taken f n xs l.many, dropped f n xs l.many, le-leb n most l.few, l.past) (each-judged f again (take n xs) l.each)
 
@@ -124,11 +123,11 @@ drop-blanks blank (suc n) (suc k) = let e : suc k - suc n ≡ k - n = omega arit
 
 -- A place reads what one shows into the next slot, as its class; `holding` is the record with these slots and this count.
 module _ {R A : Type 0} (p : Place R) (holding : List A → ℕ → R) (show : A → Group) (class : A → A) (blank : A) (most : ℕ) (P : A → Type 0)
-    (reads : (k : ℕ) (xs : List A) (x : A) → k < most → P x → p.read k (show x) (holding xs k) ≡ Good (holding (set xs k (class x)) (k + 1))) where
+    (reads : (k : ℕ) (xs : List A) (x : A) → k < most → P x → p.read k (show x) (holding xs k) ≡ Ok (holding (set xs k (class x)) (k + 1))) where
   -- read where n are done and the rest is blank
   fill-each : (ws done : List A) (n rest : ℕ) → Each P ws → length done ≡ n → n + (length ws + rest) ≡ most
       → fill p n (map show ws) (holding (done ++ replicate (length ws + rest) blank) n)
-      ≡ Good (holding (done ++ (map class ws ++ replicate rest blank)) (n + length ws))
+      ≡ Ok (holding (done ++ (map class ws ++ replicate rest blank)) (n + length ws))
   fill-each [] done n rest f len sum = rw (add-zero n, zero-add rest)
   fill-each (w ∷ ws) done n rest f len sum =
       let x = class w in
@@ -139,7 +138,7 @@ module _ {R A : Type 0} (p : Place R) (holding : List A → ℕ → R) (show : A
 
   -- WHAT IS SHOWN OF A LIST IS READ BACK, into blank slots: each that counts as its class, and blank past them.
   pub fill-listed : {is_blank : A → Bool} {n : ℕ} {xs : List A} → Listed P is_blank blank most n xs
-      → fill p 0 (map show (take n xs)) (holding (replicate most blank) 0) ≡ Good (holding (map class (take n xs) ++ drop n xs) n)
+      → fill p 0 (map show (take n xs)) (holding (replicate most blank) 0) ≡ Ok (holding (map class (take n xs) ++ drop n xs) n)
   fill-listed {n = n} {xs} l =
       let past : replicate (most - n) blank ≡ drop n xs = sym (drop-blanks blank n most) ∙ l.rest in
       let sum : n + (most - n) ≡ most = omega (arith, l.few) in

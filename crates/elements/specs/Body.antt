@@ -1,14 +1,13 @@
 -- THE BODY: wind, visibility or CAVOK, weather or NSW, clouds. METAR's row has these places, and so has the row of a trend's change, of a TAF's main part
 -- and of each of its changes: they are defined once, over the body, with what differs as terms.
 -- Assumes nothing: these are definitions.
-use Rattle.std.specs.Prelude.{ℕ, Bool, true, false, cond, not, ◌&&◌, ◌||◌, List, [], ◌∷◌, ◌++◌, ltb, eqb}
+use Rattle.std.specs.Prelude.{⊤, ℕ, Bool, true, false, cond, not, ◌&&◌, ◌||◌, List, [], ◌∷◌, ◌++◌, ltb, eqb, Err, Ok, Result}
+use Rattle.text.specs.declared.kinds.Refusal.{Refusal}
 use Rattle.figures.specs.Quote.{bytes}
-use Rattle.text.specs.declared.kinds.Judged.{Judged}
-use Rattle.text.specs.declared.kinds.Judged.TheVariants as judged
 use Rattle.text.specs.Judge.{judge, and_then}
 use Rattle.shapes.specs.Pattern.{Pattern, has_pattern, has_any}
 use Rattle.shapes.specs.Shape.{has_shape, parts_of, spellings}
-use Rattle.places.specs.Engine.{Group, Read, Good, Bad, Place}
+use Rattle.places.specs.Engine.{Group, Place}
 use Rattle.record.specs.declared.aerodrome.Visibility.{Visibility}
 use Rattle.record.specs.declared.aerodrome.Weather.{Weather}
 use Rattle.record.specs.declared.aerodrome.Body.{Body}
@@ -52,7 +51,7 @@ wind_place t =
       most = 1;
       must = t.required;
       ends = false;
-      read = λ k g b. then (read_wind t.forecast g) (λ x. Good (set_wind x b));
+      read = λ k g b. then (read_wind t.forecast g) (λ x. Ok (set_wind x b));
       show = λ b. cond (left_out t (is_blank_wind b.wind)) [] (show_wind b.wind ∷ []);
       put = λ b acc. set_wind (class_wind b.wind) acc;
     }
@@ -66,7 +65,7 @@ visibility_place t =
       most = 1;
       must = t.required;
       ends = false;
-      read = λ k g b. then (read_visibility t.forecast g) (λ x. Good (set_visibility x b));
+      read = λ k g b. then (read_visibility t.forecast g) (λ x. Ok (set_visibility x b));
       show = λ b. cond (left_out t (no_view b.visibility.is)) [] (show_visibility b.visibility ∷ []);
       put = λ b acc. set_visibility (class_visibility b.visibility) acc;
     }
@@ -84,18 +83,18 @@ abbrev pub with_nsw : List Pattern → List Pattern
 with_nsw ps = bytes "NSW" ∷ ps
 
 -- "CAVOK stands for visibility, weather and clouds; weather or clouds beside it are 7."
-abbrev pub beside_others : Body → Read Weather → Read Weather
-beside_others b (Good w) = agreeing (not (is_cavok b.visibility) && not b.nsw) (Good w)
-beside_others b (Bad f) = Bad f
+abbrev pub beside_others : Body → Result Weather Refusal → Result Weather Refusal
+beside_others b (Ok w) = agreeing (not (is_cavok b.visibility) && not b.nsw) (Ok w)
+beside_others b (Err f) = Err f
 
 -- where it is allowed, before any weather, not beside CAVOK
 abbrev pub nsw_stands : Terms → ℕ → Visibility → Bool
 nsw_stands t k v = t.may_nsw && eqb k 0 && not (is_cavok v)
 
-unfoldable pub read_weather_or_nsw : Terms → ℕ → Group → Body → Read Body
+unfoldable pub read_weather_or_nsw : Terms → ℕ → Group → Body → Result Body Refusal
 read_weather_or_nsw t k g b =
-    cond (is_nsw g) (agreeing (nsw_stands t k b.visibility) (Good (set_nsw true b)))
-    (then (beside_others b (read_weather t.forecast t.automatic g)) (λ w. Good (set_weathers (with_weather k b.weathers w) b)))
+    cond (is_nsw g) (agreeing (nsw_stands t k b.visibility) (Ok (set_nsw true b)))
+    (then (beside_others b (read_weather t.forecast t.automatic g)) (λ w. Ok (set_weathers (with_weather k b.weathers w) b)))
 
 abbrev pub show_weather_or_nsw : Body → List Group
 show_weather_or_nsw b = cond b.nsw (bytes "NSW" ∷ []) [] ++ show_weathers b.weathers
@@ -125,7 +124,7 @@ sky_place t =
       most = 4;
       must = false;
       ends = false;
-      read = λ k g b. then (read_sky t.forecast (is_cavok b.visibility) k g b.sky) (λ x. Good (set_sky x b));
+      read = λ k g b. then (read_sky t.forecast (is_cavok b.visibility) k g b.sky) (λ x. Ok (set_sky x b));
       show = λ b. show_sky b.sky;
       put = λ b acc. set_sky (class_sky b.sky) acc;
     }
@@ -137,13 +136,13 @@ body_row t = wind_place t ∷ visibility_place t ∷ weather_place t ∷ sky_pla
 -- ---- judging, element by element
 
 -- a wind or visibility that need not stand
-abbrev pub unless_absent : Terms → Bool → Judged → Judged
-unless_absent t absent j = cond (not t.required && absent) judged.Fine j
+abbrev pub unless_absent : Terms → Bool → Result ⊤ Refusal → Result ⊤ Refusal
+unless_absent t absent j = cond (not t.required && absent) (Ok tt) j
 
-abbrev pub wind_judged : Terms → Body → Judged
+abbrev pub wind_judged : Terms → Body → Result ⊤ Refusal
 wind_judged t b = unless_absent t (is_blank_wind b.wind) (judge_wind t.forecast b.wind)
 
-abbrev pub visibility_judged : Terms → Body → Judged
+abbrev pub visibility_judged : Terms → Body → Result ⊤ Refusal
 visibility_judged t b = unless_absent t (no_view b.visibility.is) (judge_visibility t.forecast b.visibility)
 
 -- NSW where it may stand, and not beside CAVOK
@@ -151,16 +150,16 @@ abbrev pub nsw_agrees : Terms → Body → Bool
 nsw_agrees t b = not b.nsw || (t.may_nsw && not (is_cavok b.visibility))
 
 -- the count, NSW, then each weather group
-abbrev pub weather_judged : Terms → Body → Judged
+abbrev pub weather_judged : Terms → Body → Result ⊤ Refusal
 weather_judged t b =
     cond (nsw_agrees t b) (judge_weathers (judge_weather t.forecast t.automatic (is_cavok b.visibility || b.nsw)) b.weathers)
     (judge (three_fit b.weathers) false)
 
-abbrev pub sky_judged : Terms → Body → Judged
+abbrev pub sky_judged : Terms → Body → Result ⊤ Refusal
 sky_judged t b = judge_sky t.forecast (is_cavok b.visibility) b.sky
 
 -- in written order
-unfoldable pub judge_body : Terms → Body → Judged
+unfoldable pub judge_body : Terms → Body → Result ⊤ Refusal
 judge_body t b = and_then (wind_judged t b) (and_then (visibility_judged t b) (and_then (weather_judged t b) (sky_judged t b)))
 
 -- "A change body needs one element"

@@ -1,23 +1,22 @@
 -- Weather (003, table 4678 and its notes): "sign or VC, at most one descriptor, one phenomenon or one to three different precipitations."
 -- Assumes nothing: these are definitions.
-use Rattle.std.specs.Prelude.{ℕ, ◌+◌, Bool, true, false, cond, not, ◌&&◌, ◌||◌, List, [], ◌∷◌, ◌++◌, map, length, get_or, take, drop, set, leb, ltb, eqb}
+use Rattle.std.specs.Prelude.{⊤, ℕ, ◌+◌, Bool, true, false, cond, not, ◌&&◌, ◌||◌, List, [], ◌∷◌, ◌++◌, map, length, get_or, take, drop, set, leb, ltb, eqb, Err, Ok, Result, None, Option, Some}
+use Rattle.text.specs.declared.kinds.Refusal.{Refusal}
 use Prim.Native.String.{String}
 use Rattle.figures.specs.Quote.{bytes}
 use Rattle.figures.specs.Figures.{every}
 use Rattle.shapes.specs.Pattern.{Pattern, has_pattern}
-use Rattle.places.specs.Engine.{Group, Read, Good, Bad}
+use Rattle.places.specs.Engine.{Group}
 use Rattle.record.specs.declared.aerodrome.Intensity.{Intensity}
 use Rattle.record.specs.declared.aerodrome.Intensity.TheVariants as intensity
 use Rattle.record.specs.declared.aerodrome.Code.{Code}
-use Rattle.record.specs.declared.aerodrome.Code.TheVariants as code
 use Rattle.record.specs.declared.aerodrome.Phenomena.{Phenomena}
-use Rattle.record.specs.declared.aerodrome.Phenomena.TheVariants as phenomena
 use Rattle.record.specs.declared.aerodrome.Weather.{Weather}
 use Rattle.record.specs.declared.aerodrome.Weathers.{Weathers}
+use Rattle.record.specs.Missing.{is_missing}
 use Rattle.record.specs.SilentAerodrome.{is_blank_weather}
-use Rattle.text.specs.declared.kinds.Judged.{Judged}
-use Rattle.text.specs.declared.kinds.Judged.TheVariants as judged
 use Rattle.text.specs.Judge.{judge, and_then}
+use Rattle.record.specs.Values.{code_of, phenomena_of}
 use Rattle.elements.specs.Parts.{wrong, provided, agreeing}
 
 -- ---- the codes of table 4678, two letters each
@@ -161,51 +160,51 @@ signed heavy (Under d cs) = precipitations cs && not (one "DRBL" d)
 
 -- ---- what a group says
 
-abbrev pub letters : List ℕ → Code
-letters c = code.Letters (get_or c 0 0) (get_or c 1 0)
+abbrev pub letters : List ℕ → Option Code
+letters c = Some (code_of (get_or c 0 0) (get_or c 1 0))
 
-abbrev pub code_at : List (List ℕ) → ℕ → Code
-code_at cs i = cond (ltb i (length cs)) (letters (get_or cs i [])) code.None
+abbrev pub code_at : List (List ℕ) → ℕ → Option Code
+code_at cs i = cond (ltb i (length cs)) (letters (get_or cs i [])) None
 
 abbrev pub weather_of : Intensity → Joined → Weather
-weather_of i (Bare cs) = record { is = phenomena.Is i code.None (code_at cs 0) (code_at cs 1) (code_at cs 2) }
-weather_of i (Under d cs) = record { is = phenomena.Is i (letters d) (code_at cs 0) (code_at cs 1) (code_at cs 2) }
+weather_of i (Bare cs) = record { is = Some (phenomena_of i None (code_at cs 0) (code_at cs 1) (code_at cs 2)) }
+weather_of i (Under d cs) = record { is = Some (phenomena_of i (letters d) (code_at cs 0) (code_at cs 1) (code_at cs 2)) }
 
 -- the sign or VC, and what it stands before
-abbrev pub unsigned : List (List ℕ) → Read Weather
+abbrev pub unsigned : List (List ℕ) → Result Weather Refusal
 unsigned [] = wrong
 unsigned (c ∷ cs) =
-    cond (one "VC" c) (provided (in_vicinity (joined cs)) (Good (weather_of intensity.Vicinity (joined cs))))
-    (provided (right (joined (c ∷ cs))) (Good (weather_of intensity.None (joined (c ∷ cs)))))
+    cond (one "VC" c) (provided (in_vicinity (joined cs)) (Ok (weather_of intensity.Vicinity (joined cs))))
+    (provided (right (joined (c ∷ cs))) (Ok (weather_of intensity.None (joined (c ∷ cs)))))
 
-abbrev pub with_sign : Bool → List (List ℕ) → Read Weather
+abbrev pub with_sign : Bool → List (List ℕ) → Result Weather Refusal
 with_sign heavy cs =
-    provided (right (joined cs) && signed heavy (joined cs)) (Good (weather_of (cond heavy intensity.Heavy intensity.Light) (joined cs)))
+    provided (right (joined cs) && signed heavy (joined cs)) (Ok (weather_of (cond heavy intensity.Heavy intensity.Light) (joined cs)))
 
-unfoldable pub said_weather : Group → Read Weather
+unfoldable pub said_weather : Group → Result Weather Refusal
 said_weather [] = wrong
 said_weather (b ∷ g) = cond (eqb b 43) (with_sign true (codes_of g)) (cond (eqb b 45) (with_sign false (codes_of g)) (unsigned (codes_of (b ∷ g))))
 
 abbrev pub missing_weather : Weather
-missing_weather = record { is = phenomena.Missing }
+missing_weather = record { is = None }
 
 -- "UP without AUTO is 7."
-abbrev pub is_unknown : Code → Bool
-is_unknown code.None = false
-is_unknown (code.Letters a b) = eqb a 85 && eqb b 80
+abbrev pub is_unknown : Option Code → Bool
+is_unknown None = false
+is_unknown (Some x) = eqb x.first 85 && eqb x.second 80
 
-abbrev pub has_unknown : Phenomena → Bool
-has_unknown phenomena.Missing = false
-has_unknown (phenomena.Is i d a b c) = is_unknown a || is_unknown b || is_unknown c
+abbrev pub has_unknown : Option Phenomena → Bool
+has_unknown None = false
+has_unknown (Some x) = is_unknown x.first || is_unknown x.second || is_unknown x.third
 
-abbrev pub unless_unknown : Bool → Read Weather → Read Weather
-unless_unknown automatic (Good w) = agreeing (automatic || not (has_unknown w.is)) (Good w)
-unless_unknown automatic (Bad f) = Bad f
+abbrev pub unless_unknown : Bool → Result Weather Refusal → Result Weather Refusal
+unless_unknown automatic (Ok w) = agreeing (automatic || not (has_unknown w.is)) (Ok w)
+unless_unknown automatic (Err f) = Err f
 
 -- present or forecast weather; // is missing, in a TAF 5
-unfoldable pub read_weather : Bool → Bool → Group → Read Weather
+unfoldable pub read_weather : Bool → Bool → Group → Result Weather Refusal
 read_weather forecast automatic g =
-    cond (has_pattern g (bytes "//")) (provided (not forecast) (Good missing_weather)) (unless_unknown automatic (said_weather g))
+    cond (has_pattern g (bytes "//")) (provided (not forecast) (Ok missing_weather)) (unless_unknown automatic (said_weather g))
 
 -- recent weather: "RE groups carry no sign and no VC (5)."
 abbrev pub plain : Intensity → Bool
@@ -214,15 +213,15 @@ plain intensity.Light = false
 plain intensity.Heavy = false
 plain intensity.Vicinity = false
 
-abbrev pub is_plain : Phenomena → Bool
-is_plain phenomena.Missing = false
-is_plain (phenomena.Is i d a b c) = plain i
+abbrev pub is_plain : Option Phenomena → Bool
+is_plain None = false
+is_plain (Some x) = plain x.intensity
 
-abbrev pub only_plain : Read Weather → Read Weather
-only_plain (Good w) = provided (is_plain w.is) (Good w)
-only_plain (Bad f) = Bad f
+abbrev pub only_plain : Result Weather Refusal → Result Weather Refusal
+only_plain (Ok w) = provided (is_plain w.is) (Ok w)
+only_plain (Err f) = Err f
 
-unfoldable pub read_recent : Bool → Group → Read Weather
+unfoldable pub read_recent : Bool → Group → Result Weather Refusal
 read_recent automatic [] = wrong
 read_recent automatic (r ∷ []) = wrong
 read_recent automatic (r ∷ e ∷ g) = unless_unknown automatic (only_plain (said_weather g))
@@ -233,9 +232,9 @@ with_weather k ws x = cond (ltb k 3) (record { items = set ws.items k x; count =
 
 -- ---- writing
 
-abbrev pub code_text : Code → List ℕ
-code_text code.None = []
-code_text (code.Letters a b) = a ∷ b ∷ []
+abbrev pub code_text : Option Code → List ℕ
+code_text None = []
+code_text (Some x) = x.first ∷ x.second ∷ []
 
 abbrev pub sign_text : Intensity → List ℕ
 sign_text intensity.None = []
@@ -243,9 +242,9 @@ sign_text intensity.Light = bytes "-"
 sign_text intensity.Heavy = bytes "+"
 sign_text intensity.Vicinity = bytes "VC"
 
-abbrev pub phenomena_text : Phenomena → Group
-phenomena_text phenomena.Missing = bytes "//"
-phenomena_text (phenomena.Is i d a b c) = sign_text i ++ code_text d ++ code_text a ++ code_text b ++ code_text c
+abbrev pub phenomena_text : Option Phenomena → Group
+phenomena_text None = bytes "//"
+phenomena_text (Some x) = sign_text x.intensity ++ code_text x.descriptor ++ code_text x.first ++ code_text x.second ++ code_text x.third
 
 unfoldable pub show_weather : Weather → Group
 show_weather w = phenomena_text w.is
@@ -262,26 +261,22 @@ show_recents ws = map show_recent (take ws.count ws.items)
 -- ---- judging: "A sign and table codes wrongly joined are 5", in a record a value outside its range. The codes stand one after the other, the first
 -- a descriptor or none, and what they are joined to is read back as they are.
 
-abbrev pub is_none : Code → Bool
-is_none code.None = true
-is_none (code.Letters a b) = false
-
 -- no code after one that is not there
-abbrev pub gapless : Code → Code → Code → Bool
-gapless a b c = (not (is_none a) || (is_none b && is_none c)) && (not (is_none b) || is_none c)
+abbrev pub gapless : Option Code → Option Code → Option Code → Bool
+gapless a b c = (not (is_missing a) || (is_missing b && is_missing c)) && (not (is_missing b) || is_missing c)
 
-abbrev pub listed : Code → List (List ℕ) → List (List ℕ)
-listed code.None cs = cs
-listed (code.Letters a b) cs = (a ∷ b ∷ []) ∷ cs
+abbrev pub listed : Option Code → List (List ℕ) → List (List ℕ)
+listed None cs = cs
+listed (Some x) cs = (x.first ∷ x.second ∷ []) ∷ cs
 
-abbrev pub under : Code → List (List ℕ) → Joined
-under code.None cs = Bare cs
-under (code.Letters a b) cs = Under (a ∷ b ∷ []) cs
+abbrev pub under : Option Code → List (List ℕ) → Joined
+under None cs = Bare cs
+under (Some x) cs = Under (x.first ∷ x.second ∷ []) cs
 
 -- a descriptor is one of the table's
-abbrev pub is_described : Code → Bool
-is_described code.None = true
-is_described (code.Letters a b) = is_descriptor (a ∷ b ∷ [])
+abbrev pub is_described : Option Code → Bool
+is_described None = true
+is_described (Some x) = is_descriptor (x.first ∷ x.second ∷ [])
 
 abbrev pub intensity_fits : Intensity → Joined → Bool
 intensity_fits intensity.None j = right j
@@ -289,26 +284,26 @@ intensity_fits intensity.Light j = right j && signed false j
 intensity_fits intensity.Heavy j = right j && signed true j
 intensity_fits intensity.Vicinity j = in_vicinity j
 
-abbrev pub phenomena_fit : Phenomena → Bool
-phenomena_fit phenomena.Missing = false
-phenomena_fit (phenomena.Is i d a b c) = is_described d && gapless a b c && intensity_fits i (under d (listed a (listed b (listed c []))))
+abbrev pub phenomena_fit : Option Phenomena → Bool
+phenomena_fit None = false
+phenomena_fit (Some x) = is_described x.descriptor && gapless x.first x.second x.third && intensity_fits x.intensity (under x.descriptor (listed x.first (listed x.second (listed x.third []))))
 
 -- beside: CAVOK or NSW stands for the weather
-unfoldable pub judge_weather : Bool → Bool → Bool → Weather → Judged
+unfoldable pub judge_weather : Bool → Bool → Bool → Weather → Result ⊤ Refusal
 judge_weather forecast automatic beside w =
     judge (phenomena_fit w.is || (not forecast && is_blank_weather w)) (not beside && (automatic || not (has_unknown w.is)))
 
-unfoldable pub judge_recent : Bool → Weather → Judged
+unfoldable pub judge_recent : Bool → Weather → Result ⊤ Refusal
 judge_recent automatic w = judge (phenomena_fit w.is && is_plain w.is) (automatic || not (has_unknown w.is))
 
 -- ---- up to three: "a count over its limit, a slot past its count .. that is not blank", then each in turn
 
-abbrev pub judge_each : (Weather → Judged) → List Weather → Judged
-judge_each test [] = judged.Fine
+abbrev pub judge_each : (Weather → Result ⊤ Refusal) → List Weather → Result ⊤ Refusal
+judge_each test [] = Ok tt
 judge_each test (w ∷ ws) = and_then (test w) (judge_each test ws)
 
 abbrev pub three_fit : Weathers → Bool
 three_fit ws = leb ws.count 3 && every is_blank_weather (drop ws.count ws.items)
 
-unfoldable pub judge_weathers : (Weather → Judged) → Weathers → Judged
+unfoldable pub judge_weathers : (Weather → Result ⊤ Refusal) → Weathers → Result ⊤ Refusal
 judge_weathers test ws = and_then (judge (three_fit ws) true) (judge_each test (take ws.count ws.items))

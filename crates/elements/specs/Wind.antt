@@ -2,7 +2,8 @@
 -- mean or with calm, 000 or a zero speed without the other, or equal directions in dddVddd: 7." The missing form is ///// and unit; "in a TAF these
 -- are 5". Document 02, No. 8: "P99KT, P49MPS and P199KMH for mean or gust above those figures".
 -- Assumes nothing: these are definitions.
-use Rattle.std.specs.Prelude.{ℕ, ◌+◌, Bool, true, false, cond, not, ◌&&◌, ◌||◌, List, [], ◌∷◌, ◌++◌, leb, ltb, eqb}
+use Rattle.std.specs.Prelude.{⊤, ℕ, ◌+◌, Bool, true, false, cond, not, ◌&&◌, ◌||◌, List, [], ◌∷◌, ◌++◌, leb, ltb, eqb, Ok, Result, None, Option, Some}
+use Rattle.text.specs.declared.kinds.Refusal.{Refusal}
 use Rattle.figures.specs.Quote.{bytes}
 use Rattle.figures.specs.declared.kinds.Field.{Field}
 use Rattle.figures.specs.declared.kinds.Field.TheVariants as field
@@ -10,7 +11,7 @@ use Rattle.figures.specs.Figures.{field_at, figures}
 use Rattle.shapes.specs.declared.kinds.Value.{Value}
 use Rattle.shapes.specs.Shape.{print_of}
 use Rattle.scales.specs.Rounded.{rounded_direction, ddd_figure, ddd_reading}
-use Rattle.places.specs.Engine.{Group, Read, Good}
+use Rattle.places.specs.Engine.{Group}
 use Rattle.record.specs.declared.values.Direction.{Direction}
 use Rattle.record.specs.declared.values.Direction.TheVariants as direction
 use Rattle.record.specs.declared.values.Speed.{Speed}
@@ -19,13 +20,12 @@ use Rattle.record.specs.declared.aerodrome.Unit.{Unit}
 use Rattle.record.specs.declared.aerodrome.Unit.TheVariants as unit
 use Rattle.record.specs.declared.aerodrome.Wind.{Wind}
 use Rattle.record.specs.declared.aerodrome.Extremes.{Extremes}
-use Rattle.record.specs.declared.aerodrome.Extremes.TheVariants as extremes
 use Rattle.record.specs.declared.aerodrome.Variation.{Variation}
 use Rattle.record.specs.Missing.{no_speed, is_still}
 use Rattle.record.specs.SilentAerodrome.{no_unit}
 use Rattle.record.specs.Classes.{class_direction}
-use Rattle.text.specs.declared.kinds.Judged.{Judged}
 use Rattle.text.specs.Judge.{judge}
+use Rattle.record.specs.Values.{extremes_of}
 use Rattle.elements.specs.Parts.{figured, used, provided, agreeing, then, value_at, is_missing}
 
 -- direction, speed, gust, unit
@@ -47,21 +47,21 @@ abbrev pub in_width : ℕ → ℕ → Bool
 in_width which n = cond (eqb which 0 || eqb which 2) (leb 100 n && leb n 199) true
 
 -- a number, or after P what is above it: "P with another figure is 5"
-abbrev pub speed_by : Unit → ℕ → ℕ → Read Speed
-speed_by u which n = cond (leb which 1) (Good (speed.Is n)) (provided (eqb n (last_exact u)) (Good (speed.Above n)))
+abbrev pub speed_by : Unit → ℕ → ℕ → Result Speed Refusal
+speed_by u which n = cond (leb which 1) (Ok (speed.Is n)) (provided (eqb n (last_exact u)) (Ok (speed.Above n)))
 
-abbrev pub speed_of : Unit → Value → Read Speed
+abbrev pub speed_of : Unit → Value → Result Speed Refusal
 speed_of u v = figured v.field (λ n. provided (in_width v.which n) (speed_by u v.which n))
 
 -- the gust has one alternative more, number 4, which is nothing
-abbrev pub gust_of : Unit → Value → Read Speed
-gust_of u v = cond (eqb v.which 4) (Good speed.Missing) (speed_of u v)
+abbrev pub gust_of : Unit → Value → Result Speed Refusal
+gust_of u v = cond (eqb v.which 4) (Ok speed.Missing) (speed_of u v)
 
 -- 000 is calm, and alternative 1 is VRB
-abbrev pub direction_of : Value → Read Direction
+abbrev pub direction_of : Value → Result Direction Refusal
 direction_of v =
-    cond (eqb v.which 1) (Good direction.Variable)
-    (figured v.field (λ d. cond (eqb d 0) (Good direction.Calm) (used (ddd_reading d) (λ x. Good (direction.Degrees x)))))
+    cond (eqb v.which 1) (Ok direction.Variable)
+    (figured v.field (λ d. cond (eqb d 0) (Ok direction.Calm) (used (ddd_reading d) (λ x. Ok (direction.Degrees x)))))
 
 abbrev pub is_calm : Direction → Bool
 is_calm direction.Missing = false
@@ -99,12 +99,12 @@ no_wind u = record { direction = direction.Missing; speed = speed.Missing; gust 
 abbrev pub is_no_wind : Value → Value → Value → Bool
 is_no_wind d s g = eqb d.which 0 && is_missing d.field && eqb s.which 1 && is_missing s.field && eqb g.which 4
 
-unfoldable pub wind_by : Bool → Unit → Value → Value → Value → Read Wind
+unfoldable pub wind_by : Bool → Unit → Value → Value → Value → Result Wind Refusal
 wind_by forecast u d s g =
-    cond (is_no_wind d s g) (provided (not forecast) (Good (no_wind u)))
-    (then (direction_of d) (λ x. then (speed_of u s) (λ y. then (gust_of u g) (λ z. agreeing (wind_agrees x y z) (Good (wind_with u x y z))))))
+    cond (is_no_wind d s g) (provided (not forecast) (Ok (no_wind u)))
+    (then (direction_of d) (λ x. then (speed_of u s) (λ y. then (gust_of u g) (λ z. agreeing (wind_agrees x y z) (Ok (wind_with u x y z))))))
 
-unfoldable pub read_wind : Bool → Group → Read Wind
+unfoldable pub read_wind : Bool → Group → Result Wind Refusal
 read_wind forecast g =
     wind_by forecast (unit_of (value_at wind_shape g 3).which) (value_at wind_shape g 0) (value_at wind_shape g 1) (value_at wind_shape g 2)
 
@@ -112,11 +112,11 @@ read_wind forecast g =
 abbrev pub variation_shape : List ℕ
 variation_shape = bytes "###V###"
 
-unfoldable pub read_variation : Group → Read Variation
+unfoldable pub read_variation : Group → Result Variation Refusal
 read_variation g =
     figured (field_at g 0 3)
     (λ a. figured (field_at g 4 3)
-    (λ b. used (ddd_reading a) (λ x. used (ddd_reading b) (λ y. agreeing (not (eqb a b)) (Good (record { is = extremes.Between x y }))))))
+    (λ b. used (ddd_reading a) (λ x. used (ddd_reading b) (λ y. agreeing (not (eqb a b)) (Ok (record { is = Some (extremes_of x y) }))))))
 
 -- ---- writing
 
@@ -165,9 +165,9 @@ wind_values u d s g = direction_value d ∷ speed_value s ∷ gust_value g ∷ u
 unfoldable pub show_wind : Wind → Group
 show_wind w = print_of wind_shape (wind_values w.unit w.direction (class_speed w.unit w.speed) (class_speed w.unit w.gust))
 
-abbrev pub extremes_group : Extremes → List Group
-extremes_group extremes.Missing = []
-extremes_group (extremes.Between a b) = (figures 3 (ddd_figure a) ++ bytes "V" ++ figures 3 (ddd_figure b)) ∷ []
+abbrev pub extremes_group : Option Extremes → List Group
+extremes_group None = []
+extremes_group (Some x) = (figures 3 (ddd_figure x.from) ++ bytes "V" ++ figures 3 (ddd_figure x.to)) ∷ []
 
 unfoldable pub show_variation : Variation → List Group
 show_variation v = extremes_group v.is
@@ -200,21 +200,21 @@ wind_fits forecast u direction.Variable s g = speed_fits u s && gust_fits u g
 wind_fits forecast u (direction.Degrees d) s g = leb d 359 && speed_fits u s && gust_fits u g
 
 -- "agreement being judged on the figures it would write"
-unfoldable pub judge_wind : Bool → Wind → Judged
+unfoldable pub judge_wind : Bool → Wind → Result ⊤ Refusal
 judge_wind forecast w =
     judge (has_unit w.unit && wind_fits forecast w.unit w.direction w.speed w.gust)
     (wind_agrees w.direction (class_speed w.unit w.speed) (class_speed w.unit w.gust))
 
-abbrev pub extremes_fit : Extremes → Bool
-extremes_fit extremes.Missing = true
-extremes_fit (extremes.Between a b) = leb a 359 && leb b 359
+abbrev pub extremes_fit : Option Extremes → Bool
+extremes_fit None = true
+extremes_fit (Some x) = leb x.from 359 && leb x.to 359
 
 -- on the figures that would be written
-abbrev pub extremes_agree : Extremes → Bool
-extremes_agree extremes.Missing = true
-extremes_agree (extremes.Between a b) = not (eqb (ddd_figure a) (ddd_figure b))
+abbrev pub extremes_agree : Option Extremes → Bool
+extremes_agree None = true
+extremes_agree (Some x) = not (eqb (ddd_figure x.from) (ddd_figure x.to))
 
-unfoldable pub judge_variation : Variation → Judged
+unfoldable pub judge_variation : Variation → Result ⊤ Refusal
 judge_variation v = judge (extremes_fit v.is) (extremes_agree v.is)
 
 -- ---- what is read back
@@ -234,9 +234,9 @@ speed_rank speed.Missing = 0
 speed_rank (speed.Is s) = s
 speed_rank (speed.Above s) = s + 1
 
-abbrev pub class_extremes : Extremes → Extremes
-class_extremes extremes.Missing = extremes.Missing
-class_extremes (extremes.Between a b) = extremes.Between (rounded_direction a) (rounded_direction b)
+abbrev pub class_extremes : Option Extremes → Option Extremes
+class_extremes None = None
+class_extremes (Some x) = Some (extremes_of (rounded_direction x.from) (rounded_direction x.to))
 
 abbrev pub class_variation : Variation → Variation
 class_variation v = record { is = class_extremes v.is }

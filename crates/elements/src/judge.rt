@@ -2,13 +2,11 @@
 ghost use Rattle.std.specs.Prelude.{◌≡◌};
 ghost use Rattle.elements.specs.Judge.{metres_fit};
 
-use record::values::Number;
-
-pub fn metres_fit(forecast: bool, n: Number) -> bool
+pub fn metres_fit(forecast: bool, n: Option<u32>) -> bool
     ensures { result ≡ metres_fit forecast n }
 {
     match n {
-        Number::Missing => !forecast,
-        Number::Is(m) => m <= 99999,
+        None => !forecast,
+        Some(m) => m <= 99999,
     }
 }

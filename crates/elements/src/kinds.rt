@@ -34,21 +34,3 @@ pub enum Said {
     State(RunwayState),
     Snoclo,
 }
-
-#[derive(Clone, Copy)]
-pub enum WeatherRead {
-    Good(Weather),
-    Bad(Refusal),
-}
-
-#[derive(Clone, Copy)]
-pub enum LayerRead {
-    Good(Layer),
-    Bad(Refusal),
-}
-
-#[derive(Clone, Copy)]
-pub enum CoverRead {
-    Good(Cover),
-    Bad(Refusal),
-}

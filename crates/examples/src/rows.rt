@@ -1,6 +1,6 @@
 // One line for each value or figure: what it is, an arrow, and what the library answers.
 use crate::print;
-use scales::kinds::{Degrees, Figure, Rain, RainReading, Range, RangeFigure, Reading, Tenths};
+use scales::kinds::{Degrees, Rain, Range};
 use seen_values::kinds::Seen;
 use seen_values::{metres, pressure};
 use std::io;
@@ -40,10 +40,10 @@ fn width(s: Scale) -> usize {
     }
 }
 
-fn whole(out: &mut impl Write, width: usize, f: Figure) -> io::Result<()> {
+fn whole(out: &mut impl Write, width: usize, f: Option<u32>) -> io::Result<()> {
     match f {
-        Figure::Is(n) => print::figures(out, width, n),
-        Figure::OutOfRange => print::say(out, b"out of range"),
+        Some(n) => print::figures(out, width, n),
+        None => print::say(out, b"out of range"),
     }
 }
 
@@ -63,8 +63,8 @@ fn say_range(out: &mut impl Write, r: Range) -> io::Result<()> {
 
 fn runway(out: &mut impl Write, v: u32) -> io::Result<()> {
     match scales::metres::runway_figure(v) {
-        RangeFigure::Is(r) => say_range(out, r),
-        RangeFigure::OutOfRange => print::say(out, b"out of range"),
+        Some(r) => say_range(out, r),
+        None => print::say(out, b"out of range"),
     }
 }
 
@@ -95,18 +95,18 @@ fn written(out: &mut impl Write, s: Scale, v: u32) -> io::Result<()> {
     }
 }
 
-fn read(out: &mut impl Write, s: Scale, r: Reading) -> io::Result<()> {
+fn read(out: &mut impl Write, s: Scale, r: Option<u32>) -> io::Result<()> {
     match r {
-        Reading::Is(n) => value(out, s, n),
-        Reading::Unused => print::say(out, b"unused"),
+        Some(n) => value(out, s, n),
+        None => print::say(out, b"unused"),
     }
 }
 
 fn read_rain(out: &mut impl Write, f: u32) -> io::Result<()> {
     match scales::rain::rain_reading(f) {
-        RainReading::Is(Rain::Trace) => print::say(out, b"trace"),
-        RainReading::Is(Rain::Tenths(t)) => print::tenths(out, t),
-        RainReading::Unused => print::say(out, b"unused"),
+        Some(Rain::Trace) => print::say(out, b"trace"),
+        Some(Rain::Tenths(t)) => print::tenths(out, t),
+        None => print::say(out, b"unused"),
     }
 }
 
@@ -218,11 +218,11 @@ fn temperature(out: &mut impl Write, t: i32) -> io::Result<()> {
     print::signed(out, t)?;
     print::arrow(out)?;
     match scales::degrees::degrees_figure(t) {
-        Degrees::Is { minus, whole } => {
+        Some(Degrees { minus, whole }) => {
             mark(out, minus)?;
             print::figures(out, 2, whole)?;
         }
-        Degrees::OutOfRange => print::say(out, b"out of range")?,
+        None => print::say(out, b"out of range")?,
     }
     print::line_end(out)
 }
@@ -235,11 +235,11 @@ pub fn temperatures(out: &mut impl Write, list: &[i32]) -> io::Result<()> {
     Ok(())
 }
 
-fn read_tenths(out: &mut impl Write, t: Tenths) -> io::Result<()> {
+fn read_tenths(out: &mut impl Write, t: Option<i32>) -> io::Result<()> {
     print::arrow(out)?;
     match t {
-        Tenths::Is(n) => print::signed(out, n)?,
-        Tenths::Unused => print::say(out, b"unused")?,
+        Some(n) => print::signed(out, n)?,
+        None => print::say(out, b"unused")?,
     }
     print::line_end(out)
 }

@@ -3,14 +3,12 @@
 use mathlib.Core.Path.{◌≡◌, refl, sym}
 use mathlib.Core.Bool.{Bool, true, false, cond, ◌&&◌, and-eq-true_iff, false≢true}
 use mathlib.Core.List.{List, [], ◌∷◌}
-use Prim.Native.Nat.{ℕ, ◌+◌, ◌-◌, ◌*◌, ◌^◌, ◌≤◌, ◌<◌}
-use native.Mathlib.Nat.{le_trans, pow-le-pow_right}
+use Prim.Native.Nat.{ℕ, ◌+◌, ◌-◌, ◌*◌, ◌≤◌, ◌<◌}
 use native.Mathlib.Numerals.{add-one}
-use native.Mathlib.Omega.{arith}
 use lib.ListN.{length, take, drop, get_or}
 use lib.Seq.{drop-cons}
-use lib.Dec.{lit<, leb, eqb}
-use borrow.Author.Tests.{le-leb, lt-leb, leb-true, ne_eqb, eqb-true}
+use lib.Dec.{leb, eqb}
+use borrow.Author.Tests.{le-leb, leb-true, eqb-true}
 use Rattle.figures.specs.declared.kinds.Field.{Field}
 use Rattle.figures.specs.declared.kinds.Field.TheVariants.{Number, Missing, Mixed, Other}
 use Rattle.figures.specs.Figures.{scan, field_at}
@@ -19,24 +17,8 @@ use Rattle.figures.specs.Figures.{scan, field_at}
 pub next : (s : List ℕ) (i : ℕ) → i < length s → drop i s ≡ get_or s i 0 ∷ drop (i + 1) s
 next s i h = rw (add-one, drop-cons s i 0)
 
--- a number of i figures, i below 5
-pub small : {n i : ℕ} → n < 10 ^ i → i < 5 → n < 10000
-small h k = le_trans h (pow-le-pow_right {n = 10} (lit< tt) {j = 4} (omega arith))
-
 -- one turn at the byte b: `rest` is what is left after it, and r what all holds
 module _ (n b : ℕ) (fig slash : Bool) (rest : List ℕ) {r : Field} (inv : scan n fig slash (b ∷ rest) ≡ r) where
-  pub on-low : b < 47 → Other ≡ r
-  unfolding scan
-  on-low h = rw (lt-leb 48 b (omega arith), ne_eqb b 47 (omega arith)) at inv
-
-  pub on-high : 57 < b → Other ≡ r
-  unfolding scan
-  on-high h = rw (le-leb 48 b (omega arith), lt-leb b 57 h, ne_eqb b 47 (omega arith)) at inv
-
-  pub on-slash : b ≡ 47 → scan n fig true rest ≡ r
-  unfolding scan
-  on-slash h = rw h at inv
-
   pub on-figure : 48 ≤ b → b ≤ 57 → scan (n * 10 + (b - 48)) true slash rest ≡ r
   unfolding scan
   on-figure lo hi = rw (le-leb 48 b lo, le-leb b 57 hi) at inv

@@ -4,3 +4,4 @@ pub mod Figures
 pub mod Signs
 pub mod Every
 pub mod Impossible
+pub mod Loops

@@ -1,5 +1,6 @@
 -- The laws of sign and magnitude: a signed number is its sign and magnitude put together again.
 -- Assumes nothing.
+use Rattle.std.specs.Prelude.{Some}
 use mathlib.Core.Path.{◌≡◌, refl}
 use mathlib.Core.Bool.{Bool, true, false}
 use Prim.Native.Nat.{ℕ, zero, suc, ◌≤◌}
@@ -9,7 +10,6 @@ use lib.Signed.{lt_z}
 use borrow.Author.Tests.{le-leb, le-ltb}
 use mir.Syntax.{w32}
 use mir.Val.{SFits}
-use Rattle.figures.specs.declared.kinds.Signed.TheVariants.{Is}
 use Rattle.figures.specs.Signed.{negative, with_sign, signed_of}
 
 -- the code's test
@@ -21,11 +21,11 @@ pub with-sign : (t : ℤ) → with_sign (negative t) (nat_abs t) ≡ t
 with-sign (pos n) = refl
 with-sign (negsuc n) = refl
 
-pub signed-in : (s : Bool) (m : ℕ) → m ≤ 2147483647 → Is (with_sign s m) ≡ signed_of s m
+pub signed-in : (s : Bool) (m : ℕ) → m ≤ 2147483647 → Some (with_sign s m) ≡ signed_of s m
 unfolding signed_of
 signed-in s m h = rw (le-leb m 2147483647 h)
 
-pub signed_back : (t : ℤ) → nat_abs t ≤ 2147483647 → signed_of (negative t) (nat_abs t) ≡ Is t
+pub signed_back : (t : ℤ) → nat_abs t ≤ 2147483647 → signed_of (negative t) (nat_abs t) ≡ Some t
 unfolding signed_of
 signed_back t h = rw (le-leb (nat_abs t) 2147483647 h, with-sign t)
 

@@ -1,8 +1,6 @@
 -- Signed numbers by sign and magnitude. The record keeps tenths as whole signed numbers; a text has a sign and figures.
 -- Assumes nothing: these are definitions.
-use Rattle.std.specs.Prelude.{ℕ, Bool, true, false, cond, leb, ℤ, pos, negsuc, neg_ℤ}
-use Rattle.figures.specs.declared.kinds.Signed.{Signed}
-use Rattle.figures.specs.declared.kinds.Signed.TheVariants.{Is, TooLarge}
+use Rattle.std.specs.Prelude.{ℕ, Bool, true, false, cond, leb, ℤ, pos, negsuc, neg_ℤ, None, Option, Some}
 
 abbrev pub negative : ℤ → Bool
 negative (pos n) = false
@@ -14,5 +12,5 @@ with_sign false m = pos m
 with_sign true m = neg_ℤ (pos m)
 
 -- the same where it fits the record's 32 bits either way
-unfoldable pub signed_of : Bool → ℕ → Signed
-signed_of minus m = cond (leb m 2147483647) (Is (with_sign minus m)) TooLarge
+unfoldable pub signed_of : Bool → ℕ → Option ℤ
+signed_of minus m = cond (leb m 2147483647) (Some (with_sign minus m)) None

@@ -9,10 +9,3 @@ pub enum Field {
     Mixed,
     Other,
 }
-
-// A signed number made of a sign and a magnitude, or none where it does not fit.
-#[derive(Clone, Copy)]
-pub enum Signed {
-    Is(i32),
-    TooLarge,
-}

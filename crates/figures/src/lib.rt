@@ -14,7 +14,7 @@ use kinds::Field;
 pub fn is_figure(b: u8) -> bool
     ensures { result ≡ is_figure b }
 {
-    (b'0' <= b) & (b <= b'9')
+    b.is_ascii_digit()
 }
 
 pub fn is_slash(b: u8) -> bool
@@ -26,14 +26,14 @@ pub fn is_slash(b: u8) -> bool
 pub fn is_letter(b: u8) -> bool
     ensures { result ≡ is_letter b }
 {
-    (b'A' <= b) & (b <= b'Z')
+    b.is_ascii_uppercase()
 }
 
 // The byte at i; 0 past the end.
 pub fn byte_at(s: &[u8], i: usize) -> u8
     ensures { result ≡ get_or s.now i 0 }
 {
-    if i < s.len() { s[i] } else { 0 }
+    s.get(i).copied().unwrap_or(0)
 }
 
 // What all the bytes of s hold: at most five, so that the number fits.
@@ -44,27 +44,20 @@ fn field_of(s: &[u8]) -> Field
     let mut n: u32 = 0;
     let mut fig = false;
     let mut slash = false;
-    let mut i = 0;
-    while i < s.len() {
-        let b = s[i];
-        if b < b'/' {
-            return Field::Other;
-        }
-        if b'9' < b {
-            return Field::Other;
-        }
-        if b == b'/' {
-            slash = true;
-        } else {
+    for &b in s {
+        if is_figure(b) {
             n = n * 10 + (b - b'0') as u32;
             fig = true;
+        } else if is_slash(b) {
+            slash = true;
+        } else {
+            return Field::Other;
         }
-        i += 1;
     }
-    if slash {
-        if fig { Field::Mixed } else { Field::Missing }
-    } else {
-        Field::Number(n)
+    match (slash, fig) {
+        (true, true) => Field::Mixed,
+        (true, false) => Field::Missing,
+        (false, _) => Field::Number(n),
     }
 }
 

@@ -44,10 +44,8 @@ pub fn put_text(out: &mut [u8], at: usize, s: &[u8]) -> usize
     ensures { Put out.old at s.now result out.new }
 {
     let mut next = at;
-    let mut i = 0;
-    while i < s.len() {
-        next = put_byte(out, next, s[i]);
-        i += 1;
+    for &b in s {
+        next = put_byte(out, next, b);
     }
     next
 }

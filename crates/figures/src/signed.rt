@@ -2,8 +2,6 @@
 ghost use Rattle.std.specs.Prelude.{◌≡◌, nat_abs};
 ghost use Rattle.figures.specs.Signed.{negative, signed_of};
 
-use crate::kinds::Signed;
-
 pub fn is_negative(t: i32) -> bool
     ensures { result ≡ negative t }
 {
@@ -23,13 +21,13 @@ pub fn magnitude(t: i32) -> u32
 }
 
 // Minus or plus m, where it fits.
-pub fn signed_of(minus: bool, m: u32) -> Signed
+pub fn signed_of(minus: bool, m: u32) -> Option<i32>
     ensures { result ≡ signed_of minus m }
 {
     if m <= 2147483647 {
         let n = m as i32;
-        if minus { Signed::Is(-n) } else { Signed::Is(n) }
+        if minus { Some(-n) } else { Some(n) }
     } else {
-        Signed::TooLarge
+        None
     }
 }

@@ -1,6 +1,8 @@
 -- The laws of reading a METAR: what a group says goes into the record as its place reads it, where the observation ends, and the name at the row's first
 -- place.
 -- Assumes nothing.
+use Rattle.std.specs.Prelude.{Err, Ok, Option, Result}
+use Rattle.text.specs.declared.kinds.Refusal.{Refusal}
 use Prim.Native.Nat.{ℕ, ◌≤◌}
 use native.Mathlib.Omega.{arith}
 use mathlib.Core.Path.{◌≡◌, refl, sym, ◌∙◌, subst}
@@ -11,14 +13,12 @@ use lib.Dec.{T, eqb}
 use types.Run.{OneOf, miss}
 use denote.Enum.Declared.{tag_of}
 use Rattle.text.specs.declared.kinds.Refusal.TheVariants as refusal
-use Rattle.text.specs.declared.kinds.Tail.{Tail}
-use Rattle.text.specs.declared.kinds.Verdict.{Verdict}
-use Rattle.text.specs.declared.kinds.Verdict.TheVariants as verdict
+use Rattle.text.specs.declared.kinds.Refused.{Refused}
 use Rattle.text.specs.Groups.{Piece, part_of}
 use Rattle.figures.specs.Quote.{bytes}
 use Rattle.shapes.specs.Pattern.{low, high, fits, has_pattern, has_any, clash, clash_each, all_apart}
 use Rattle.shapes.proofs.Patterns.{or_right, excluded, all-excluded}
-use Rattle.places.specs.Engine.{Group, Read, Good, Bad, then, place_at, musts_of, On, step}
+use Rattle.places.specs.Engine.{Group, then, place_at, musts_of, On, step}
 use Rattle.places.specs.Seek.{owed}
 use Rattle.places.specs.Parts.{Part, step_by, run_to, owes, report_of}
 use Rattle.places.specs.Answer.{outcome_of}
@@ -84,9 +84,9 @@ unfolding report_said
 of-body k g r x own = each (λ x. T (is_of_body x) → onto_body k x r ≡ report_said k g x r) (search never) x (rw own tt)
 
 -- what a place over a part of the record reads, set back into the record
-set_back_lem : {A B R : Type 0} (x : Read A) (f : A → B) (set : B → R) → then x (λ a. Good (set (f a))) ≡ then (then x (λ a. Good (f a))) (λ b. Good (set b))
-set_back_lem (Good a) f set = refl
-set_back_lem (Bad n) f set = refl
+set_back_lem : {A B R : Type 0} (x : Result A Refusal) (f : A → B) (set : B → R) → then x (λ a. Ok (set (f a))) ≡ then (then x (λ a. Ok (f a))) (λ b. Ok (set b))
+set_back_lem (Ok a) f set = refl
+set_back_lem (Err n) f set = refl
 
 -- in a record that has the body that was seen and as many runway states, AUTO or not
 module _ (k : ℕ) (g : Group) (automatic : Bool) (b : Body) (states : ℕ) where
@@ -95,13 +95,13 @@ module _ (k : ℕ) (g : Group) (automatic : Bool) (b : Body) (states : ℕ) wher
 
   -- what is of the body, by its place there
   pub says-body : (i j : ℕ) {x : Said} → BodySays false false automatic j k g b x
-      → ((r : Observation) → (place_at row i).read k g r ≡ then ((place_at (body_row (observed r)) j).read k g r.body) (λ b. Good (set_body b r))) → Says i k g automatic b states x
+      → ((r : Observation) → (place_at row i).read k g r ≡ then ((place_at (body_row (observed r)) j).read k g r.body) (λ b. Ok (set_body b r))) → Says i k g automatic b states x
   says-body i j s reads =
       body-says row report_said seen k g (λ r. r.body) set_body b (λ r is. is.1) (of-body k g) i s (λ r is. (
         true,
         r.nil,
         subst
-            (λ (z : Bool). (place_at row i).read k g r ≡ then ((place_at (body_row (record { forecast = false; required = true; may_nsw = false; automatic = z; silent = r.nil })) j).read k g r.body) (λ b. Good (set_body b r)))
+            (λ (z : Bool). (place_at row i).read k g r ≡ then ((place_at (body_row (record { forecast = false; required = true; may_nsw = false; automatic = z; silent = r.nil })) j).read k g r.body) (λ b. Ok (set_body b r)))
             is.0
             (reads r),
       ))
@@ -144,7 +144,7 @@ module _ (k : ℕ) (g : Group) (automatic : Bool) (b : Body) (states : ℕ) wher
       says : Bool → Said
       says alone = cond alone said.Snoclo (said.Refused refusal.Disagreement)
 
-      go : (alone : Bool) → unless_refused (says alone) (report_said k g (says alone) r) ≡ then (cond alone (Good (with_snoclo true r.states)) disagrees) (λ ss. Good (set_states ss r))
+      go : (alone : Bool) → unless_refused (says alone) (report_said k g (says alone) r) ≡ then (cond alone (Ok (with_snoclo true r.states)) disagrees) (λ ss. Ok (set_states ss r))
       go true = refl
       go false = refl
 
@@ -153,13 +153,13 @@ module _ (k : ℕ) (g : Group) (automatic : Bool) (b : Body) (states : ℕ) wher
   unfolding row report_said
   says-beside r is = go (read_state g)
     where
-      beside : Read RunwayState → Read RunwayState
+      beside : Result RunwayState Refusal → Result RunwayState Refusal
       beside x = then x (λ y. disagrees)
 
-      go : (x : Read RunwayState)
-          → unless_refused (as_said said.State (beside x)) (report_said k g (as_said said.State (beside x)) r) ≡ then (then x (λ y. disagrees)) (λ ss. Good (set_states ss r))
-      go (Good y) = refl
-      go (Bad f) = refl
+      go : (x : Result RunwayState Refusal)
+          → unless_refused (as_said said.State (beside x)) (report_said k g (as_said said.State (beside x)) r) ≡ then (then x (λ y. disagrees)) (λ ss. Ok (set_states ss r))
+      go (Ok y) = refl
+      go (Err f) = refl
 
   -- past the row no group is taken
   pub says_nothing : (i : ℕ) → 19 ≤ i → Says i k g automatic b states (said.Refused refusal.Shape)
@@ -203,18 +203,18 @@ module _ {text : List ℕ} {o₀ : Observation} {start c k : ℕ} {o : Observati
 -- ---- the answer
 
 -- a refused text comes to its refusal, whatever was read
-pub refused-so : (v : Verdict) (r s : Metar) → is_refused v ≡ true → outcome_of v r ≡ outcome_of v s
-refused-so (verdict.Accepted rest) r s is = absurd (false≢true is)
-refused-so (verdict.Refused f at) r s is = refl
+pub refused-so : (v : Result ℕ Refused) (r s : Metar) → is_refused v ≡ true → outcome_of v r ≡ outcome_of v s
+refused-so (Ok rest) r s is = absurd (false≢true is)
+refused-so (Err x) r s is = refl
 
 -- the observation is made blank where the text is refused, and else stays
-pub blanked : (v : Verdict) (o : Observation) {p : Observation} {t : Trend} → is_refused v ≡ true → p ≡ blank_observation → t ≡ blank_trend → reading v (beside p t) ≡ answer (outcome_of v (beside o t))
-blanked (verdict.Accepted rest) o is p t = absurd (false≢true is)
-blanked (verdict.Refused f at) o is p t = rw (p, t)
+pub blanked : (v : Result ℕ Refused) (o : Observation) {p : Observation} {t : Trend} → is_refused v ≡ true → p ≡ blank_observation → t ≡ blank_trend → reading v (beside p t) ≡ answer (outcome_of v (beside o t))
+blanked (Ok rest) o is p t = absurd (false≢true is)
+blanked (Err x) o is p t = rw (p, t)
 
-pub unblanked : (v : Verdict) (o : Observation) {p : Observation} {t : Trend} → is_refused v ≡ false → p ≡ o → reading v (beside p t) ≡ answer (outcome_of v (beside o t))
-unblanked (verdict.Accepted rest) o is p = rw p
-unblanked (verdict.Refused f at) o is p = absurd (false≢true (sym is))
+pub unblanked : (v : Result ℕ Refused) (o : Observation) {p : Observation} {t : Trend} → is_refused v ≡ false → p ≡ o → reading v (beside p t) ≡ answer (outcome_of v (beside o t))
+unblanked (Ok rest) o is p = rw p
+unblanked (Err x) o is p = absurd (false≢true (sym is))
 
 -- ---- the name, at the row's first place
 
@@ -243,7 +243,7 @@ module _ (special : Bool) (g : Group) (is : has_pattern g (name_for special) ≡
   taken-first = stands-first
 
 -- BEHIND THE NAME the groups come to what all groups come to.
-pub past-name : (special : Bool) (tail : Tail) (end : ℕ) (g : Piece) (gs : List Piece) → has_pattern g.bytes (name_for special) ≡ true
+pub past-name : (special : Bool) (tail : Option ℕ) (end : ℕ) (g : Piece) (gs : List Piece) → has_pattern g.bytes (name_for special) ≡ true
     → groups_read tail end (g ∷ gs) ≡ behind_name special tail end gs
 unfolding groups_read behind_name report_of run_to
 past-name special tail end g gs is = rw (taken-first special g.bytes is)

@@ -1,9 +1,7 @@
 -- Reading a METAR or SPECI: a report of parts (places, Parts), its observation, then the parts of its trend.
 -- Assumes nothing: these are definitions.
-use Rattle.std.specs.Prelude.{ℕ, Bool, true, false, List}
-use Rattle.text.specs.declared.kinds.Tail.{Tail}
-use Rattle.text.specs.declared.kinds.Verdict.{Verdict}
-use Rattle.text.specs.declared.kinds.Verdict.TheVariants as verdict
+use Rattle.std.specs.Prelude.{ℕ, Bool, true, false, List, Err, Ok, Option, Result}
+use Rattle.text.specs.declared.kinds.Refused.{Refused}
 use Rattle.text.specs.Groups.{Piece}
 use Rattle.shapes.specs.Pattern.{has_any}
 use Rattle.places.specs.Engine.{Outcome}
@@ -32,20 +30,20 @@ main_part =
 
 -- WHAT THE GROUPS OF A METAR OR SPECI COME TO, its name first, which stands at the first place of the row: "up to three of BECMG and TEMPO". What follows
 -- the "=", and the text's length.
-unfoldable pub groups_read : Tail → ℕ → List Piece → Outcome Metar
+unfoldable pub groups_read : Option ℕ → ℕ → List Piece → Outcome Metar
 groups_read tail end gs = report_of tail end parts 3 main_part blank_observation gs
 
 -- the groups behind the name, where that has stood
-unfoldable pub behind_name : Bool → Tail → ℕ → List Piece → Outcome Metar
+unfoldable pub behind_name : Bool → Option ℕ → ℕ → List Piece → Outcome Metar
 behind_name special tail end gs = part_from tail end main_part (further tail end parts 3) 0 1 (set_special special blank_observation) gs
 
 -- a reading with its verdict; the record is blank where the text is refused
-abbrev pub reading : Verdict → Metar → Reading
+abbrev pub reading : Result ℕ Refused → Metar → Reading
 reading v r = record { verdict = v; report = r }
 
-abbrev pub is_refused : Verdict → Bool
-is_refused (verdict.Accepted rest) = false
-is_refused (verdict.Refused f at) = true
+abbrev pub is_refused : Result ℕ Refused → Bool
+is_refused (Ok rest) = false
+is_refused (Err x) = true
 
 abbrev pub answer : Outcome Metar → Reading
 answer o = answer_of reading blank_metar o

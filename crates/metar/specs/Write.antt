@@ -1,9 +1,7 @@
 -- Writing a METAR or SPECI: what the writer judges, the canonical text, and the record that it is read back as.
 -- Assumes nothing: these are definitions.
-use Rattle.std.specs.Prelude.{ℕ, Bool, true, false, cond, not, ◌&&◌, ◌||◌, List, ◌++◌}
-use Rattle.text.specs.declared.kinds.Judged.{Judged}
-use Rattle.text.specs.declared.kinds.Judged.TheVariants as judged
-use Rattle.text.specs.declared.kinds.Written.{Written}
+use Rattle.std.specs.Prelude.{⊤, ℕ, Bool, true, cond, not, ◌&&◌, ◌||◌, List, ◌++◌, Ok, Result}
+use Rattle.text.specs.declared.kinds.Refusal.{Refusal}
 use Rattle.text.specs.Judge.{judge, and_then}
 use Rattle.text.specs.Write.{answer_by, buffer_by}
 use Rattle.text.specs.Groups.{join}
@@ -29,10 +27,10 @@ foreign_blank r = not r.observation.nil || (no_observation r.observation && no_t
 
 -- ---- "The writer judges foreign fields first, then the others in written order, 11 before 7 at each"
 
-unfoldable pub judge_head : Observation → Judged
+unfoldable pub judge_head : Observation → Result ⊤ Refusal
 judge_head r = and_then (judge_station r.station) (judge_time r.time)
 
-unfoldable pub judge_observation : Observation → Judged
+unfoldable pub judge_observation : Observation → Result ⊤ Refusal
 judge_observation r =
     and_then (wind_judged (observed r) r.body)
     (and_then (judge_variation r.variation)
@@ -44,11 +42,11 @@ judge_observation r =
     (and_then (judge_qnh r.qnh)
     (and_then (judge_weathers (judge_recent r.automatic) r.recents) (judge_states r.states)))))))))
 
-unfoldable pub judge_of : Metar → Judged
+unfoldable pub judge_of : Metar → Result ⊤ Refusal
 judge_of r =
     and_then (judge (foreign_blank r) true)
     (and_then (judge_head r.observation)
-    (cond r.observation.nil judged.Fine (and_then (judge_observation r.observation) (judge_trend r.trend))))
+    (cond r.observation.nil (Ok tt) (and_then (judge_observation r.observation) (judge_trend r.trend))))
 
 -- ---- the canonical text
 
@@ -68,7 +66,7 @@ classed_of r = record { observation = class_observation r.observation; trend = c
 
 -- ---- what the writer answers, and the lent buffer afterwards
 
-unfoldable pub written_of : Metar → ℕ → Written
+unfoldable pub written_of : Metar → ℕ → Result ℕ Refusal
 written_of r room = answer_by (judge_of r) (canonical_of r) room
 
 unfoldable pub buffer_of : Metar → List ℕ → List ℕ

@@ -4,39 +4,37 @@ ghost use Rattle.metar.specs.Read.{is_refused, reading};
 
 use crate::kinds::Reading;
 use record::aerodrome::{Metar, Observation, Trend};
-use text::kinds::Verdict;
+use text::kinds::Refused;
 use trend::kinds::Ahead;
 
-pub fn is_refused(verdict: Verdict) -> bool
+pub fn is_refused(verdict: Result<usize, Refused>) -> bool
     ensures { result ≡ is_refused verdict }
 {
-    match verdict {
-        Verdict::Accepted { rest: _ } => false,
-        Verdict::Refused {
-            refusal: _,
-            place: _,
-        } => true,
-    }
+    verdict.is_err()
 }
 
-pub fn reading_of(verdict: Verdict, observation: Observation, trend: Trend) -> Reading
+pub fn reading_of(
+    verdict: Result<usize, Refused>,
+    observation: Observation,
+    trend: Trend,
+) -> Reading
     ensures { result ≡ reading verdict (record { observation = observation; trend = trend }) }
 {
-    let report = Metar { observation, trend };
-    Reading { verdict, report }
+    Reading {
+        verdict,
+        report: Metar { observation, trend },
+    }
 }
 
 // The same of what was read of a trend.
 pub fn is_refused_ahead(ahead: Ahead) -> bool
     ensures { result ≡ is_refused ahead.verdict }
 {
-    let verdict = ahead.verdict;
-    is_refused(verdict)
+    is_refused(ahead.verdict)
 }
 
 pub fn reading_with(observation: Observation, ahead: Ahead) -> Reading
     ensures { result ≡ reading ahead.verdict (record { observation = observation; trend = ahead.trend }) }
 {
-    let verdict = ahead.verdict;
-    reading_of(verdict, observation, ahead.trend)
+    reading_of(ahead.verdict, observation, ahead.trend)
 }

@@ -1,11 +1,11 @@
 // What the reader of METAR and SPECI answers, and where it stands while it reads.
 use record::aerodrome::Metar;
-use text::kinds::Verdict;
+use text::kinds::Refused;
 
 // The record is blank where the text is refused.
 #[derive(Clone, Copy)]
 pub struct Reading {
-    pub verdict: Verdict,
+    pub verdict: Result<usize, Refused>,
     pub report: Metar,
 }
 

@@ -28,11 +28,11 @@ use places::kinds::Turn;
 use record::aerodrome::Observation;
 use record::blank_aerodrome::{blank_observation, blank_trend};
 use runway_states::read::{add_state, close};
-use text::kinds::{Cut, Refusal, Verdict};
+use text::kinds::{Cut, Refusal};
 use text::part;
 use trend::kinds::{Ahead, Next};
 use trend::read::read_trend;
-use trend::word::meet_word;
+use trend::word::{meet_word, refuse};
 use weather::read::add_weather;
 
 // A required group is absent from the observation.
@@ -47,8 +47,7 @@ fn owes(here: Standing) -> bool
 fn after_groups(text: &[u8], here: Standing) -> Next
     ensures { (o : Observation) → result ≡ next.End (end_verdict (tail_of text.now) (length text.now) (owes main_part here.place here.count o)) }
 {
-    let verdict = end_verdict(text, owes(here));
-    Next::End(verdict)
+    Next::End(end_verdict(text, owes(here)))
 }
 
 // What follows it at a word from start up to end.
@@ -66,14 +65,8 @@ fn follow(text: &[u8], met: Met, here: Standing) -> Next
     match met {
         Met::Over => after_groups(text, here),
         Met::Halt { start, end } => after_word(text, start, end, here),
-        Met::Refused { refusal, start } => Next::End(Verdict::Refused {
-            refusal,
-            place: start,
-        }),
-        Met::Says(group) => Next::End(Verdict::Refused {
-            refusal: Refusal::Shape,
-            place: group.start,
-        }),
+        Met::Refused { refusal, start } => refuse(refusal, start),
+        Met::Says(group) => refuse(Refusal::Shape, group.start),
     }
 }
 
@@ -81,10 +74,11 @@ fn follow(text: &[u8], met: Met, here: Standing) -> Next
 fn unless_refused(ahead: Ahead) -> Ahead
     ensures { Unrefused ahead result }
 {
-    let verdict = ahead.verdict;
-    if is_refused(verdict) {
-        let trend = blank_trend();
-        return Ahead { verdict, trend };
+    if is_refused(ahead.verdict) {
+        return Ahead {
+            trend: blank_trend(),
+            ..ahead
+        };
     }
     ahead
 }
@@ -94,10 +88,10 @@ fn read_on(text: &[u8], next: Next) -> Ahead
     ensures { ReadOn text.now next result }
 {
     match next {
-        Next::End(verdict) => {
-            let trend = blank_trend();
-            Ahead { verdict, trend }
-        }
+        Next::End(verdict) => Ahead {
+            verdict,
+            trend: blank_trend(),
+        },
         Next::Part { word, at } => unless_refused(read_trend(text, at, word)),
     }
 }
@@ -110,13 +104,18 @@ fn meet(text: &[u8], here: Standing, so_far: Observation) -> Met
         return Met::Over;
     };
     let g = part(text, start, end);
-    let turn = decide(here.place, here.count, g);
-    match turn {
+    match decide(here.place, here.count, g) {
         Turn::Halt => Met::Halt { start, end },
         Turn::Refused(refusal) => Met::Refused { refusal, start },
         Turn::At { place, count } => {
-            let states = so_far.states.count;
-            let said = say_at(place, count, g, so_far.automatic, so_far.body, states);
+            let said = say_at(
+                place,
+                count,
+                g,
+                so_far.automatic,
+                so_far.body,
+                so_far.states.count,
+            );
             meet_said(said, place, count, start, end)
         }
     }

@@ -10,7 +10,7 @@ ghost use Rattle.metar.specs.Said.{Says};
 
 use aerodrome_groups::read::{read_qnh, read_runway, read_temperatures, read_time};
 use body::read::say;
-use elements::kinds::{Said, WeatherRead};
+use elements::kinds::Said;
 use metar_row::{find, is_word};
 use places::kinds::Turn;
 use places::{is_unknown, turn_by, turn_unknown};
@@ -39,10 +39,9 @@ pub fn decide(place: usize, count: usize, g: &[u8]) -> Turn
 fn say_recent(automatic: bool, g: &[u8]) -> Said
     ensures { result ≡ as_said said.Recent (read_recent automatic g.now) }
 {
-    let read = read_recent(automatic, g);
-    match read {
-        WeatherRead::Good(w) => Said::Recent(w),
-        WeatherRead::Bad(refusal) => Said::Refused(refusal),
+    match read_recent(automatic, g) {
+        Ok(w) => Said::Recent(w),
+        Err(refusal) => Said::Refused(refusal),
     }
 }
 

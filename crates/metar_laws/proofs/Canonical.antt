@@ -1,14 +1,13 @@
 -- THE ROUND TRIP OF METAR AND SPECI, at the level of the text: the canonical text of a record that the writer accepts is read back whole, as the record
 -- with each rounded number the reading of its class; written again it is the same text.
 -- Assumes nothing.
+use Rattle.std.specs.Prelude.{None, Ok}
 use Prim.Native.Nat.{ℕ, ◌≤◌}
 use native.Mathlib.Omega.{arith}
 use mathlib.Core.Path.{◌≡◌, refl, ap, ◌∙◌}
 use mathlib.Core.Bool.{Bool, true, false}
 use mathlib.Core.List.{List}
 use lib.ListN.{length}
-use Rattle.text.specs.declared.kinds.Judged.TheVariants as judged
-use Rattle.text.specs.declared.kinds.Tail.TheVariants.{Clear}
 use Rattle.text.specs.Groups.{Piece, groups_from, join}
 use Rattle.text.specs.Text.{tail_of}
 use Rattle.places.specs.Engine.{Done, written}
@@ -43,7 +42,7 @@ use Rattle.record.specs.Arrays.{MetarArrays}
 -- ---- the trend
 
 -- judged where the report is not NIL, and blank where it is
-pub trend-listed : (r : Metar) → MetarArrays r → judge_of r ≡ judged.Fine → Listed r.trend
+pub trend-listed : (r : Metar) → MetarArrays r → judge_of r ≡ Ok tt → Listed r.trend
 trend-listed r arrays e = go r.observation.nil refl
   where
     go : (b : Bool) → r.observation.nil ≡ b → Listed r.trend
@@ -53,7 +52,7 @@ trend-listed r arrays e = go r.observation.nil refl
 -- ---- runway states
 
 -- judged where the report is not NIL, and blank where it is
-pub states-counted : (r : Metar) → MetarArrays r → judge_of r ≡ judged.Fine → Counted r.observation.states
+pub states-counted : (r : Metar) → MetarArrays r → judge_of r ≡ Ok tt → Counted r.observation.states
 states-counted r arrays e = go r.observation.nil refl
   where
     go : (b : Bool) → r.observation.nil ≡ b → Counted r.observation.states
@@ -63,14 +62,14 @@ states-counted r arrays e = go r.observation.nil refl
 -- ---- how long it is
 
 -- The groups of a record can be joined and cut, and hold only bytes that a text may hold.
-pub groups-sizes : (r : Metar) → MetarArrays r → judge_of r ≡ judged.Fine → Sizes 680 (groups_of r)
+pub groups-sizes : (r : Metar) → MetarArrays r → judge_of r ≡ Ok tt → Sizes 680 (groups_of r)
 unfolding groups_of
 groups-sizes r arrays e =
     let room : row_room sizes row ≤ 302 = unfold row in omega arith in
     sizes-append (written row r.observation) (show_trend r.trend) (sizes-more room (kept-sizes (kept_row r arrays e))) (trend-sizes r.trend (trend-listed r arrays e))
 
 -- HOW LONG THE CANONICAL TEXT IS, at most: with NOSIG, or with three changes.
-pub length-canonical : (r : Metar) → MetarArrays r → judge_of r ≡ judged.Fine → length (canonical_of r) ≤ 680
+pub length-canonical : (r : Metar) → MetarArrays r → judge_of r ≡ Ok tt → length (canonical_of r) ≤ 680
 unfolding canonical_of
 length-canonical r arrays e = joined-short (groups_of r) (unfold groups_of row in omega arith) (groups-sizes r arrays e)
 
@@ -82,8 +81,8 @@ unfolding row
 goes_on o n = rw n
 
 -- THE GROUPS OF A RECORD ARE READ BACK, from any pieces that hold them. NIL has no trend after it.
-pieces-back : (r : Metar) → MetarArrays r → judge_of r ≡ judged.Fine → (end : ℕ) (gs : List Piece) → piece_groups gs ≡ groups_of r
-    → groups_read Clear end gs ≡ Done end (classed_of r)
+pieces-back : (r : Metar) → MetarArrays r → judge_of r ≡ Ok tt → (end : ℕ) (gs : List Piece) → piece_groups gs ≡ groups_of r
+    → groups_read None end gs ≡ Done end (classed_of r)
 unfolding groups_read groups_of classed_of class_observation
 pieces-back r arrays e end gs are =
     let o = r.observation in
@@ -92,7 +91,7 @@ pieces-back r arrays e end gs are =
     (last-unless parts main_part o s.sayings o.nil (λ n. s.none (fair-silent r arrays e n)) (goes_on o)) s.said s.few are
 
 -- THE GROUPS OF THE CANONICAL TEXT COME TO THE RECORD'S CLASSES, with no unread rest.
-pub read-canonical : (r : Metar) → MetarArrays r → judge_of r ≡ judged.Fine
+pub read-canonical : (r : Metar) → MetarArrays r → judge_of r ≡ Ok tt
     → groups_read (tail_of (canonical_of r)) (length (canonical_of r)) (groups_from (canonical_of r) 0) ≡ Done (length (canonical_of r)) (classed_of r)
 unfolding canonical_of
 read-canonical r arrays e = joined_back groups_read (groups_of r) (groups-sizes r arrays e) (pieces-back r arrays e)
@@ -120,12 +119,12 @@ unfolding row class_observation
 nil-observed r b = rw (b.automatic, b.body, b.variation, b.runways, b.temperatures, b.qnh, b.recents, b.states)
 
 -- A record that is NIL is read back as it was.
-pub nil-classed : (r : Metar) → MetarArrays r → judge_of r ≡ judged.Fine → r.observation.nil ≡ true → classed_of r ≡ r
+pub nil-classed : (r : Metar) → MetarArrays r → judge_of r ≡ Ok tt → r.observation.nil ≡ true → classed_of r ≡ r
 unfolding classed_of class_trend
 nil-classed r arrays e n = rw (nil-observed r.observation (fair-bare r arrays e n), fair-silent r arrays e n)
 
 -- THE RECORD THAT IS READ BACK IS WRITTEN AS THE SAME TEXT.
-pub written-again : (r : Metar) → MetarArrays r → judge_of r ≡ judged.Fine → canonical_of (classed_of r) ≡ canonical_of r
+pub written-again : (r : Metar) → MetarArrays r → judge_of r ≡ Ok tt → canonical_of (classed_of r) ≡ canonical_of r
 unfolding canonical_of groups_of classed_of
 written-again r arrays e = go r.observation.nil refl
   where
@@ -133,7 +132,7 @@ written-again r arrays e = go r.observation.nil refl
     go true n = ap canonical_of (nil-classed r arrays e n)
     go false n = ap join (rw (observation-again r.observation (fair-observation r e n) (states-counted r arrays e) n, trend-again r.trend (trend-listed r arrays e)))
 
-observation-classed : (r : Observation) → FairObservation r → Counted r.states → r.nil ≡ false → judge_observation (class_observation r) ≡ judged.Fine
+observation-classed : (r : Observation) → FairObservation r → Counted r.states → r.nil ≡ false → judge_observation (class_observation r) ≡ Ok tt
 unfolding judge_observation row class_observation
 observation-classed r f l full =
     let t = observed r in
@@ -155,20 +154,20 @@ nil-same : (r : Observation) → (class_observation r).nil ≡ r.nil
 unfolding row class_observation
 nil-same r = refl
 
-head-classed : (r : Metar) → judge_of r ≡ judged.Fine → judge_head (class_observation r.observation) ≡ judged.Fine
+head-classed : (r : Metar) → judge_of r ≡ Ok tt → judge_head (class_observation r.observation) ≡ Ok tt
 unfolding judge_head row class_observation
 head-classed r e = let f = fair r e in rw (f.station, f.time)
 
-full-classed : (r : Metar) → MetarArrays r → judge_of r ≡ judged.Fine → r.observation.nil ≡ false → judge_of (classed_of r) ≡ judged.Fine
+full-classed : (r : Metar) → MetarArrays r → judge_of r ≡ Ok tt → r.observation.nil ≡ false → judge_of (classed_of r) ≡ Ok tt
 unfolding judge_of classed_of judge_head judge_observation
 full-classed r arrays e n =
     let o = r.observation in
     rw (nil-same o ∙ n, head-classed r e, observation-classed o (fair-observation r e n) (states-counted r arrays e) n, trend-judged r.trend (trend-listed r arrays e))
 
 -- AND THE WRITER ACCEPTS IT.
-pub classed-fine : (r : Metar) → MetarArrays r → judge_of r ≡ judged.Fine → judge_of (classed_of r) ≡ judged.Fine
+pub classed-fine : (r : Metar) → MetarArrays r → judge_of r ≡ Ok tt → judge_of (classed_of r) ≡ Ok tt
 classed-fine r arrays e = go r.observation.nil refl
   where
-    go : (b : Bool) → r.observation.nil ≡ b → judge_of (classed_of r) ≡ judged.Fine
+    go : (b : Bool) → r.observation.nil ≡ b → judge_of (classed_of r) ≡ Ok tt
     go true n = rw (nil-classed r arrays e n) e
     go false n = full-classed r arrays e n

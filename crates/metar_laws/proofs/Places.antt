@@ -1,6 +1,7 @@
 -- The places of METAR and SPECI one by one: what is written at each of a record that is judged fine has the place's shape, takes a known room, and is
 -- read back as what is put. The head's words, the station, the time and the body are lifted places, which keep what their own laws say.
 -- Assumes nothing.
+use Rattle.std.specs.Prelude.{Ok, None, Option, Some}
 use Prim.Native.Nat.{ℕ}
 use native.Mathlib.Omega.{arith}
 use mathlib.Core.Path.{◌≡◌, refl, sym, ap, ◌∙◌}
@@ -9,17 +10,15 @@ use mathlib.Core.List.{[], ◌∷◌, ◌++◌}
 use lib.ListN.{length}
 use Rattle.figures.specs.Quote.{bytes}
 use Rattle.figures.specs.Figures.{figures}
-use Rattle.text.specs.declared.kinds.Judged.TheVariants as judged
 use Rattle.shapes.specs.Pattern.{low, high, fits, has_pattern, has_any}
 use Rattle.shapes.specs.Shape.{leading, split, parts_of, spellings, has_shape}
-use Rattle.places.specs.Engine.{Group, Place, place_at, Good}
+use Rattle.places.specs.Engine.{Group, Place, place_at}
 use Rattle.places.proofs.ReadBack.{one-pattern, two-patterns, fill}
 use Rattle.places.proofs.Sizes.{measured, sized-any, Sized, sized-each}
 use Rattle.places.proofs.Kept.{Kept, keep_one, keep-none, keep-each}
 use Rattle.places.proofs.Lift.{Lens, Alike, kept-lifted, kept_in}
 use Rattle.scales.specs.Rounded.{ddd_figure}
 use Rattle.record.specs.declared.aerodrome.Extremes.{Extremes}
-use Rattle.record.specs.declared.aerodrome.Extremes.TheVariants as extremes
 use Rattle.record.specs.declared.aerodrome.Body.{Body}
 use Rattle.record.specs.declared.aerodrome.Observation.{Observation}
 use Rattle.record.specs.Observation.{set_corrected, set_station, set_time, set_nil, set_automatic, set_body, blank_observation, blank_runways, blank_states, set_runways, set_recents, set_states}
@@ -126,18 +125,18 @@ live r full = record { heard = full; stands = refl }
 -- ---- what stands between and after the body's places, where the report is not NIL
 
 module _ (r acc : Observation) (full : r.nil ≡ false) where
-  pub kept-variation : judge_variation r.variation ≡ judged.Fine → acc.variation.is ≡ extremes.Missing → Kept (place_at row 7) 7 r acc
+  pub kept-variation : judge_variation r.variation ≡ Ok tt → acc.variation.is ≡ None → Kept (place_at row 7) 7 r acc
   unfolding row show_variation low high
   kept-variation e b = go r.variation.is refl
     where
-      go : (x : Extremes) → r.variation.is ≡ x → Kept (place_at row 7) 7 r acc
-      go extremes.Missing is = keep-none (rw is) refl (rw (is, ← b))
-      go (extremes.Between a c) is =
-          let g = figures 3 (ddd_figure a) ++ bytes "V" ++ figures 3 (ddd_figure c) in
+      go : (x : Option Extremes) → r.variation.is ≡ x → Kept (place_at row 7) 7 r acc
+      go None is = keep-none (rw is) refl (rw (is, ← b))
+      go (Some x) is =
+          let g = figures 3 (ddd_figure x.from) ++ bytes "V" ++ figures 3 (ddd_figure x.to) in
           let s = variation-shaped r.variation e g (rw is) in
           keep_one g (rw is) s.0 s.1 (sized-any 7 (variation_shape ∷ []) g refl s.1) (omega arith) (rw (variation-back r.variation e g (rw is)))
 
-  pub kept-temperatures : judge_temperatures r.temperatures ≡ judged.Fine → Kept (place_at row 12) 7 r acc
+  pub kept-temperatures : judge_temperatures r.temperatures ≡ Ok tt → Kept (place_at row 12) 7 r acc
   unfolding row
   kept-temperatures e =
       let s = temperatures-shaped r.temperatures e in
@@ -145,7 +144,7 @@ module _ (r acc : Observation) (full : r.nil ≡ false) where
       keep_one g (rw full) s.0 s.1 (sized-any 7 (spellings (parts_of temperatures_shape)) g temperatures-measured s.1) (omega arith)
       (rw (temperatures-back r.temperatures e))
 
-  pub kept-qnh : judge_qnh r.qnh ≡ judged.Fine → Kept (place_at row 13) 5 r acc
+  pub kept-qnh : judge_qnh r.qnh ≡ Ok tt → Kept (place_at row 13) 5 r acc
   unfolding row low high
   kept-qnh e =
       let s = qnh-shaped r.qnh e in
@@ -155,8 +154,8 @@ module _ (r acc : Observation) (full : r.nil ≡ false) where
 
 -- ---- runway ranges, of which several may stand: read back group by group
 
-module _ (r acc : Observation) (blank : set_runways blank_runways acc ≡ acc) (four : length r.runways.items ≡ 4) (e : judge_runways r.runways ≡ judged.Fine) where
-  runways-filled : fill (place_at row 9) 0 (show_runways r.runways) acc ≡ Good (set_runways (class_runways r.runways) acc)
+module _ (r acc : Observation) (blank : set_runways blank_runways acc ≡ acc) (four : length r.runways.items ≡ 4) (e : judge_runways r.runways ≡ Ok tt) where
+  runways-filled : fill (place_at row 9) 0 (show_runways r.runways) acc ≡ Ok (set_runways (class_runways r.runways) acc)
   unfolding row
   runways-filled =
       ap (fill (place_at row 9) 0 (show_runways r.runways)) (sym blank)
@@ -174,8 +173,8 @@ module _ (r acc : Observation) (blank : set_runways blank_runways acc ≡ acc) (
 -- ---- recent weather, of which several may stand
 
 module _ (r acc : Observation) (blank : set_recents blank_weathers acc ≡ acc) (same : acc.automatic ≡ r.automatic) (three : length r.recents.items ≡ 3)
-    (e : judge_weathers (judge_recent r.automatic) r.recents ≡ judged.Fine) where
-  recents-filled : fill (place_at row 14) 0 (show_recents r.recents) acc ≡ Good (set_recents r.recents acc)
+    (e : judge_weathers (judge_recent r.automatic) r.recents ≡ Ok tt) where
+  recents-filled : fill (place_at row 14) 0 (show_recents r.recents) acc ≡ Ok (set_recents r.recents acc)
   unfolding row show_recents
   recents-filled =
       let read = read_recent acc.automatic in

@@ -1,11 +1,11 @@
 -- What the round trip promises of a METAR or SPECI, in document 01's words: each exact field comes back as it was, each rounded number as the reading
 -- of its class, near its value and never above it where the scale rounds down.
 -- Assumes nothing.
+use Rattle.std.specs.Prelude.{Ok}
 use mathlib.Core.Path.{◌≡◌, refl}
 use mathlib.Core.Bool.{Bool, true, false}
 use mathlib.Core.List.{map}
 use lib.ListN.{length, take, drop}
-use Rattle.text.specs.declared.kinds.Judged.TheVariants as judged
 use Rattle.text.specs.Groups.{groups_from}
 use Rattle.text.specs.Text.{tail_of}
 use Rattle.places.specs.Engine.{Done}
@@ -72,7 +72,7 @@ record Near (r q : Observation) : Type 0 where
   body : BodyRead r.body q.body
   variation : ExtremesNear r.variation.is q.variation.is
 
-near : (r : Metar) → MetarArrays r → judge_of r ≡ judged.Fine → Near r.observation (class_observation r.observation)
+near : (r : Metar) → MetarArrays r → judge_of r ≡ Ok tt → Near r.observation (class_observation r.observation)
 unfolding row class_observation
 near r arrays e = go r.observation.nil refl
   where
@@ -107,7 +107,7 @@ observation-read r n l =
 change-read : (nosig : Bool) (c : TrendChange) → Sound nosig c → ChangeRead c (class_change c)
 change-read nosig c s = rw (change-is c) (record { tendency = refl; times = refl; body = body-read changing trend-live c.body s.1.body })
 
-record-read : (r : Metar) → MetarArrays r → judge_of r ≡ judged.Fine → RecordRead r (classed_of r)
+record-read : (r : Metar) → MetarArrays r → judge_of r ≡ Ok tt → RecordRead r (classed_of r)
 unfolding classed_of class_trend
 record-read r arrays e =
     let t = r.trend in
@@ -121,13 +121,13 @@ record-read r arrays e =
     }
 
 -- WHAT IS WRITTEN OF A RECORD THAT THE WRITER ACCEPTS IS READ, to the text's end, as a record that says the same.
-pub promise : (r : Metar) → MetarArrays r → judge_of r ≡ judged.Fine
+pub promise : (r : Metar) → MetarArrays r → judge_of r ≡ Ok tt
     → (groups_read (tail_of (canonical_of r)) (length (canonical_of r)) (groups_from (canonical_of r) 0) ≡ Done (length (canonical_of r)) (classed_of r)) × RecordRead r (classed_of r)
 promise r arrays e = (read-canonical r arrays e, record-read r arrays e)
 
 -- ---- each change and each runway state is read back as its class, and those past the count too
 
-pub states-items : (r : Metar) → MetarArrays r → judge_of r ≡ judged.Fine → (classed_of r).observation.states.items ≡ map class_state r.observation.states.items
+pub states-items : (r : Metar) → MetarArrays r → judge_of r ≡ Ok tt → (classed_of r).observation.states.items ≡ map class_state r.observation.states.items
 unfolding classed_of row class_observation
 states-items r arrays e =
     let ss = r.observation.states in
@@ -137,7 +137,7 @@ blank-classed : class_change blank_trend_change ≡ blank_trend_change
 unfolding class_change trend-row.row
 blank-classed = refl
 
-pub items-classed : (r : Metar) → MetarArrays r → judge_of r ≡ judged.Fine → (classed_of r).trend.items ≡ map class_change r.trend.items
+pub items-classed : (r : Metar) → MetarArrays r → judge_of r ≡ Ok tt → (classed_of r).trend.items ≡ map class_change r.trend.items
 unfolding classed_of class_trend
 items-classed r arrays e =
     map-counted class_change blank_trend_change blank-classed r.trend.count 3 r.trend.items (trend-listed r arrays e).rest

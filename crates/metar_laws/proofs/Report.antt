@@ -1,12 +1,12 @@
 -- A whole METAR or SPECI: the row keeps what is written of a record that is judged fine, with its observation or as NIL.
 -- Assumes nothing.
+use Rattle.std.specs.Prelude.{⊤, Ok, Result}
+use Rattle.text.specs.declared.kinds.Refusal.{Refusal}
 use Prim.Native.Nat.{ℕ}
 use mathlib.Core.Path.{◌≡◌, refl}
 use mathlib.Core.Bool.{Bool, true, false, not, cond, ◌||◌}
 use mathlib.Core.List.{List, [], ◌∷◌}
 use lib.ListN.{take, drop}
-use Rattle.text.specs.declared.kinds.Judged.{Judged}
-use Rattle.text.specs.declared.kinds.Judged.TheVariants as judged
 use Rattle.text.specs.Judge.{judge}
 use Rattle.text.proofs.Judging.{fine, and-then}
 use Rattle.shapes.proofs.Patterns.{both}
@@ -42,18 +42,18 @@ use Rattle.metar_laws.proofs.Places.{station-lens, time-lens, kept-name, kept-co
 
 pub record Fair (r : Metar) : Type 0 where
   pub blank : foreign_blank r ≡ true
-  pub station : judge_station r.observation.station ≡ judged.Fine
-  pub time : judge_time r.observation.time ≡ judged.Fine
-  pub rest : r.observation.nil ≡ false → (judge_observation r.observation ≡ judged.Fine) × (judge_trend r.trend ≡ judged.Fine)
+  pub station : judge_station r.observation.station ≡ Ok tt
+  pub time : judge_time r.observation.time ≡ Ok tt
+  pub rest : r.observation.nil ≡ false → (judge_observation r.observation ≡ Ok tt) × (judge_trend r.trend ≡ Ok tt)
 
 -- what is judged unless the report is NIL, and what is blank where it is
-unless-nil : (nil : Bool) (j : Judged) → nil ≡ false → cond nil judged.Fine j ≡ judged.Fine → j ≡ judged.Fine
+unless-nil : (nil : Bool) (j : Result ⊤ Refusal) → nil ≡ false → cond nil (Ok tt) j ≡ Ok tt → j ≡ Ok tt
 unless-nil nil j e h = rw e at h
 
 when-nil : (nil b : Bool) → nil ≡ true → (not nil || b) ≡ true → b ≡ true
 when-nil nil b e h = rw e at h
 
-pub fair : (r : Metar) → judge_of r ≡ judged.Fine → Fair r
+pub fair : (r : Metar) → judge_of r ≡ Ok tt → Fair r
 unfolding judge_of judge_head
 fair r e =
     let o = r.observation in
@@ -69,14 +69,14 @@ fair r e =
 
 pub record FairObservation (r : Observation) : Type 0 where
   pub body : FairBody (observed r) r.body
-  pub variation : judge_variation r.variation ≡ judged.Fine
-  pub runways : judge_runways r.runways ≡ judged.Fine
-  pub temperatures : judge_temperatures r.temperatures ≡ judged.Fine
-  pub qnh : judge_qnh r.qnh ≡ judged.Fine
-  pub recents : judge_weathers (judge_recent r.automatic) r.recents ≡ judged.Fine
-  pub states : judge_states r.states ≡ judged.Fine
+  pub variation : judge_variation r.variation ≡ Ok tt
+  pub runways : judge_runways r.runways ≡ Ok tt
+  pub temperatures : judge_temperatures r.temperatures ≡ Ok tt
+  pub qnh : judge_qnh r.qnh ≡ Ok tt
+  pub recents : judge_weathers (judge_recent r.automatic) r.recents ≡ Ok tt
+  pub states : judge_states r.states ≡ Ok tt
 
-fair-parts : (r : Observation) → judge_observation r ≡ judged.Fine → FairObservation r
+fair-parts : (r : Observation) → judge_observation r ≡ Ok tt → FairObservation r
 unfolding judge_observation
 fair-parts r e =
     let w = and-then (wind_judged (observed r) r.body) _ e in
@@ -99,16 +99,16 @@ fair-parts r e =
     }
 
 -- what stands after the time is judged where the report is not NIL, and blank where it is
-pub fair-observation : (r : Metar) → judge_of r ≡ judged.Fine → r.observation.nil ≡ false → FairObservation r.observation
+pub fair-observation : (r : Metar) → judge_of r ≡ Ok tt → r.observation.nil ≡ false → FairObservation r.observation
 fair-observation r e full = fair-parts r.observation ((fair r e).rest full).0
 
 bare_of : (r : Metar) → Fair r → r.observation.nil ≡ true → (no_observation r.observation ≡ true) × (no_trend r.trend ≡ true)
 bare_of r f nil = both (no_observation r.observation) (no_trend r.trend) (when-nil r.observation.nil _ nil f.blank)
 
-pub fair-bare : (r : Metar) → MetarArrays r → judge_of r ≡ judged.Fine → r.observation.nil ≡ true → Bare r.observation
+pub fair-bare : (r : Metar) → MetarArrays r → judge_of r ≡ Ok tt → r.observation.nil ≡ true → Bare r.observation
 fair-bare r arrays e nil = bare r.observation arrays.observation (bare_of r (fair r e) nil).0
 
-pub fair-silent : (r : Metar) → MetarArrays r → judge_of r ≡ judged.Fine → r.observation.nil ≡ true → r.trend ≡ blank_trend
+pub fair-silent : (r : Metar) → MetarArrays r → judge_of r ≡ Ok tt → r.observation.nil ≡ true → r.trend ≡ blank_trend
 fair-silent r arrays e nil = trend-blank r.trend arrays.trend arrays.each (bare_of r (fair r e) nil).1
 
 -- ---- the row
@@ -153,7 +153,7 @@ kept-observation r arrays f full =
     (more (keep-none refl refl refl) refl done)))))))))))))
 
 -- THE ROW KEEPS WHAT IS WRITTEN OF A RECORD THAT THE WRITER ACCEPTS.
-pub kept_row : (r : Metar) → MetarArrays r → judge_of r ≡ judged.Fine → KeptRow sizes row r.observation blank_observation
+pub kept_row : (r : Metar) → MetarArrays r → judge_of r ≡ Ok tt → KeptRow sizes row r.observation blank_observation
 unfolding row
 kept_row r arrays e =
     let f = fair r e in

@@ -1,6 +1,7 @@
 -- The changes of a trend that is judged fine: how many they are, that each is judged fine and kept, what is blank past them, the room that they take, and
 -- what is read back of them.
 -- Assumes nothing.
+use Rattle.std.specs.Prelude.{Ok}
 use Prim.Native.Nat.{◌≤◌}
 use native.Mathlib.Omega.{arith}
 use mathlib.Core.Path.{◌≡◌, refl, sym, ap, ◌∙◌}
@@ -9,7 +10,6 @@ use mathlib.Core.List.{List, [], ◌∷◌, ◌++◌}
 use lib.ListN.{length}
 use borrow.Author.Tests.{not-true}
 use Rattle.figures.specs.Quote.{bytes}
-use Rattle.text.specs.declared.kinds.Judged.TheVariants as judged
 use Rattle.text.specs.Judge.{judge}
 use Rattle.text.proofs.Judging.{fine, and-then}
 use Rattle.shapes.specs.Pattern.{low, high, fits, has_pattern, has_any}
@@ -43,7 +43,7 @@ pub record FairChange (nosig : Bool) (c : TrendChange) : Type 0 where
   pub body : FairBody changing c.body
   pub element : has_element c.body ≡ true
 
-pub fair-change : (nosig : Bool) (c : TrendChange) → judge_change nosig c ≡ judged.Fine → FairChange nosig c
+pub fair-change : (nosig : Bool) (c : TrendChange) → judge_change nosig c ≡ Ok tt → FairChange nosig c
 unfolding judge_change
 fair-change nosig c e =
     let w = and-then (judge (not (no_tendency c.tendency)) (not nosig)) _ e in
@@ -72,7 +72,7 @@ kept-change nosig c s = kept-change-row c s.0 s.1.hours s.1.body (set_tendency c
 abbrev pub Listed : Trend → Type 0
 Listed t = Counted (Sound t.nosig) is_blank_trend_change blank_trend_change 3 t.count t.items
 
-pub listed : (t : Trend) → length t.items ≡ 3 → TrendArrays t.items → judge_trend t ≡ judged.Fine → Listed t
+pub listed : (t : Trend) → length t.items ≡ 3 → TrendArrays t.items → judge_trend t ≡ Ok tt → Listed t
 unfolding judge_trend
 listed t =
     list-fair (judge_change t.nosig) (judge_each t.nosig) refl (λ c cs. refl) is_blank_trend_change 3 t.count t.items (fair-change t.nosig) trend-change-blank
@@ -123,7 +123,7 @@ module _ (nosig : Bool) (c : TrendChange) (s : Sound nosig c) where
   unfolding show_change
   change-again = ap show_change (change-is c) ∙ ap (λ (gs : List Group). show_word c.tendency ++ gs) written-classed
 
-  change-judged : judge_change nosig (class_change c) ≡ judged.Fine
+  change-judged : judge_change nosig (class_change c) ≡ Ok tt
   unfolding judge_change
   change-judged =
       ap (judge_change nosig) (change-is c)
@@ -136,7 +136,7 @@ module _ (t : Trend) (l : Listed t) where
   unfolding show_trend class_trend
   trend-again = rw (list-again show_change show_each refl (λ c cs. refl) l class_change (change-again t.nosig))
 
-  pub trend-judged : judge_trend (class_trend t) ≡ judged.Fine
+  pub trend-judged : judge_trend (class_trend t) ≡ Ok tt
   unfolding judge_trend class_trend
   trend-judged =
       list-judged (judge_change t.nosig) (judge_each t.nosig) refl (λ c cs. refl) is_blank_trend_change 3 t.count t.items class_change (change-judged t.nosig) l

@@ -1,16 +1,14 @@
--- The row's tests say the row: its words, the times of a trend, what is known, and how NIL ends the report.
+-- The row's tests say the row: its words, the times of a trend, and how NIL ends the report.
 -- Assumes nothing.
 use Prim.Native.Nat.{ℕ}
 use mathlib.Core.Path.{◌≡◌, refl, sym, ap, ◌∙◌}
 use mathlib.Core.Bool.{Bool, true, false, cond, ◌||◌, or-false}
-use lib.Dec.{eqb, ltb}
+use lib.Dec.{eqb}
 use Rattle.figures.specs.Quote.{bytes}
 use Rattle.shapes.specs.Pattern.{has_pattern, has_any}
-use Rattle.places.specs.Seek.{fit_from}
-use Rattle.places.specs.Engine.{Group, stands_of, onward}
-use Rattle.places.proofs.Fits.{anywhere-fit}
+use Rattle.places.specs.Engine.{Group, onward}
 use Rattle.places.proofs.Rows.{ends_at}
-use Rattle.metar_row.specs.Row.{from_shape, until_shape, at_shape, time_shapes, row, is_known, words}
+use Rattle.metar_row.specs.Row.{from_shape, until_shape, at_shape, time_shapes, row, words}
 
 any_of : (a b c d e : Bool) → ((((a || b) || c) || d) || e) ≡ (a || (b || (c || (d || (e || false)))))
 any_of true b c d e = refl
@@ -33,11 +31,6 @@ any-time false false c = sym (or-false c)
 pub time-is : (g : Group) {a b c : Bool} → a ≡ has_pattern g from_shape → b ≡ has_pattern g until_shape → c ≡ has_pattern g at_shape → ((a || b) || c) ≡ has_any time_shapes g
 unfolding has_any
 time-is g {a} {b} {c} p q r = rw (← p, ← q, ← r) (any-time a b c)
-
--- some place has the shape, by the first that has it
-pub known_is : (g : Group) {f : ℕ} → f ≡ fit_from true 0 0 (stands_of row g) → ltb f 19 ≡ is_known g
-unfolding row is_known
-known_is g e = rw e (sym (anywhere-fit (stands_of row g) 0 0))
 
 -- NIL ends the report
 pub past-nil : (i : ℕ) (b : Bool) → eqb i 4 ≡ b → cond b 19 i ≡ onward row i

@@ -2,12 +2,13 @@
 -- ranges, 3 weather groups, 4 cloud groups, T/Td, Q, up to 3 RE groups. Parts in brackets or "up to" a number may be absent; the others are required."
 -- Runway states stand "after RE and before the trend".
 -- Assumes nothing: these are definitions.
-use Rattle.std.specs.Prelude.{ℕ, Bool, true, false, ◌||◌, cond, List, [], ◌∷◌, ◌++◌}
+use Rattle.std.specs.Prelude.{ℕ, Bool, true, false, ◌||◌, cond, List, [], ◌∷◌, Ok, Result}
+use Rattle.text.specs.declared.kinds.Refusal.{Refusal}
 use Rattle.figures.specs.Quote.{bytes}
 use Rattle.shapes.specs.Pattern.{Pattern, has_pattern, has_any}
 use Rattle.shapes.specs.Shape.{has_shape, parts_of, spellings}
 use Rattle.places.specs.Seek.{anywhere}
-use Rattle.places.specs.Engine.{Group, Read, Good, Place, stands_of}
+use Rattle.places.specs.Engine.{Group, Place, stands_of}
 use Rattle.places.specs.Lift.{lift, lift_in, shut}
 use Rattle.record.specs.declared.aerodrome.Body.{Body}
 use Rattle.record.specs.declared.aerodrome.Observation.{Observation}
@@ -22,12 +23,12 @@ use Rattle.runway_states.specs.State.{states_place, snoclo_place, beside_place}
 use Rattle.aerodrome_groups.specs.Temperatures.{temperatures_shape, qnh_shape, read_temperatures, read_qnh, show_temperatures, show_qnh, class_temperatures, class_qnh}
 
 -- a place: its shape and the patterns that cover it, how many may or must stand there; how a group is read, how it is written and what it is read back as
-abbrev pub place_for : (Group → Bool) → List Pattern → ℕ → Bool → (ℕ → Group → Observation → Read Observation) → (Observation → List Group) → (Observation → Observation → Observation) → Place Observation
+abbrev pub place_for : (Group → Bool) → List Pattern → ℕ → Bool → (ℕ → Group → Observation → Result Observation Refusal) → (Observation → List Group) → (Observation → Observation → Observation) → Place Observation
 place_for has cover most must read show put =
     record { has = has; cover = cover; spoken = cover; most = most; must = must; ends = false; read = read; show = show; put = put }
 
-abbrev pub onto : {A : Type 0} → Read A → (A → Observation → Observation) → Observation → Read Observation
-onto x f r = then x (λ a. Good (f a r))
+abbrev pub onto : {A : Type 0} → Result A Refusal → (A → Observation → Observation) → Observation → Result Observation Refusal
+onto x f r = then x (λ a. Ok (f a r))
 
 -- ---- the head
 
@@ -67,7 +68,7 @@ unless_nil r gs = cond r.nil [] gs
 
 unfoldable pub row : List (Place Observation)
 row =
-    place_for is_name (bytes "METAR" ∷ bytes "SPECI" ∷ []) 1 true (λ k g r. Good (set_special (has_pattern g (bytes "SPECI")) r))
+    place_for is_name (bytes "METAR" ∷ bytes "SPECI" ∷ []) 1 true (λ k g r. Ok (set_special (has_pattern g (bytes "SPECI")) r))
     (λ r. cond r.special (bytes "SPECI") (bytes "METAR") ∷ []) (λ r acc. set_special r.special acc)
     ∷ lift (λ (r : Observation). r.corrected) set_corrected (word_place "COR" false)
     ∷ lift (λ (r : Observation). r.station) set_station station_place

@@ -1,20 +1,22 @@
 // The tests of the row of METAR and SPECI: its words, the shapes of its places, how many groups may or must stand at each, and where a group goes.
 #![tactic(auto)]
 
-ghost use Rattle.std.specs.Prelude.{◌≡◌, ◌&&◌, drop};
+ghost use Rattle.std.specs.Prelude.{◌≡◌};
 ghost use Rattle.shapes.specs.Pattern.{has_any};
-ghost use Rattle.places.specs.Seek.{answers, fit_from, find_of};
-ghost use Rattle.places.specs.Engine.{place_at, stands_of, musts_of, mosts_of, onward};
+ghost use Rattle.places.specs.Seek.{find_of};
+ghost use Rattle.places.specs.Engine.{stands_of, musts_of, onward};
 ghost use Rattle.metar_row.specs.Row.{is_name, time_shapes, row, is_known, words};
+ghost use Rattle.std.proofs.Common.{refl};
+ghost use Rattle.rows.proofs.First.{few_of};
 
 use aerodrome_groups::read::{has_runway, has_temperatures};
 use body::read::has_weather_or_nsw;
 use places::kinds::Found;
-use places::{found_at, may_answer, most_at};
+use record::aerodrome::Observation;
+use rows::Row;
 use runway_states::read::has_state;
 use shapes::has_pattern;
 use sky::read::has_sky;
-use text::anew;
 use weather::read::has_recent;
 use wind::read::{has_variation, has_visibility, has_wind};
 
@@ -49,42 +51,8 @@ fn is_time(g: &[u8]) -> bool
     from | until | at
 }
 
-// Has the group the shape of this place?
-fn has_at(place: usize, g: &[u8]) -> bool
-    ensures { result ≡ (place_at row place).has g.now }
-{
-    match place {
-        0 => is_name(g),
-        1 => has_pattern(g, b"COR"),
-        2 => has_pattern(g, b"@@@@"),
-        3 => has_pattern(g, b"######Z"),
-        4 => has_pattern(g, b"NIL"),
-        5 => has_pattern(g, b"AUTO"),
-        6 => has_wind(g),
-        7 => has_variation(g),
-        8 => has_visibility(g),
-        9 => has_runway(g),
-        10 => has_weather_or_nsw(g),
-        11 => has_sky(g),
-        12 => has_temperatures(g),
-        13 => has_pattern(g, b"Q####"),
-        14 => has_recent(g),
-        15 => has_state(g),
-        16 => has_pattern(g, b"SNOCLO"),
-        17 => has_state(g),
-        18 => is_time(g),
-        _ => false,
-    }
-}
-
-// How many groups may stand at each place?
-fn mosts() -> [u8; 19]
-    ensures { result ≡ mosts_of row }
-{
-    [1, 1, 1, 1, 1, 1, 1, 1, 1, 4, 3, 4, 1, 1, 3, 4, 1, 1, 0]
-}
-
 // Which places must have a group?
+#[tactic(auto, unfolding(crate::specs::Row::row))]
 pub fn musts() -> [bool; 19]
     ensures { result ≡ musts_of row }
 {
@@ -94,57 +62,66 @@ pub fn musts() -> [bool; 19]
     ]
 }
 
-// May this place, where `count` groups stand, answer for the group, and has it the group's shape? A shape is asked for only where it may.
-fn is_fit(all: bool, place: usize, count: usize, g: &[u8]) -> bool
-    ensures { result ≡ (answers all count (place_at row place).most && (place_at row place).has g.now) }
-{
-    let most = mosts();
-    if may_answer(all, count, most_at(&most, place)) {
-        has_at(place, g)
-    } else {
-        false
-    }
-}
+// The row of the observation.
+#[derive(Clone, Copy)]
+struct ObservationRow;
 
-// The first such place from `place` on.
-fn fit_from(all: bool, place: usize, count: usize, g: &[u8]) -> usize
-    ensures { result ≡ fit_from all place count (drop place (stands_of row g.now)) }
-{
-    let group = anew(g);
-    let mut i = place;
-    let mut k = count;
-    while i < 19 {
-        if is_fit(all, i, k, group) {
-            return i;
+impl Row<19> for ObservationRow {
+    type Record = Observation;
+
+    ghost places = { λ _. row };
+
+    #[tactic(auto, unfolding(crate::specs::Row::row))]
+    fn has_at(self, place: usize, g: &[u8]) -> bool {
+        match place {
+            0 => is_name(g),
+            1 => has_pattern(g, b"COR"),
+            2 => has_pattern(g, b"@@@@"),
+            3 => has_pattern(g, b"######Z"),
+            4 => has_pattern(g, b"NIL"),
+            5 => has_pattern(g, b"AUTO"),
+            6 => has_wind(g),
+            7 => has_variation(g),
+            8 => has_visibility(g),
+            9 => has_runway(g),
+            10 => has_weather_or_nsw(g),
+            11 => has_sky(g),
+            12 => has_temperatures(g),
+            13 => has_pattern(g, b"Q####"),
+            14 => has_recent(g),
+            15 => has_state(g),
+            16 => has_pattern(g, b"SNOCLO"),
+            17 => has_state(g),
+            18 => is_time(g),
+            _ => false,
         }
-        i += 1;
-        k = 0;
     }
-    i
+
+    #[tactic(auto, unfolding(crate::specs::Row::row))]
+    fn mosts(self) -> [u8; 19] {
+        [1, 1, 1, 1, 1, 1, 1, 1, 1, 4, 3, 4, 1, 1, 3, 4, 1, 1, 0]
+    }
+
+    fn musts(self) -> [bool; 19] {
+        musts()
+    }
+
+    ghost few = { few_of 19 refl };
 }
 
 // Has some place of the observation the group's shape?
+#[tactic(auto, unfolding(crate::specs::Row::is_known))]
 pub fn is_known(g: &[u8]) -> bool
     ensures { result ≡ is_known g.now }
 {
-    fit_from(true, 0, 0, g) < 19
+    rows::is_known(ObservationRow, g)
 }
 
 // The place that the group goes to.
 pub fn find(place: usize, count: usize, g: &[u8]) -> Found
     ensures { result ≡ find_of (stands_of row g.now) place count }
 {
-    let fit = fit_from(false, place, count, g);
-    if fit < 19 {
-        let most = mosts();
-        let must = musts();
-        return found_at(&most, &must, place, count, fit);
-    }
-    if fit_from(true, 0, 0, g) < 19 {
-        Found::Earlier
-    } else {
-        Found::Unknown
-    }
+    rows::find(ObservationRow, place, count, g)
 }
 
 // Past NIL reading is past the row.

@@ -1,16 +1,17 @@
 -- Each place of a trend's row touches its own field alone, and each item of a change is what its group says.
 -- Assumes nothing.
-use Prim.Native.Nat.{ℕ, zero, suc, ◌+◌, ◌<◌}
+use Rattle.std.specs.Prelude.{Err, Ok, Result}
+use Rattle.text.specs.declared.kinds.Refusal.{Refusal}
+use Prim.Native.Nat.{ℕ, ◌<◌}
 use native.Mathlib.Omega.{arith}
 use mathlib.Core.Path.{◌≡◌, refl, sym, ap, subst, ◌∙◌}
 use mathlib.Core.Bool.{Bool, true, false, cond, not, ◌&&◌, false≢true}
-use mathlib.Core.List.{List, []}
 use lib.ListN.{length, get_or}
 use lib.Dec.{eqb}
 use borrow.Author.Tests.{eqb-false}
 use Rattle.figures.proofs.Impossible.{impossible}
 use Rattle.text.specs.declared.kinds.Refusal.TheVariants as refusal
-use Rattle.places.specs.Engine.{Group, Read, Good, Bad, then, Place, nowhere, place_at}
+use Rattle.places.specs.Engine.{Group, then, Place, place_at}
 use Rattle.record.specs.declared.aerodrome.Moment.{Moment}
 use Rattle.record.specs.declared.aerodrome.Hours.{Hours}
 use Rattle.record.specs.declared.aerodrome.Hours.TheVariants as hours
@@ -35,19 +36,19 @@ use Rattle.trend_row.specs.declared.kinds.Mark.TheVariants as mark
 use Rattle.trend_row.specs.Times.{is_end, read_moment, with_time, times_of, is_barred, read_time}
 use Rattle.trend_row.specs.Row.{row}
 use Rattle.sources.proofs.Rows.{Item, first}
-use Rattle.sources.proofs.Fields.{◌&◌, Fields, end, field, Tuple, TypeAt, look, then-good, Only, only-put, listed-item, single-item, Rows, row_at}
+use Rattle.sources.proofs.Fields.{◌&◌, Fields, end, field, Tuple, TypeAt, look, then-good, Only, only-put, listed-item, Rows, row_at}
 use Rattle.body_sources.proofs.Body.{in_body, WeatherDone, with-nsw, with-weather, weather-done, weather-tells, weather-others, weather-stays, sky-done, sky-tells, sky-others, sky-stays}
 use Rattle.metar_sources.specs.declared.kinds.ChangeElement.{ChangeElement}
 use Rattle.metar_sources.specs.declared.kinds.ChangeElement.TheVariants as element
-use Rattle.metar_sources.specs.Changes.{Perhaps, none, time, from_of, until_of, at_of, TimeSaid, says, place_of, most_of, value_in, Said}
+use Rattle.metar_sources.specs.Changes.{none, time, from_of, until_of, at_of, TimeSaid, says, place_of, most_of, value_in, Said}
 
 -- ---- what each place does to the times: its own group says one of them, and the body's groups none
 
 -- what a group at place j does, the times being h before it
 pub data TimesDone (g : Group) (h : Hours) : ℕ → Hours → Type 0 where
-  with-from : {t : Moment} → read_moment false g ≡ Good t → TimesDone g h 1 (hours.From t)
-  with-until : {t : Moment} → read_moment true g ≡ Good t → TimesDone g h 2 (with_time mark.Until h t)
-  with_at : {t : Moment} → read_moment false g ≡ Good t → h ≡ hours.None → TimesDone g h 3 (hours.At t)
+  with-from : {t : Moment} → read_moment false g ≡ Ok t → TimesDone g h 1 (hours.From t)
+  with-until : {t : Moment} → read_moment true g ≡ Ok t → TimesDone g h 2 (with_time mark.Until h t)
+  with_at : {t : Moment} → read_moment false g ≡ Ok t → h ≡ hours.None → TimesDone g h 3 (hours.At t)
   with_none : {j : ℕ} → 3 < j → TimesDone g h j h
 
 no-hours : (h : Hours) → no_hours h ≡ true → h ≡ hours.None
@@ -58,23 +59,23 @@ no-hours (hours.Between f u) e = absurd (false≢true e)
 no-hours (hours.At t) e = absurd (false≢true e)
 
 -- a time that is read: it is not barred, and its figures are right
-timed : (m : Mark) (g : Group) (h : Hours) (c c' : TrendChange) → then (read_time m g h) (λ x. Good (set_times x c)) ≡ Good c'
-    → (t : Moment) × (read_moment (is_end m) g ≡ Good t) × (is_barred m h ≡ false) × (c' ≡ set_times (times_of (with_time m h t)) c)
+timed : (m : Mark) (g : Group) (h : Hours) (c c' : TrendChange) → then (read_time m g h) (λ x. Ok (set_times x c)) ≡ Ok c'
+    → (t : Moment) × (read_moment (is_end m) g ≡ Ok t) × (is_barred m h ≡ false) × (c' ≡ set_times (times_of (with_time m h t)) c)
 timed m g h c c' e = go (is_barred m h) refl e
   where
-    go : (b : Bool) → is_barred m h ≡ b → then (cond b (Bad refusal.Order) (then (read_moment (is_end m) g) (λ t. Good (times_of (with_time m h t))))) (λ x. Good (set_times x c)) ≡ Good c'
-        → (t : Moment) × (read_moment (is_end m) g ≡ Good t) × (is_barred m h ≡ false) × (c' ≡ set_times (times_of (with_time m h t)) c)
+    go : (b : Bool) → is_barred m h ≡ b → then (cond b (Err refusal.Order) (then (read_moment (is_end m) g) (λ t. Ok (times_of (with_time m h t))))) (λ x. Ok (set_times x c)) ≡ Ok c'
+        → (t : Moment) × (read_moment (is_end m) g ≡ Ok t) × (is_barred m h ≡ false) × (c' ≡ set_times (times_of (with_time m h t)) c)
     go true is e = impossible (cc)
     go false is e =
-        let (x, good, same) = then-good (then (read_moment (is_end m) g) (λ t. Good (times_of (with_time m h t)))) (λ x. set_times x c) c' e in
+        let (x, good, same) = then-good (then (read_moment (is_end m) g) (λ t. Ok (times_of (with_time m h t)))) (λ x. set_times x c) c' e in
         let (t, reads, put) = then-good (read_moment (is_end m) g) (λ t. times_of (with_time m h t)) x good in
         (t, reads, is, same ∙ ap (λ (x : Times). set_times x c) put)
 
 module _ (free : Bool) where
   abbrev TimesAt : ℕ → Place TrendChange → Type 0
-  TimesAt j p = (n : ℕ) (g : Group) (c c' : TrendChange) → p.read n g c ≡ Good c' → TimesDone g c.times.is j c'.times.is × (c'.tendency ≡ c.tendency)
+  TimesAt j p = (n : ℕ) (g : Group) (c c' : TrendChange) → p.read n g c ≡ Ok c' → TimesDone g c.times.is j c'.times.is × (c'.tendency ≡ c.tendency)
 
-  body-times : (j : ℕ) → 3 < j → (x : Read Body) (g : Group) (c c' : TrendChange) → then x (λ b. Good (set_body b c)) ≡ Good c'
+  body-times : (j : ℕ) → 3 < j → (x : Result Body Refusal) (g : Group) (c c' : TrendChange) → then x (λ b. Ok (set_body b c)) ≡ Ok c'
       → TimesDone g c.times.is j c'.times.is × (c'.tendency ≡ c.tendency)
   body-times j h x g c c' e =
       let (b, good, same) = then-good x (λ b. set_body b c) c' e in
@@ -200,7 +201,7 @@ fs = field (Unit {0}) (field (Unit {0}) (field (Unit {0}) (field (Unit {0}) (fie
 abbrev fields : TrendChange → Tuple fs
 fields c = tt & tt & tt & tt & c.body.wind & c.body.visibility & (c.body.weathers, c.body.nsw) & c.body.sky & tt
 
-weather-only : (g : Group) (c c' : TrendChange) (n : ℕ) → then ((weather_place changing).read n g c.body) (λ b. Good (set_body b c)) ≡ Good c' → Only fs fields 6 c c'
+weather-only : (g : Group) (c c' : TrendChange) (n : ℕ) → then ((weather_place changing).read n g c.body) (λ b. Ok (set_body b c)) ≡ Ok c' → Only fs fields 6 c c'
 weather-only g c c' n e =
     let (b, good, same) = then-good ((weather_place changing).read n g c.body) (λ b. set_body b c) c' e in
     go b (weather-done changing n g c.body b good) same
@@ -211,7 +212,7 @@ weather-only g c c' n e =
 
 module _ (free : Bool) where
   abbrev OnlyAt : ℕ → Place TrendChange → Type 0
-  OnlyAt j p = (n : ℕ) (g : Group) (c c' : TrendChange) → p.read n g c ≡ Good c' → Only fs fields j c c'
+  OnlyAt j p = (n : ℕ) (g : Group) (c c' : TrendChange) → p.read n g c ≡ Ok c' → Only fs fields j c c'
 
   only-rows : Rows OnlyAt 0 (row free)
   unfolding row
@@ -245,7 +246,7 @@ module _ (free : Bool) where
   open-few false most n h = absurd (omega arith)
 
   lone-item : {A : Type 0} {missing : A} (i : ℕ) (get : TypeAt fs i → A) (said : Group → A → Type 0) → (place_at (row free) i).most ≡ cond free 1 0
-      → ((g : Group) (c c' : TrendChange) → (place_at (row free) i).read 0 g c ≡ Good c' → said g (get (look fs i (fields c'))))
+      → ((g : Group) (c c' : TrendChange) → (place_at (row free) i).read 0 g c ≡ Ok c' → said g (get (look fs i (fields c'))))
       → Item (row free) i 0 (λ c. get (look fs i (fields c))) said (λ c. Unit {0}) missing
   lone-item i get said one tells =
       listed-item fs fields (row free) (row-only free) i 0 get said (λ x. Unit {0}) (λ g c c' f e. tells g c c' e)
@@ -255,13 +256,13 @@ module _ (free : Bool) where
   unfolding row
   wind-item =
       lone-item 4 (λ x. x) (Said element.Wind) refl
-      (λ g c c' e. let (v, is, same) = in_body (λ b. set_body b c) c.body (read_wind true g) set_wind c' e in is ∙ ap Good (sym (ap (λ (d : TrendChange). d.body.wind) same)))
+      (λ g c c' e. let (v, is, same) = in_body (λ b. set_body b c) c.body (read_wind true g) set_wind c' e in is ∙ ap Ok (sym (ap (λ (d : TrendChange). d.body.wind) same)))
 
   visibility-item : ChangeItem free element.Visibility 0 (λ c. Unit {0})
   unfolding row
   visibility-item =
       lone-item 5 (λ x. x) (Said element.Visibility) refl
-      (λ g c c' e. let (v, is, same) = in_body (λ b. set_body b c) c.body (read_visibility true g) set_visibility c' e in is ∙ ap Good (sym (ap (λ (d : TrendChange). d.body.visibility) same)))
+      (λ g c c' e. let (v, is, same) = in_body (λ b. set_body b c) c.body (read_visibility true g) set_visibility c' e in is ∙ ap Ok (sym (ap (λ (d : TrendChange). d.body.visibility) same)))
 
   weather-item : (k : ℕ) → k < 3 → ChangeItem free element.Weather k (fair_in element.Weather)
   unfolding row

@@ -1,6 +1,6 @@
 -- EVERY GROUP OF A METAR OR SPECI UP TO THE UNREAD REST IS THE SOURCE OF AN ITEM: of the observation, of a change of the trend, or of the word that opened it.
 -- Assumes nothing.
-use Prim.Native.Nat.{ℕ, ◌≤◌, ◌<◌}
+use Prim.Native.Nat.{ℕ, ◌<◌}
 use native.Mathlib.Omega.{arith}
 use mathlib.Core.Path.{◌≡◌, sym, ap, subst}
 use mathlib.Core.Bool.{Bool, true, false, false≢true}

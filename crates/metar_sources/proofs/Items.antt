@@ -1,8 +1,9 @@
 -- Each place of the observation's row touches its own field alone, and each item is what its group says.
 -- Assumes nothing.
-use Prim.Native.Nat.{ℕ, zero, suc, ◌+◌, ◌<◌}
-use native.Mathlib.Omega.{arith}
-use mathlib.Core.Path.{◌≡◌, refl, sym, ap, subst, ◌∙◌}
+use Rattle.std.specs.Prelude.{Err, Ok, Result}
+use Rattle.text.specs.declared.kinds.Refusal.{Refusal}
+use Prim.Native.Nat.{ℕ, ◌+◌, ◌<◌}
+use mathlib.Core.Path.{◌≡◌, refl, sym, ap, ◌∙◌}
 use mathlib.Core.Bool.{Bool, true, false, cond, ◌&&◌}
 use mathlib.Core.List.{List}
 use lib.ListN.{length, get_or, set, length-set}
@@ -12,7 +13,7 @@ use borrow.Author.Tests.{eqb-false, lt-ltb}
 use Rattle.figures.specs.Quote.{bytes}
 use Rattle.figures.proofs.Impossible.{impossible}
 use Rattle.shapes.specs.Pattern.{has_pattern}
-use Rattle.places.specs.Engine.{Group, Read, Good, Bad, then, Place, nowhere, place_at}
+use Rattle.places.specs.Engine.{Group, then, Place, place_at}
 use Rattle.record.specs.declared.aerodrome.Station.{Station}
 use Rattle.record.specs.declared.aerodrome.Instant.{Instant}
 use Rattle.record.specs.declared.aerodrome.Wind.{Wind}
@@ -30,8 +31,8 @@ use Rattle.record.specs.declared.aerodrome.RunwayStates.{RunwayStates}
 use Rattle.record.specs.declared.aerodrome.Body.{Body}
 use Rattle.record.specs.declared.aerodrome.Observation.{Observation}
 use Rattle.record.specs.declared.aerodrome.Cover.TheVariants as cover
-use Rattle.record.specs.Body.{blank_weather, blank_layer, set_wind, set_visibility, set_weathers, set_nsw, set_sky}
-use Rattle.record.specs.Observation.{blank_observation, blank_runway, blank_state, set_special, set_corrected, set_station, set_time, set_nil, set_automatic, set_body, set_variation, set_runways, set_temperatures, set_qnh, set_recents, set_states}
+use Rattle.record.specs.Body.{blank_weather, blank_layer, set_wind, set_visibility, set_sky}
+use Rattle.record.specs.Observation.{blank_observation, blank_runway, blank_state, set_time, set_body, set_variation, set_runways, set_temperatures, set_qnh, set_recents, set_states}
 use Rattle.elements.specs.Parts.{agreeing, disagrees}
 use Rattle.elements.specs.Wind.{read_wind, read_variation}
 use Rattle.elements.specs.Visibility.{read_visibility, is_cavok}
@@ -44,11 +45,11 @@ use Rattle.aerodrome_groups.specs.Temperatures.{read_temperatures, read_qnh}
 use Rattle.runway_states.specs.State.{read_state, with_state, with_snoclo}
 use Rattle.metar_row.specs.Row.{observed, row}
 use Rattle.sources.proofs.Rows.{Item, first}
-use Rattle.sources.proofs.Fields.{◌&◌, Fields, end, field, Tuple, look, put, then-good, then-bind, by_value, Only, wrote, only-put, listed-item, single-item, Rows, row_at}
-use Rattle.body_sources.proofs.Body.{agreed, in_body, WeatherDone, with-nsw, with-weather, weather-done, weather-tells, weather-others, weather-stays, SkyDone, sky-done, sky-tells, sky-others, sky-stays}
+use Rattle.sources.proofs.Fields.{◌&◌, Fields, end, field, Tuple, put, then-good, then-bind, by_value, Only, wrote, only-put, listed-item, single-item, Rows, row_at}
+use Rattle.body_sources.proofs.Body.{agreed, in_body, WeatherDone, with-nsw, with-weather, weather-done, weather-tells, weather-others, weather-stays, sky-done, sky-tells, sky-others, sky-stays}
 use Rattle.metar_sources.specs.declared.kinds.Element.{Element}
 use Rattle.metar_sources.specs.declared.kinds.Element.TheVariants as element
-use Rattle.metar_sources.specs.Items.{place_of, most_of, Value, value_of, Said}
+use Rattle.metar_sources.specs.Items.{place_of, most_of, value_of, Said}
 
 -- ---- the observation's fields, in the order of the row's places
 
@@ -64,11 +65,11 @@ fields r =
 
 -- ---- each place touches its own field alone
 
-good-only : {A : Type 0} (a b : A) → Good a ≡ Good b → b ≡ a
+good-only : {A : Type 0} (a b : A) → ◌≡◌ {A = Result A Refusal} (Ok a) (Ok b) → b ≡ a
 good-only a b e = cc
 
 module _ (g : Group) (a a' : Observation) where
-  weather-only : (n : ℕ) → then ((weather_place (observed a)).read n g a.body) (λ b. Good (set_body b a)) ≡ Good a' → Only fs fields 10 a a'
+  weather-only : (n : ℕ) → then ((weather_place (observed a)).read n g a.body) (λ b. Ok (set_body b a)) ≡ Ok a' → Only fs fields 10 a a'
   weather-only n e =
       let (b, good, same) = then-good ((weather_place (observed a)).read n g a.body) (λ b. set_body b a) a' e in
       go b (weather-done (observed a) n g a.body b good) same
@@ -86,14 +87,14 @@ module _ (g : Group) (a a' : Observation) where
       go false = refl
 
   -- a runway state beside SNOCLO is refused
-  pub beside-refused : then (then (read_state g) (λ x. disagrees)) (λ s. Good (set_states s a)) ≡ Good a' → ⊥
+  pub beside-refused : then (then (read_state g) (λ x. disagrees)) (λ s. Ok (set_states s a)) ≡ Ok a' → ⊥
   beside-refused e =
       let (s, good, same) = then-good (then (read_state g) (λ x. disagrees)) (λ s. set_states s a) a' e in
       let (x, is, bad) = then-bind (read_state g) (λ x. disagrees) s good in
       impossible (cc)
 
 abbrev OnlyAt : ℕ → Place Observation → Type 0
-OnlyAt j p = (n : ℕ) (g : Group) (a a' : Observation) → p.read n g a ≡ Good a' → Only fs fields j a a'
+OnlyAt j p = (n : ℕ) (g : Group) (a a' : Observation) → p.read n g a ≡ Ok a' → Only fs fields j a a'
 
 only-rows : Rows OnlyAt 0 row
 unfolding row
@@ -114,11 +115,11 @@ only-rows =
     & (λ n g a a' e. wrote fs fields 13 a a' (read_qnh g) (λ v. set_qnh v a) (λ v. v) (λ v. refl) e)
     & (λ n g a a' e. wrote fs fields 14 a a' (read_recent a.automatic g) (λ v. set_recents (with_weather n a.recents v) a) (with_weather n a.recents) (λ v. refl) e)
     & (λ n g a a' e.
-    let (s, good, same) = then-good (then (read_state g) (λ x. Good (with_state n a.states x))) (λ s. set_states s a) a' e in
+    let (s, good, same) = then-good (then (read_state g) (λ x. Ok (with_state n a.states x))) (λ s. set_states s a) a' e in
     let (x, is, put) = then-good (read_state g) (with_state n a.states) s good in
     states-only g a a' n x (same ∙ ap (λ (s : RunwayStates). set_states s a) put))
     & (λ n g a a' e.
-    let (s, good, same) = then-good (agreeing (eqb a.states.count 0) (Good (with_snoclo true a.states))) (λ s. set_states s a) a' e in
+    let (s, good, same) = then-good (agreeing (eqb a.states.count 0) (Ok (with_snoclo true a.states))) (λ s. set_states s a) a' e in
     only-put fs fields 16 a a' true (ap fields (same ∙ ap (λ (s : RunwayStates). set_states s a) (agreed (eqb a.states.count 0) (with_snoclo true a.states) s good).1)))
     & (λ n g a a' e. absurd (beside-refused g a a' e))
     & (λ n g a a' e. impossible (cc))
@@ -192,27 +193,27 @@ fair_of element.Recent r = length r.recents.items ≡ 3
 fair_of element.State r = length r.states.items ≡ 4
 fair_of element.Snoclo r = Unit {0}
 
-by-list : {A : Type 0} (most k : ℕ) (d : A) (x : Read A) (f : A → Observation) (items : Observation → List A) (a a' : Observation)
-    → ((v : A) → items (f v) ≡ with-one most k (items a) v) → k < most → length (items a) ≡ most → then x (λ v. Good (f v)) ≡ Good a' → x ≡ Good (get_or (items a') k d)
+by-list : {A : Type 0} (most k : ℕ) (d : A) (x : Result A Refusal) (f : A → Observation) (items : Observation → List A) (a a' : Observation)
+    → ((v : A) → items (f v) ≡ with-one most k (items a) v) → k < most → length (items a) ≡ most → then x (λ v. Ok (f v)) ≡ Ok a' → x ≡ Ok (get_or (items a') k d)
 by-list most k d x f items a a' is few fair e =
     let (v, reads, same) = then-good x f a' e in
-    reads ∙ ap Good (sym (ap (λ (l : List _). get_or l k d) (ap items same ∙ is v) ∙ one_same most k (items a) v d few fair))
+    reads ∙ ap Ok (sym (ap (λ (l : List _). get_or l k d) (ap items same ∙ is v) ∙ one_same most k (items a) v d few fair))
 
-list-other : {A : Type 0} (most k n : ℕ) (d : A) (x : Read A) (f : A → Observation) (items : Observation → List A) (a a' : Observation)
-    → ((v : A) → items (f v) ≡ with-one most n (items a) v) → eqb k n ≡ false → then x (λ v. Good (f v)) ≡ Good a' → get_or (items a') k d ≡ get_or (items a) k d
+list-other : {A : Type 0} (most k n : ℕ) (d : A) (x : Result A Refusal) (f : A → Observation) (items : Observation → List A) (a a' : Observation)
+    → ((v : A) → items (f v) ≡ with-one most n (items a) v) → eqb k n ≡ false → then x (λ v. Ok (f v)) ≡ Ok a' → get_or (items a') k d ≡ get_or (items a) k d
 list-other most k n d x f items a a' is o e =
     let (v, reads, same) = then-good x f a' e in
     ap (λ (l : List _). get_or l k d) (ap items same ∙ is v) ∙ one-other most k n (items a) v d o
 
-list-long : {A : Type 0} (most n : ℕ) (x : Read A) (f : A → Observation) (items : Observation → List A) (a a' : Observation)
-    → ((v : A) → items (f v) ≡ with-one most n (items a) v) → then x (λ v. Good (f v)) ≡ Good a' → length (items a) ≡ most → length (items a') ≡ most
+list-long : {A : Type 0} (most n : ℕ) (x : Result A Refusal) (f : A → Observation) (items : Observation → List A) (a a' : Observation)
+    → ((v : A) → items (f v) ≡ with-one most n (items a) v) → then x (λ v. Ok (f v)) ≡ Ok a' → length (items a) ≡ most → length (items a') ≡ most
 list-long most n x f items a a' is e fair =
     let (v, reads, same) = then-good x f a' e in
     ap length (ap items same ∙ is v) ∙ one-long most n (items a) v ∙ fair
 
-fuse : {A B C : Type 0} (x : Read A) (f : A → B) (h : B → C) → then (then x (λ v. Good (f v))) (λ b. Good (h b)) ≡ then x (λ v. Good (h (f v)))
-fuse (Good a) f h = refl
-fuse (Bad r) f h = refl
+fuse : {A B C : Type 0} (x : Result A Refusal) (f : A → B) (h : B → C) → then (then x (λ v. Ok (f v))) (λ b. Ok (h b)) ≡ then x (λ v. Ok (h (f v)))
+fuse (Ok a) f h = refl
+fuse (Err r) f h = refl
 
 abbrev ObservedItem : Element → ℕ → Type 0
 ObservedItem e k = Item row (place_of e) k (value_of e k) (Said e) (fair_of e) (value_of e k blank_observation)
@@ -241,8 +242,8 @@ state-item k few =
     (λ n g a a' h o f e. list-other 4 k n blank_state (read_state g) (λ v. set_states (with_state n a.states v) a) (λ r. r.states.items) a a' (state-items n a.states) o (sym (fused g a n) ∙ e))
     (λ n g a a' f e. list-long 4 n (read_state g) (λ v. set_states (with_state n a.states v) a) (λ r. r.states.items) a a' (state-items n a.states) (sym (fused g a n) ∙ e) f)
   where
-    fused : (g : Group) (a : Observation) (n : ℕ) → then (then (read_state g) (λ x. Good (with_state n a.states x))) (λ s. Good (set_states s a))
-        ≡ then (read_state g) (λ x. Good (set_states (with_state n a.states x) a))
+    fused : (g : Group) (a : Observation) (n : ℕ) → then (then (read_state g) (λ x. Ok (with_state n a.states x))) (λ s. Ok (set_states s a))
+        ≡ then (read_state g) (λ x. Ok (set_states (with_state n a.states x) a))
     fused g a n = fuse (read_state g) (with_state n a.states) (λ s. set_states s a)
 
 weather-item : (k : ℕ) → k < 3 → ObservedItem element.Weather k
@@ -284,11 +285,11 @@ observed-item element.Nil k h = first 4 k _ _ h (single-item fs fields row row-o
 observed-item element.Automatic k h = first 5 k _ _ h (single-item fs fields row row-only 5 (λ x. x) (Said element.Automatic) refl (λ g a a' e. ap (λ (r : Observation). r.automatic) (good-only _ a' e)))
 observed-item element.Wind k h =
     first 6 k _ _ h (single-item fs fields row row-only 6 (λ x. x) (Said element.Wind) refl
-    (λ g a a' e. let (v, is, same) = in_body (λ b. set_body b a) a.body (read_wind false g) set_wind a' e in is ∙ ap Good (sym (ap (λ (r : Observation). r.body.wind) same))))
+    (λ g a a' e. let (v, is, same) = in_body (λ b. set_body b a) a.body (read_wind false g) set_wind a' e in is ∙ ap Ok (sym (ap (λ (r : Observation). r.body.wind) same))))
 observed-item element.Variation k h = first 7 k _ _ h (single-item fs fields row row-only 7 (λ x. x) (Said element.Variation) refl (λ g a a' e. by_value (read_variation g) (λ v. set_variation v a) (λ r. r.variation) a' (λ v. refl) e))
 observed-item element.Visibility k h =
     first 8 k _ _ h (single-item fs fields row row-only 8 (λ x. x) (Said element.Visibility) refl
-    (λ g a a' e. let (v, is, same) = in_body (λ b. set_body b a) a.body (read_visibility false g) set_visibility a' e in is ∙ ap Good (sym (ap (λ (r : Observation). r.body.visibility) same))))
+    (λ g a a' e. let (v, is, same) = in_body (λ b. set_body b a) a.body (read_visibility false g) set_visibility a' e in is ∙ ap Ok (sym (ap (λ (r : Observation). r.body.visibility) same))))
 observed-item element.Runway k h = runway-item k h
 observed-item element.Weather k h = weather-item k h
 observed-item element.Clouds k h = clouds-item k h
@@ -299,5 +300,5 @@ observed-item element.State k h = state-item k h
 observed-item element.Snoclo k h =
     first 16 k _ _ h (single-item fs fields row row-only 16 (λ x. x) (Said element.Snoclo) refl
     (λ g a a' e.
-    let (s, good, same) = then-good (agreeing (eqb a.states.count 0) (Good (with_snoclo true a.states))) (λ s. set_states s a) a' e in
+    let (s, good, same) = then-good (agreeing (eqb a.states.count 0) (Ok (with_snoclo true a.states))) (λ s. set_states s a) a' e in
     ap (λ (r : Observation). r.states.snoclo) same ∙ ap (λ (s : RunwayStates). s.snoclo) (agreed (eqb a.states.count 0) (with_snoclo true a.states) s good).1))

@@ -1,7 +1,7 @@
 -- WHERE THE ITEMS OF A METAR OR SPECI WERE READ FROM, in a text whose groups come to a record.
 -- Assumes nothing.
-use Prim.Native.Nat.{ℕ, ◌+◌, ◌<◌}
-use native.Mathlib.Omega.{arith}
+use Rattle.std.specs.Prelude.{Ok}
+use Prim.Native.Nat.{ℕ, ◌<◌}
 use mathlib.Core.Path.{◌≡◌, refl, sym, ap, subst, ◌∙◌}
 use mathlib.Core.Bool.{Bool, true, false, cond}
 use mathlib.Core.List.{List, ◌++◌, map}
@@ -13,7 +13,7 @@ use Rattle.text.specs.declared.kinds.Refusal.TheVariants as refusal
 use Rattle.text.specs.Groups.{groups_from}
 use Rattle.text.specs.Text.{tail_of}
 use Rattle.shapes.specs.Pattern.{has_pattern, has_any}
-use Rattle.places.specs.Engine.{Group, Good, Done}
+use Rattle.places.specs.Engine.{Group, Done}
 use Rattle.places.specs.Parts.{Begun, Word as Coming, Ends, Opens, Bars}
 use Rattle.record.specs.declared.aerodrome.Observation.{Observation}
 use Rattle.record.specs.declared.aerodrome.TrendChange.{TrendChange}
@@ -24,8 +24,8 @@ use Rattle.metar_row.specs.Row.{stop_words}
 use Rattle.trend_row.specs.declared.kinds.Word.{Word}
 use Rattle.trend_row.specs.declared.kinds.Word.TheVariants as word
 use Rattle.trend_row.specs.Tests.{lacks_in}
-use Rattle.trend.specs.Read.{start_of, comes_to, taking, parts}
-use Rattle.metar.specs.Read.{main_part, groups_read}
+use Rattle.trend.specs.Read.{start_of, comes_to, taking}
+use Rattle.metar.specs.Read.{groups_read}
 use Rattle.sources.specs.declared.kinds.Spot.TheVariants as spot
 use Rattle.sources.specs.Trail.{Taken, group, origin_in, source_of}
 use Rattle.sources.specs.Trail as walk
@@ -62,7 +62,7 @@ unfolding comes_to word_move
 word-ends r g e = go (has_any stop_words g) (has_pattern g (bytes "NOSIG")) r.trend.nosig (ltb 0 r.trend.count) e
   where
     opens : Word → Coming Word TrendChange
-    opens w = Opens (Good (record { kind = w; start = start_of w }))
+    opens w = Opens (Ok (record { kind = w; start = start_of w }))
 
     go : (a b n c : Bool) → cond a Ends (cond b (cond n (Bars refusal.Order) (cond c (Bars refusal.Disagreement) (opens word.Nosig)))
         (cond n (Bars refusal.Disagreement) (opens (cond (has_pattern g (bytes "BECMG")) word.Becoming word.Temporary)))) ≡ Ends
@@ -75,7 +75,7 @@ word-ends r g e = go (has_any stop_words g) (has_pattern g (bytes "NOSIG")) r.tr
     go false false false c e = impossible (cc)
 
 -- what opened it is the word, and the part begins as the word leaves it
-pub word-opens : (r : Metar) (g : Group) (w : Word) (p : TrendChange) → coming r g ≡ Opens (Good (record { kind = w; start = p }))
+pub word-opens : (r : Metar) (g : Group) (w : Word) (p : TrendChange) → coming r g ≡ Opens (Ok (record { kind = w; start = p }))
     → (word_move g ≡ walk.Opens w) × (p ≡ start_of w) × (r.trend.nosig ≡ false)
 unfolding comes_to word_move
 word-opens r g w p e = go (has_any stop_words g) (has_pattern g (bytes "NOSIG")) r.trend.nosig refl (ltb 0 r.trend.count) e
@@ -84,9 +84,9 @@ word-opens r g w p e = go (has_any stop_words g) (has_pattern g (bytes "NOSIG"))
     v = cond (has_pattern g (bytes "BECMG")) word.Becoming word.Temporary
 
     opens : Word → Coming Word TrendChange
-    opens w = Opens (Good (record { kind = w; start = start_of w }))
+    opens w = Opens (Ok (record { kind = w; start = start_of w }))
 
-    opened : (u : Word) → opens u ≡ Opens (Good (record { kind = w; start = p })) → (walk.Opens u ≡ walk.Opens w) × (p ≡ start_of w)
+    opened : (u : Word) → opens u ≡ Opens (Ok (record { kind = w; start = p })) → (walk.Opens u ≡ walk.Opens w) × (p ≡ start_of w)
     opened u e =
         let both : ◌≡◌ {A = Begun Word TrendChange} (record { kind = u; start = start_of u }) (record { kind = w; start = p }) = cc in
         let same : u ≡ w = ap (λ (b : Begun Word TrendChange). b.kind) both in
@@ -94,7 +94,7 @@ word-opens r g w p e = go (has_any stop_words g) (has_pattern g (bytes "NOSIG"))
         (ap walk.Opens same, sym starts ∙ ap start_of same)
 
     go : (a b n : Bool) → r.trend.nosig ≡ n → (c : Bool) → cond a Ends (cond b (cond n (Bars refusal.Order) (cond c (Bars refusal.Disagreement) (opens word.Nosig)))
-        (cond n (Bars refusal.Disagreement) (opens v))) ≡ Opens (Good (record { kind = w; start = p }))
+        (cond n (Bars refusal.Disagreement) (opens v))) ≡ Opens (Ok (record { kind = w; start = p }))
         → (cond a walk.Ends (cond b (walk.Opens word.Nosig) (walk.Opens v)) ≡ walk.Opens w) × (p ≡ start_of w) × (r.trend.nosig ≡ false)
     go true b n is c e = impossible (cc)
     go false true true is c e = impossible (cc)
@@ -104,21 +104,21 @@ word-opens r g w p e = go (has_any stop_words g) (has_pattern g (bytes "NOSIG"))
     go false false false is c e = let (x, y) = opened v e in (x, y, is)
 
 -- NOSIG opens a part only where no change stands
-pub nosig-first : (r : Metar) (g : Group) (p : TrendChange) → coming r g ≡ Opens (Good (record { kind = word.Nosig; start = p })) → ltb 0 r.trend.count ≡ false
+pub nosig-first : (r : Metar) (g : Group) (p : TrendChange) → coming r g ≡ Opens (Ok (record { kind = word.Nosig; start = p })) → ltb 0 r.trend.count ≡ false
 unfolding comes_to
 nosig-first r g p e = go (has_any stop_words g) (has_pattern g (bytes "NOSIG")) r.trend.nosig (ltb 0 r.trend.count) refl (has_pattern g (bytes "BECMG")) e
   where
     opens : Word → Coming Word TrendChange
-    opens w = Opens (Good (record { kind = w; start = start_of w }))
+    opens w = Opens (Ok (record { kind = w; start = start_of w }))
 
-    kinds : (u : Word) → opens u ≡ Opens (Good (record { kind = word.Nosig; start = p })) → u ≡ word.Nosig
+    kinds : (u : Word) → opens u ≡ Opens (Ok (record { kind = word.Nosig; start = p })) → u ≡ word.Nosig
     kinds u e =
         let both : ◌≡◌ {A = Begun Word TrendChange} (record { kind = u; start = start_of u }) (record { kind = word.Nosig; start = p }) = cc in
         ap (λ (b : Begun Word TrendChange). b.kind) both
 
     go : (a b n c : Bool) → ltb 0 r.trend.count ≡ c → (z : Bool)
         → cond a Ends (cond b (cond n (Bars refusal.Order) (cond c (Bars refusal.Disagreement) (opens word.Nosig))) (cond n (Bars refusal.Disagreement) (opens (cond z word.Becoming word.Temporary))))
-        ≡ Opens (Good (record { kind = word.Nosig; start = p })) → ltb 0 r.trend.count ≡ false
+        ≡ Opens (Ok (record { kind = word.Nosig; start = p })) → ltb 0 r.trend.count ≡ false
     go true b n c is z e = impossible (cc)
     go false true true c is z e = impossible (cc)
     go false true false true is z e = impossible (cc)

@@ -1,24 +1,22 @@
 -- The laws of a walk over a METAR or SPECI: a group's move by its turn, and what the next group comes to.
 -- Assumes nothing.
-use Prim.Native.Nat.{ℕ, ◌+◌, ◌≤◌, ◌<◌}
-use native.Mathlib.Omega.{arith}
+use Rattle.std.specs.Prelude.{None}
+use Prim.Native.Nat.{ℕ, ◌<◌}
 use mathlib.Core.Path.{◌≡◌, refl, sym, ap, subst, ◌∙◌}
 use mathlib.Core.Bool.{Bool, true, false, ◌&&◌, cond}
-use mathlib.Core.List.{List, []}
+use mathlib.Core.List.{List}
 use lib.Dec.{eqb}
-use borrow.Author.Tests.{eqb-true}
 use Rattle.figures.specs.Quote.{bytes}
-use Rattle.figures.proofs.Impossible.{impossible}
 use Rattle.text.specs.declared.kinds.Cut.{Cut}
 use Rattle.text.specs.declared.kinds.Cut.TheVariants as cut
-use Rattle.text.specs.Groups.{groups_from, next_of, part_of}
+use Rattle.text.specs.Groups.{next_of, part_of}
 use Rattle.text.proofs.Groups.{Follows, when-group, when-end}
 use Rattle.shapes.specs.Pattern.{has_pattern, has_any}
 use Rattle.places.specs.declared.kinds.Turn.{Turn}
 use Rattle.places.specs.declared.kinds.Turn.TheVariants as turn
-use Rattle.places.specs.Engine.{Group, Place, onward}
+use Rattle.places.specs.Engine.{Group, onward}
 use Rattle.places.specs.Turn.{turn_at}
-use Rattle.places.proofs.Loop.{at_most, turn-room}
+use Rattle.places.proofs.Loop.{turn-room}
 use Rattle.metar.proofs.Steps as observed
 use Rattle.metar_row.specs.Row as observation
 use Rattle.trend.proofs.Steps as changes
@@ -26,8 +24,6 @@ use Rattle.trend_row.specs.declared.kinds.Word.{Word}
 use Rattle.trend_row.specs.declared.kinds.Word.TheVariants as word
 use Rattle.trend_row.specs.Row as trend
 use Rattle.sources.specs.declared.kinds.Spot.{Spot}
-use Rattle.sources.specs.declared.kinds.Source.{Source}
-use Rattle.sources.specs.declared.kinds.Source.TheVariants as source
 use Rattle.sources.specs.Trail.{Mark, Move, Takes, Opens, Joins, Ends}
 use Rattle.sources.specs.Route.{move_by, move_on}
 use Rattle.sources.proofs.Walks.{looked, looked-over, looked-ends}
@@ -126,7 +122,7 @@ module _ (t : List ℕ) (from part : ℕ) (w : Word) (c k : ℕ) where
     pub moves : move_on route m (part_of t s e) ≡ Opens v
 
   abbrev MetSo : Met → Type 0
-  MetSo met.Over = (q : ℕ) (p : Spot) → source.None ≡ looked (move_on route) q p t m from
+  MetSo met.Over = (q : ℕ) (p : Spot) → None ≡ looked (move_on route) q p t m from
   MetSo (met.Takes i n past s e) = Took i n past s e
   MetSo (met.Opens v s e) = Began v s e
 
@@ -150,7 +146,7 @@ module _ (t : List ℕ) (from part : ℕ) (w : Word) (c k : ℕ) where
           subst (λ (v : Move Word). MetSo (met_move s e v)) (sym (move-turn part w c k (part_of t s e)))
           (by_turn s e (when-group t from s e (sym is)) (turn_in part w c k (part_of t s e)) refl)
 
-  pub was-over : {x : Met} → x ≡ met_of t from m → x ≡ met.Over → (q : ℕ) (p : Spot) → source.None ≡ looked (move_on route) q p t m from
+  pub was-over : {x : Met} → x ≡ met_of t from m → x ≡ met.Over → (q : ℕ) (p : Spot) → None ≡ looked (move_on route) q p t m from
   was-over a b = subst MetSo (sym a ∙ b) met-so
 
   pub was-taken : {x : Met} {i n past s e : ℕ} → x ≡ met_of t from m → x ≡ met.Takes i n past s e → Took i n past s e

@@ -1,40 +1,38 @@
 -- WHERE THE ITEMS OF A TREND WERE READ FROM: the report takes each change in at its slot, and no other part touches it.
 -- Assumes nothing.
+use Rattle.std.specs.Prelude.{Ok}
 use Prim.Native.Nat.{ℕ, zero, suc, ◌+◌, ◌-◌, ◌≤◌, ◌<◌}
 use native.Mathlib.Omega.{arith}
 use mathlib.Core.Path.{◌≡◌, refl, sym, ap, subst, ◌∙◌}
 use mathlib.Core.Bool.{Bool, true, false, ◌&&◌, cond, false≢true}
-use mathlib.Core.List.{List, []}
+use mathlib.Core.List.{List}
 use lib.ListN.{length, get_or, set, replicate, length-set}
 use lib.Seq.{get_or-set_same, get_or-set_other}
 use lib.Dec.{eqb, leb, ltb}
 use borrow.Author.Tests.{eqb-false, ltb-true, ltb-false, lt-ltb, leb-true, leb-false, eq-eqb, ne_eqb}
-use Rattle.figures.proofs.Impossible.{impossible}
 use Rattle.text.specs.Groups.{Piece, groups_from}
 use Rattle.text.specs.Text.{tail_of}
 use Rattle.shapes.specs.Pattern.{has_any}
-use Rattle.places.specs.Engine.{Group, Good, Done, place_at}
+use Rattle.places.specs.Engine.{Group, Done, place_at}
 use Rattle.places.specs.Parts.{Opens}
-use Rattle.record.specs.declared.aerodrome.Tendency.{Tendency}
 use Rattle.record.specs.declared.aerodrome.TrendChange.{TrendChange}
 use Rattle.record.specs.declared.aerodrome.Metar.{Metar}
-use Rattle.record.specs.Observation.{blank_observation}
-use Rattle.record.specs.Trend.{blank_trend_change, blank_trend}
+use Rattle.record.specs.Trend.{blank_trend_change}
 use Rattle.metar_row.specs.Row.{words}
 use Rattle.trend_row.specs.declared.kinds.Word.{Word}
 use Rattle.trend_row.specs.declared.kinds.Word.TheVariants as word
 use Rattle.trend_row.specs.Row.{is_change, row}
-use Rattle.trend.specs.Read.{tendency_of, start_of, with_change, taking}
+use Rattle.trend.specs.Read.{tendency_of, start_of, with_change}
 use Rattle.metar.specs.Read.{groups_read}
 use Rattle.sources.specs.declared.kinds.Spot.TheVariants as spot
-use Rattle.sources.specs.Trail.{Taken, Origin, origin_in, source_of}
+use Rattle.sources.specs.Trail.{Taken, origin_in, source_of}
 use Rattle.sources.proofs.Rows.{Entry, Went, done, on, turn-within}
 use Rattle.sources.proofs.Items.{Stems, Begins, alone, joined, Beside, Shelf, part-stems, Opener, word-stems, past-part}
 use Rattle.sources.proofs.Texts.{ReadFrom, read-from}
 use Rattle.metar_sources.specs.declared.kinds.ChangeElement.{ChangeElement}
 use Rattle.metar_sources.specs.declared.kinds.ChangeElement.TheVariants as element
 use Rattle.metar_sources.specs.Trail.{route, trail_of}
-use Rattle.metar_sources.specs.Changes.{place_of, most_of, Value, value_in, Said, change_at, WordItem, word_in, word_value, no_word, WordSaid}
+use Rattle.metar_sources.specs.Changes.{place_of, most_of, Value, value_in, Said, change_at, WordItem, word_in, no_word, WordSaid}
 use Rattle.metar_sources.proofs.Changes.{times-done, fair_in, change-item}
 use Rattle.metar_sources.proofs.Sources.{coming, begun, none-lacks, takes, lacks, word-opens, nosig-first, went, walked, trail-covers}
 
@@ -250,7 +248,7 @@ module _ (q : ℕ) (some : 0 < q) (few : q < 4) where
       go false = refl
 
   word-opened : (m : ℕ) (r : Metar) (g : Group) (w : Word) (p p' : TrendChange) {c n : ℕ} {gs left : List Piece} {es : List Entry} → Known m r → q ≡ m + 1
-      → word_in q r ≡ no_word → coming r g ≡ Opens (Good (record { kind = w; start = p })) → Went (row (is_change w)) (has_any words) c n p' left 0 0 p gs es
+      → word_in q r ≡ no_word → coming r g ≡ Opens (Ok (record { kind = w; start = p })) → Went (row (is_change w)) (has_any words) c n p' left 0 0 p gs es
       → WordSaid g (word_in q (takes r w p'))
   word-opened m r g word.Nosig p p' known is blank opens went =
       let z = nosig-part m r p known (alone opens) in

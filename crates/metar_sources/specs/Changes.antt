@@ -1,8 +1,8 @@
 -- THE ITEMS OF A TREND: of part q, 1 to 3, which the q-th of its words opened. Where each stands in the record, at which place of the row its group is taken, and
 -- what the definition of that group says of its bytes.
 -- Assumes nothing: these are definitions.
-use Rattle.std.specs.Prelude.{ℕ, ◌-◌, ◌≡◌, Bool, true, false, ◌&&◌, get_or, eqb}
-use Rattle.places.specs.Engine.{Group, Good}
+use Rattle.std.specs.Prelude.{ℕ, ◌-◌, ◌≡◌, Bool, true, false, ◌&&◌, get_or, eqb, Ok}
+use Rattle.places.specs.Engine.{Group}
 use Rattle.record.specs.declared.aerodrome.Moment.{Moment}
 use Rattle.record.specs.declared.aerodrome.Hours.{Hours}
 use Rattle.record.specs.declared.aerodrome.Hours.TheVariants as hours
@@ -51,7 +51,7 @@ at_of (hours.At t) = time t
 
 -- what a time's group says; TL may be 2400
 pub data TimeSaid (until : Bool) (g : Group) : Perhaps → Type 0 where
-  says : {t : Moment} → read_moment until g ≡ Good t → TimeSaid until g (time t)
+  says : {t : Moment} → read_moment until g ≡ Ok t → TimeSaid until g (time t)
 
 abbrev pub place_of : ChangeElement → ℕ
 place_of element.From = 1

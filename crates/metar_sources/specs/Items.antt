@@ -1,10 +1,10 @@
 -- THE ITEMS OF A METAR'S OR SPECI'S OBSERVATION: where each stands in the record, at which place of the row its group is taken, and what the definition of that
 -- group says of its bytes.
 -- Assumes nothing: these are definitions.
-use Rattle.std.specs.Prelude.{ℕ, ◌≡◌, Bool, true, false, get_or}
+use Rattle.std.specs.Prelude.{ℕ, ◌≡◌, Bool, true, false, get_or, Ok}
 use Rattle.figures.specs.Quote.{bytes}
 use Rattle.shapes.specs.Pattern.{has_pattern}
-use Rattle.places.specs.Engine.{Group, Good}
+use Rattle.places.specs.Engine.{Group}
 use Rattle.record.specs.declared.aerodrome.Station.{Station}
 use Rattle.record.specs.declared.aerodrome.Instant.{Instant}
 use Rattle.record.specs.declared.aerodrome.Wind.{Wind}
@@ -112,17 +112,17 @@ abbrev pub Said : (e : Element) → Group → Value e → Type 0
 Said element.Name g v = v ≡ has_pattern g (bytes "SPECI")
 Said element.Correction g v = v ≡ true
 Said element.Station g v = v ≡ station_of g
-Said element.Time g v = read_time g ≡ Good v
+Said element.Time g v = read_time g ≡ Ok v
 Said element.Nil g v = v ≡ true
 Said element.Automatic g v = v ≡ true
 Said element.Wind g v = WindSaid false g v
-Said element.Variation g v = read_variation g ≡ Good v
+Said element.Variation g v = read_variation g ≡ Ok v
 Said element.Visibility g v = VisibilitySaid false g v
-Said element.Runway g v = read_runway g ≡ Good v
+Said element.Runway g v = read_runway g ≡ Ok v
 Said element.Weather g v = WeatherSaid false g v
 Said element.Clouds g v = SkySaid false g v
-Said element.Temperatures g v = read_temperatures g ≡ Good v
-Said element.Pressure g v = read_qnh g ≡ Good v
-Said element.Recent g v = (automatic : Bool) × (read_recent automatic g ≡ Good v)
-Said element.State g v = read_state g ≡ Good v
+Said element.Temperatures g v = read_temperatures g ≡ Ok v
+Said element.Pressure g v = read_qnh g ≡ Ok v
+Said element.Recent g v = (automatic : Bool) × (read_recent automatic g ≡ Ok v)
+Said element.State g v = read_state g ≡ Ok v
 Said element.Snoclo g v = v ≡ true

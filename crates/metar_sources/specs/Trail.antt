@@ -1,6 +1,6 @@
 -- Where each group of a METAR or SPECI was taken: its name and the observation's groups in part 0, then its trend, NOSIG or each change a part of its own.
 -- Assumes nothing: these are definitions.
-use Rattle.std.specs.Prelude.{ℕ, ◌+◌, Bool, true, false, cond, List, eqb}
+use Rattle.std.specs.Prelude.{ℕ, false, cond, List, eqb}
 use Rattle.figures.specs.Quote.{bytes}
 use Rattle.text.specs.declared.kinds.Cut.{Cut}
 use Rattle.text.specs.declared.kinds.Cut.TheVariants as cut

@@ -40,6 +40,7 @@ fn past_in(part: usize, place: usize) -> usize
     if part == 0 { go_past(place) } else { place }
 }
 
+#[tactic(auto, using(trend::proofs::Turns::stop_is))]
 fn is_stop_word(g: &[u8]) -> bool
     ensures { result ≡ has_any stop_words g.now }
 {
@@ -49,6 +50,7 @@ fn is_stop_word(g: &[u8]) -> bool
 }
 
 // A word, from start up to end.
+#[tactic(auto, unfolding(crate::specs::Trail::word_move))]
 fn meet_word(g: &[u8], start: usize, end: usize) -> Met
     ensures { result ≡ met_move start end (word_move g.now) }
 {
@@ -102,7 +104,7 @@ fn meet(text: &[u8], from: usize, part: usize, word: Word, place: usize, count: 
 }
 
 // The group that was taken at a spot of a part, in a text that is accepted as a METAR or SPECI.
-pub fn find(text: &[u8], part: usize, spot: Spot) -> Source
+pub fn find(text: &[u8], part: usize, spot: Spot) -> Option<Source>
     ensures { result ≡ source_of (origin_in part spot (trail_of text.now)) }
 {
     let mut here = 0;
@@ -113,7 +115,7 @@ pub fn find(text: &[u8], part: usize, spot: Spot) -> Source
     loop {
         let met = meet(text, from, here, opener, stand, stood);
         match met {
-            Met::Over => return Source::None,
+            Met::Over => return None,
             Met::Takes {
                 place,
                 count,
@@ -122,7 +124,7 @@ pub fn find(text: &[u8], part: usize, spot: Spot) -> Source
                 end,
             } => {
                 if (part == here) & is_same(spot, Spot::At { place, count }) {
-                    return Source::Group { start, end };
+                    return Some(Source { start, end });
                 }
                 stand = past;
                 stood = count + 1;
@@ -131,7 +133,7 @@ pub fn find(text: &[u8], part: usize, spot: Spot) -> Source
             Met::Opens { word, start, end } => {
                 here += 1;
                 if (part == here) & is_same(spot, Spot::Opening) {
-                    return Source::Group { start, end };
+                    return Some(Source { start, end });
                 }
                 opener = word;
                 stand = 0;

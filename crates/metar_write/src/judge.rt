@@ -9,50 +9,40 @@ use aerodrome_groups::judge::{
 use body::judge::{sky_judged, visibility_judged, weather_judged, wind_judged};
 use record::aerodrome::{Metar, Observation};
 use runway_states::judge::judge_states;
-use text::judge::{and_then, judge as judge_pair};
-use text::kinds::Judged;
+use text::judge::judge as judge_pair;
+use text::kinds::Refusal;
 use weather_write::judge::judge_recents;
 use wind::judge::judge_variation;
 
-fn judge_observation(r: Observation) -> Judged
+fn judge_observation(r: Observation) -> Result<(), Refusal>
     ensures { result ≡ judge_observation r }
 {
-    let automatic = r.automatic;
     let body = r.body;
-    let variation = r.variation;
-    let runways = r.runways;
-    let temperatures = r.temperatures;
-    let qnh = r.qnh;
-    let recents = r.recents;
-    let states = r.states;
-    let from_recents = and_then(judge_recents(automatic, recents), judge_states(states));
-    let from_qnh = and_then(judge_qnh(qnh), from_recents);
-    let from_air = and_then(judge_temperatures(temperatures), from_qnh);
-    let from_sky = and_then(sky_judged(false, body), from_air);
-    let from_weather = and_then(weather_judged(false, false, automatic, body), from_sky);
-    let from_runways = and_then(judge_runways(runways), from_weather);
-    let from_view = and_then(visibility_judged(false, true, body), from_runways);
-    let from_variation = and_then(judge_variation(variation), from_view);
-    and_then(wind_judged(false, true, body), from_variation)
+    wind_judged(false, true, body)?;
+    judge_variation(r.variation)?;
+    visibility_judged(false, true, body)?;
+    judge_runways(r.runways)?;
+    weather_judged(false, false, r.automatic, body)?;
+    sky_judged(false, body)?;
+    judge_temperatures(r.temperatures)?;
+    judge_qnh(r.qnh)?;
+    judge_recents(r.automatic, r.recents)?;
+    judge_states(r.states)
 }
 
 // Foreign to a NIL report is what stands after its time, and there is nothing more to judge of it.
-pub fn judge(r: Metar) -> Judged
+#[tactic(auto, unfolding(metar::specs::Write::judge_of, metar::specs::Write::judge_head))]
+pub fn judge(r: Metar) -> Result<(), Refusal>
     ensures { result ≡ judge_of r }
 {
     let observation = r.observation;
-    let trend = r.trend;
-    let station = observation.station;
-    let time = observation.time;
-    let nil = observation.nil;
-    let bare = observation.has_no_observation() & trend.is_blank();
-    let foreign = judge_pair(!nil | bare, true);
-    let head = and_then(judge_station(station), judge_time(time));
-    if nil {
-        let fine = Judged::Fine;
-        and_then(foreign, and_then(head, fine))
-    } else {
-        let rest = and_then(judge_observation(observation), judge_trend(trend));
-        and_then(foreign, and_then(head, rest))
+    let bare = observation.has_no_observation() & r.trend.is_blank();
+    judge_pair(!observation.nil | bare, true)?;
+    judge_station(observation.station)?;
+    judge_time(observation.time)?;
+    if observation.nil {
+        return Ok(());
     }
+    judge_observation(observation)?;
+    judge_trend(r.trend)
 }

@@ -1,8 +1,7 @@
 // A METAR or SPECI written as its canonical text, over a lent buffer: all of it, or nothing.
-ghost use Rattle.std.specs.Prelude.{◌≡◌, cond, ◌∷◌, [], ◌++◌, ◌≤◌, length, take, drop};
+ghost use Rattle.std.specs.Prelude.{◌≡◌, cond, ◌∷◌, [], ◌++◌, ◌≤◌, length, take, drop, Ok};
 ghost use Rattle.figures.specs.Put.{Put};
 ghost use Rattle.figures.specs.Quote.{bytes};
-ghost use Rattle.text.specs.declared.kinds.Judged.TheVariants as judged;
 ghost use Rattle.text.specs.Groups.{written};
 ghost use Rattle.places.specs.Engine.{written as groups_at};
 ghost use Rattle.metar_row.specs.Row.{row};
@@ -15,7 +14,7 @@ use body::write::{put_visibility_unless, put_weather_or_nsw, put_wind_unless};
 use record::aerodrome::{Metar, Observation};
 use runway_states::write::put_states;
 use sky::write::put_sky;
-use text::kinds::{Judged, Written};
+use text::kinds::Refusal;
 use text::write::{close_report, deliver, put_group, put_if};
 use weather_write::write::put_recents;
 use wind::write::put_variation;
@@ -34,53 +33,36 @@ fn put_name(out: &mut [u8], special: bool) -> usize
 fn put_head(out: &mut [u8], r: Observation) -> usize
     ensures { Put out.old 0 (written 0 (groups_at (take 6 row) r)) result out.new }
 {
-    let special = r.special;
-    let corrected = r.corrected;
-    let station = r.station;
-    let time = r.time;
-    let nil = r.nil;
-    let automatic = r.automatic;
-    let named = put_name(out, special);
-    let marked = put_if(out, named, corrected, b"COR");
-    let sited = put_station(out, marked, station);
-    let timed = put_time(out, sited, time);
-    let ended = put_if(out, timed, nil, b"NIL");
-    put_if(out, ended, automatic, b"AUTO")
+    let named = put_name(out, r.special);
+    let marked = put_if(out, named, r.corrected, b"COR");
+    let sited = put_station(out, marked, r.station);
+    let timed = put_time(out, sited, r.time);
+    let ended = put_if(out, timed, r.nil, b"NIL");
+    put_if(out, ended, r.automatic, b"AUTO")
 }
 
 // Wind, its variation, visibility and runway ranges: the next four. A NIL report is written without wind and visibility.
 fn put_seen(out: &mut [u8], at: usize, r: Observation) -> usize
     ensures { Put out.old at (written at (groups_at (take 4 (drop 6 row)) r)) result out.new }
 {
-    let nil = r.nil;
-    let body = r.body;
-    let wind = body.wind;
-    let variation = r.variation;
-    let visibility = body.visibility;
-    let runways = r.runways;
-    let blown = put_wind_unless(out, at, nil, wind);
-    let varied = put_variation(out, blown, variation);
-    let seen = put_visibility_unless(out, varied, nil, visibility);
-    put_runways(out, seen, runways)
+    let blown = put_wind_unless(out, at, r.nil, r.body.wind);
+    let varied = put_variation(out, blown, r.variation);
+    let seen = put_visibility_unless(out, varied, r.nil, r.body.visibility);
+    put_runways(out, seen, r.runways)
 }
 
 // T/Td, Q, recent weather and runway states: the last places. A NIL report is written without T/Td and Q.
 fn put_last(out: &mut [u8], at: usize, r: Observation) -> usize
     ensures { Put out.old at (written at (groups_at (drop 12 row) r)) result out.new }
 {
-    let nil = r.nil;
-    let temperatures = r.temperatures;
-    let qnh = r.qnh;
-    let recents = r.recents;
-    let states = r.states;
-    if nil {
-        let rained = put_recents(out, at, recents);
-        put_states(out, rained, states)
+    if r.nil {
+        let rained = put_recents(out, at, r.recents);
+        put_states(out, rained, r.states)
     } else {
-        let warmed = put_temperatures(out, at, temperatures);
-        let pressed = put_qnh(out, warmed, qnh);
-        let rained = put_recents(out, pressed, recents);
-        put_states(out, rained, states)
+        let warmed = put_temperatures(out, at, r.temperatures);
+        let pressed = put_qnh(out, warmed, r.qnh);
+        let rained = put_recents(out, pressed, r.recents);
+        put_states(out, rained, r.states)
     }
 }
 
@@ -88,12 +70,10 @@ fn put_last(out: &mut [u8], at: usize, r: Observation) -> usize
 fn put_observation(out: &mut [u8], r: Observation) -> usize
     ensures { Put out.old 0 (written 0 (groups_at row r)) result out.new }
 {
-    let body = r.body;
-    let sky = body.sky;
     let headed = put_head(out, r);
     let seen = put_seen(out, headed, r);
-    let weathered = put_weather_or_nsw(out, seen, body);
-    let clouded = put_sky(out, weathered, sky);
+    let weathered = put_weather_or_nsw(out, seen, r.body);
+    let clouded = put_sky(out, weathered, r.body.sky);
     put_last(out, clouded, r)
 }
 
@@ -102,16 +82,14 @@ fn put_report(out: &mut [u8], r: Metar) -> usize
     requires { r.trend.count ≤ 3 }
     ensures { Put out.old 0 (written 0 (groups_of r) ++ (61 ∷ [])) result out.new }
 {
-    let observation = r.observation;
-    let trend = r.trend;
-    let observed = put_observation(out, observation);
-    let told = put_trend(out, observed, trend);
+    let observed = put_observation(out, r.observation);
+    let told = put_trend(out, observed, r.trend);
     close_report(out, told)
 }
 
 // A record that is judged fine: its text, at most 704 bytes, is made first, so that its length is known before the lent buffer is touched.
-fn write_fine(r: Metar, out: &mut [u8]) -> Written
-    requires { judge_of r ≡ judged.Fine }
+fn write_fine(r: Metar, out: &mut [u8]) -> Result<usize, Refusal>
+    requires { judge_of r ≡ Ok tt }
     ensures { (result ≡ written_of r (length out.old)) × (out.new ≡ buffer_of r out.old) }
 {
     let mut text = [0u8; 704];
@@ -119,12 +97,9 @@ fn write_fine(r: Metar, out: &mut [u8]) -> Written
     deliver(&text[..end], out)
 }
 
-pub fn write(r: Metar, out: &mut [u8]) -> Written
+pub fn write(r: Metar, out: &mut [u8]) -> Result<usize, Refusal>
     ensures { (result ≡ written_of r (length out.old)) × (out.new ≡ buffer_of r out.old) }
 {
-    let verdict = judge(r);
-    match verdict {
-        Judged::Fine => write_fine(r, out),
-        Judged::Refused(refusal) => Written::Refused(refusal),
-    }
+    judge(r)?;
+    write_fine(r, out)
 }

@@ -8,7 +8,7 @@ use record::aerodrome::Edition;
 use report_record::kinds::Report;
 use std::io;
 use std::io::Write;
-use text::kinds::{Judged, Refusal, Verdict};
+use text::kinds::{Refusal, Refused};
 
 // Of a refused record there is no place.
 fn say_refused(out: &mut impl Write, r: Refusal) -> io::Result<()> {
@@ -19,8 +19,8 @@ fn say_refused(out: &mut impl Write, r: Refusal) -> io::Result<()> {
 fn say_moved(out: &mut impl Write, to: Edition, days: u32, report: Report) -> io::Result<()> {
     let moved = report_move::move_report(to, days, report);
     match moved.judged {
-        Judged::Fine => answers::say_report(out, to, moved.report),
-        Judged::Refused(refusal) => say_refused(out, refusal),
+        Ok(()) => answers::say_report(out, to, moved.report),
+        Err(refusal) => say_refused(out, refusal),
     }
 }
 
@@ -37,8 +37,8 @@ fn answer(
     };
     let reading = report::read_in(left, report_text);
     match reading.verdict {
-        Verdict::Accepted { rest: _ } => say_moved(out, to, number, reading.report),
-        Verdict::Refused { refusal, place } => answers::say_refusal(out, refusal, place),
+        Ok(_) => say_moved(out, to, number, reading.report),
+        Err(Refused { refusal, place }) => answers::say_refusal(out, refusal, place),
     }
 }
 

@@ -1,6 +1,7 @@
 -- What is written of a record of any kind: a list of its parts one after the other; how long the canonical text is, and that it is read back where its
 -- groups are; what a writer answers, and the lent buffer afterwards, where the record is refused and where it is fine.
 -- Assumes nothing.
+use Rattle.std.specs.Prelude.{⊤, Err, None, Ok, Option, Result}
 use Prim.Native.Nat.{ℕ, ◌+◌, ◌≤◌, ◌<◌}
 use native.Mathlib.Numerals.{add-one}
 use native.Mathlib.Omega.{arith}
@@ -10,12 +11,6 @@ use lib.ListN.{length, take, get_or, replicate}
 use lib.Seq.{take-suc}
 use Rattle.figures.specs.Put.{Put}
 use Rattle.text.specs.declared.kinds.Refusal.{Refusal}
-use Rattle.text.specs.declared.kinds.Judged.{Judged}
-use Rattle.text.specs.declared.kinds.Judged.TheVariants as judged
-use Rattle.text.specs.declared.kinds.Tail.{Tail}
-use Rattle.text.specs.declared.kinds.Tail.TheVariants.{Clear}
-use Rattle.text.specs.declared.kinds.Written.{Written}
-use Rattle.text.specs.declared.kinds.Written.TheVariants as answer
 use Rattle.text.specs.Groups.{Piece, groups_from, join, written}
 use Rattle.text.specs.Text.{tail_of}
 use Rattle.text.specs.Write.{answer_by, buffer_by}
@@ -50,8 +45,8 @@ joined-short [] some s = absurd (omega arith)
 joined-short (g ∷ gs) some s = rw (join-room g gs) s.short
 
 -- what groups come to, from any pieces that hold them, their text comes to
-pub joined_back : {R : Type 0} {n : ℕ} {r : R} (read : Tail → ℕ → List Piece → Outcome R) (gs : List Group) → Sizes n gs
-    → ((end : ℕ) (ps : List Piece) → groups_of ps ≡ gs → read Clear end ps ≡ Done end r)
+pub joined_back : {R : Type 0} {n : ℕ} {r : R} (read : Option ℕ → ℕ → List Piece → Outcome R) (gs : List Group) → Sizes n gs
+    → ((end : ℕ) (ps : List Piece) → groups_of ps ≡ gs → read None end ps ≡ Done end r)
     → read (tail_of (join gs)) (length (join gs)) (groups_from (join gs) 0) ≡ Done (length (join gs)) r
 joined_back read gs s back = rw (join-tail gs s.wholes) (back (length (join gs)) (groups_from (join gs) 0) (round-trip-bytes gs s.wholes))
 
@@ -62,9 +57,9 @@ made gs s short p = (made-within gs s.wholes short p, made-text gs s.wholes shor
 
 -- ---- the answer and the buffer, of a record judged j whose canonical text is x
 
-pub delivered : {j : Judged} {x y e : List ℕ} {w : Written} (b : List ℕ) → j ≡ judged.Fine → y ≡ x
-    → (w ≡ answer_by judged.Fine y (length b)) × (e ≡ buffer_by judged.Fine y b) → (w ≡ answer_by j x (length b)) × (e ≡ buffer_by j x b)
+pub delivered : {j : Result ⊤ Refusal} {x y e : List ℕ} {w : Result ℕ Refusal} (b : List ℕ) → j ≡ Ok tt → y ≡ x
+    → (w ≡ answer_by (Ok tt) y (length b)) × (e ≡ buffer_by (Ok tt) y b) → (w ≡ answer_by j x (length b)) × (e ≡ buffer_by j x b)
 delivered b fine is h = rw (fine, ← is) h
 
-pub not-delivered : {j : Judged} {f : Refusal} (x b : List ℕ) → j ≡ judged.Refused f → (answer.Refused f ≡ answer_by j x (length b)) × (b ≡ buffer_by j x b)
+pub not-delivered : {j : Result ⊤ Refusal} {f : Refusal} (x b : List ℕ) → j ≡ Err f → (Err f ≡ answer_by j x (length b)) × (b ≡ buffer_by j x b)
 not-delivered x b e = (rw e, rw e)

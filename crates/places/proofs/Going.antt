@@ -1,5 +1,6 @@
 -- How a reading goes on, group by group, for any row: what a kind's reader loop has seen, and what `run` and `step` say there.
 -- Assumes nothing.
+use Rattle.std.specs.Prelude.{Ok}
 use Prim.Native.Nat.{ℕ, ◌+◌, ◌<◌}
 use mathlib.Core.Path.{◌≡◌}
 use mathlib.Core.Bool.{Bool, true, false, cond}
@@ -12,12 +13,12 @@ use Rattle.text.specs.Groups.{groups_from}
 use Rattle.text.specs.Text.{tail_of}
 use Rattle.shapes.specs.Pattern.{Pattern, has_any}
 use Rattle.places.specs.Seek.{seek, find_of, owed}
-use Rattle.places.specs.Engine.{Group, Good, Place, place_at, musts_of, taken, onward, On, Halt, Stop, step, Outcome, Fault, finish, closed, over, run}
+use Rattle.places.specs.Engine.{Group, Place, place_at, musts_of, taken, onward, On, Halt, Stop, step, Outcome, Fault, finish, closed, over, run}
 
 module _ {R : Type 0} (row : List (Place R)) where
   -- a group at place i, where n stand, by what the place says of it
   module _ (i n : ℕ) (acc : R) (g : Group) where
-    pub taken-good : (acc' : R) (b : Bool) → (place_at row i).ends ≡ b → (place_at row i).read n g acc ≡ Good acc'
+    pub taken-good : (acc' : R) (b : Bool) → (place_at row i).ends ≡ b → (place_at row i).read n g acc ≡ Ok acc'
         → taken (onward row i) (n + 1) ((place_at row i).read n g acc) ≡ On (cond b (length row) i) (n + 1) acc'
     taken-good acc' b z e = rw (z, e)
 

@@ -1,6 +1,7 @@
 -- A row keeps what is written of a record: place by place its groups have their shape, are as many as may stand there, take a known room, and are read
 -- back as what is put. So the canonical text of the whole row is sound, short, and read back whole.
 -- Assumes nothing.
+use Rattle.std.specs.Prelude.{None, Ok}
 use Prim.Native.Nat.{ℕ, ◌+◌, ◌*◌, ◌≤◌, ◌<◌}
 use native.Mathlib.Omega.{arith}
 use native.Mathlib.Nat.{mul-le-mul_left}
@@ -8,14 +9,13 @@ use mathlib.Core.Path.{◌≡◌, refl, sym, ◌∙◌}
 use mathlib.Core.Bool.{true, false, false≢true}
 use mathlib.Core.List.{List, [], ◌∷◌, ◌++◌}
 use lib.ListN.{length}
-use Rattle.text.specs.declared.kinds.Tail.TheVariants.{Clear}
 use Rattle.text.specs.declared.kinds.Bytes.TheVariants as judgement
 use Rattle.text.specs.Groups.{groups_from, join}
 use Rattle.text.specs.Text.{bytes_of}
 use Rattle.text.proofs.Joins.{round-trip-bytes, join-sound}
 use Rattle.figures.proofs.Impossible.{impossible}
 use Rattle.shapes.specs.Pattern.{Pattern, has_any}
-use Rattle.places.specs.Engine.{Group, Good, Place, Done, run, written, put_all}
+use Rattle.places.specs.Engine.{Group, Place, Done, run, written, put_all}
 use Rattle.places.proofs.ReadBack.{All, sound, Covered, Shaped, Spoken, fill, Served, ServedRow, stops, read_back}
 use Rattle.places.proofs.Sizes.{Sized, Sizes, sizes-none, sizes-all, sizes-append, sizes-more, join-room, room}
 
@@ -83,7 +83,7 @@ module _ {R : Type 0} where
     text-sound some h = let s = text-short some in join-sound (written row r) (kept-sizes kept).allow (omega arith)
 
     pub text-back : 0 < length row → sound words row ≡ true → Covered row → (end : ℕ)
-        → run row words Clear end 0 0 acc (groups_from (join (written row r)) 0) ≡ Done end (put_all row r acc)
+        → run row words None end 0 0 acc (groups_from (join (written row r)) 0) ≡ Done end (put_all row r acc)
     text-back some told covered end =
         read_back row words r acc some told covered (kept-spoken kept) (kept-served kept) (groups_from (join (written row r)) 0)
         (round-trip-bytes (written row r) (kept-sizes kept).wholes) end
@@ -92,7 +92,7 @@ module _ {R : Type 0} where
 
   -- one group that must stand: it has the shape, fits what the place speaks, and is read as what is put
   pub keep_one : {p : Place R} {n : ℕ} {r acc : R} (g : Group) → p.show r ≡ g ∷ [] → p.has g ≡ true → has_any p.spoken g ≡ true → Sized n g → 1 ≤ p.most
-      → p.read 0 g acc ≡ Good (p.put r acc) → Kept p n r acc
+      → p.read 0 g acc ≡ Ok (p.put r acc) → Kept p n r acc
   keep_one {p} {n} {r} {acc} g is h s z m e =
       record {
         shaped = rw is ((h, s), tt);
@@ -111,5 +111,5 @@ module _ {R : Type 0} where
 
   -- several where none must
   pub keep-each : {p : Place R} {n : ℕ} {r acc : R} → p.must ≡ false → Shaped p (p.show r) → All (Sized n) (p.show r)
-      → length (p.show r) ≤ p.most → fill p 0 (p.show r) acc ≡ Good (p.put r acc) → Kept p n r acc
+      → length (p.show r) ≤ p.most → fill p 0 (p.show r) acc ≡ Ok (p.put r acc) → Kept p n r acc
   keep-each m s z few e = record { shaped = s; sized = z; served = record { few = few; there = λ t. absurd (false≢true (rw m at t)); reads = e } }

@@ -1,5 +1,6 @@
 -- What a kind's reader loop cites, for any row and any record: a group's turn is what a step of the row says, and how reading goes on from group to group.
 -- Assumes nothing.
+use Rattle.std.specs.Prelude.{Err, Ok, Option}
 use Prim.Native.Nat.{ℕ, zero, suc, ◌+◌, ◌≤◌, ◌<◌}
 use native.Mathlib.Omega.{arith}
 use mathlib.Core.Path.{◌≡◌, refl, sym, ap, ◌∙◌}
@@ -10,7 +11,6 @@ use lib.Dec.{leb}
 use borrow.Author.Tests.{leb-true, le-leb, lt-leb}
 use Rattle.text.specs.declared.kinds.Refusal.{Refusal}
 use Rattle.text.specs.declared.kinds.Refusal.TheVariants as refusal
-use Rattle.text.specs.declared.kinds.Tail.{Tail}
 use Rattle.text.specs.Groups.{groups_from, part_of}
 use Rattle.text.proofs.Groups.{Follows}
 use Rattle.text.specs.Text.{tail_of}
@@ -21,7 +21,7 @@ use Rattle.places.specs.declared.kinds.Found.TheVariants.{Take, Skips, Full, Ear
 use Rattle.places.specs.declared.kinds.Turn.{Turn}
 use Rattle.places.specs.declared.kinds.Turn.TheVariants as turn
 use Rattle.places.specs.Seek.{find_of, owed}
-use Rattle.places.specs.Engine.{Group, Good, Bad, Place, place_at, stands_of, musts_of, taken, judged, onward, Step, Halt, Stop, step, Outcome, Fault, finish, closed, over}
+use Rattle.places.specs.Engine.{Group, Place, place_at, stands_of, musts_of, taken, judged, onward, Step, Halt, Stop, step, Outcome, Fault, finish, closed, over}
 use Rattle.places.specs.Parts.{step_by}
 use Rattle.places.specs.Turn.{turn_by, turn_at}
 use Rattle.places.proofs.Rows.{taken-open}
@@ -107,7 +107,7 @@ module _ {R X : Type 0} (answer : Outcome R → X) (row : List (Place R)) where
       → answer (finish b at r) ≡ answer (closed row at c k r)
   closed-by at c k r b p q e = ap answer (sym (closes row at c k r b (rw (← p) (sym q ∙ e))))
 
-  pub over_by : (end c k : ℕ) (r : R) {x y z : Tail} → y ≡ x → y ≡ z → answer (over row x end c k r) ≡ answer (over row z end c k r)
+  pub over_by : (end c k : ℕ) (r : R) {x y z : Option ℕ} → y ≡ x → y ≡ z → answer (over row x end c k r) ≡ answer (over row z end c k r)
   over_by end c k r p q = rw (← p, q)
 
   module _ (words : List Pattern) where
@@ -138,10 +138,10 @@ module _ {R X : Type 0} (answer : Outcome R → X) (row : List (Place R)) where
 
         -- the group goes to place i, and is read there
         module _ {i j : ℕ} (e : u ≡ turn.At i j) where
-          pub reads_on : {r' : R} {p : ℕ} → (place_at row i).read j g r ≡ Good r' → p ≡ onward row i → goes_on t c k r at ≡ goes_on t p (j + 1) r' to
+          pub reads_on : {r' : R} {p : ℕ} → (place_at row i).read j g r ≡ Ok r' → p ≡ onward row i → goes_on t c k r at ≡ goes_on t p (j + 1) r' to
           unfolding goes_on
           reads_on {r'} good past = rw past (ap answer (going_on row words t c k r at from to g groups (onward row i) (j + 1) r' (steps (turn.At i j) e ∙ rw good)))
 
-          pub reads-bad : {f : Refusal} → (place_at row i).read j g r ≡ Bad f → goes_on t c k r at ≡ answer (Fault f from)
+          pub reads-bad : {f : Refusal} → (place_at row i).read j g r ≡ Err f → goes_on t c k r at ≡ answer (Fault f from)
           unfolding goes_on
           reads-bad {f} bad = ap answer (going-fault row words t c k r at from to g groups f (steps (turn.At i j) e ∙ rw bad))

@@ -1,15 +1,15 @@
 -- How the search for a group's place, and for what is owed, unrolls along a row.
 -- Assumes nothing.
-use Prim.Native.Nat.{ℕ, zero, suc, ◌+◌, ◌-◌, ◌<◌}
+use Prim.Native.Nat.{ℕ, zero, suc, ◌+◌, ◌-◌, ◌≤◌, ◌<◌, min}
 use native.Mathlib.Omega.{arith}
 use native.Mathlib.Numerals.{add-one}
-use mathlib.Core.Path.{◌≡◌, refl, sym}
-use mathlib.Core.Bool.{Bool, true, false, ◌&&◌, ◌||◌, cond, false≢true}
+use mathlib.Core.Path.{◌≡◌, refl}
+use mathlib.Core.Bool.{Bool, true, false, ◌&&◌, ◌||◌, cond}
 use mathlib.Core.List.{List, [], ◌∷◌}
 use lib.ListN.{length, get_or, take, drop, replicate, drop_of_length-le, length-drop}
 use lib.Seq.{drop-cons, take_all, take-nil}
-use lib.Dec.{ltb, eqb}
-use borrow.Author.Tests.{ltb-false}
+use lib.Dec.{ltb, leb, eqb}
+use borrow.Author.Tests.{leb-true, leb-false}
 use Rattle.places.specs.Seek.{Stand, seek, owed}
 use Rattle.places.specs.declared.kinds.Found.TheVariants.{Take, Skips}
 
@@ -42,14 +42,13 @@ owed-turn us i k end h l b e =
     let s : end - i ≡ suc (end - (i + 1)) = omega arith in
     rw (s, add-one i, drop-cons us i false l, e)
 
-pub owed-stop : (us : List Bool) (i k end : ℕ) → (ltb i end && ltb i (length us)) ≡ false → owed k (take (end - i) (drop i us)) ≡ false
+pub owed-stop : (us : List Bool) (i k end : ℕ) → min end (length us) ≤ i → owed k (take (end - i) (drop i us)) ≡ false
 unfolding owed
-owed-stop us i k end e = go (ltb i end) refl (ltb i (length us)) refl e
+owed-stop us i k end h = go (leb end i) refl
   where
-    go : (a : Bool) → ltb i end ≡ a → (b : Bool) → ltb i (length us) ≡ b → (a && b) ≡ false → owed k (take (end - i) (drop i us)) ≡ false
-    go false p b q e = let z : end - i ≡ 0 = omega (arith, ltb-false i end p) in rw z
-    go true p false q e = rw (drop_of_length-le us {i = i} (ltb-false i (length us) q), take-nil (end - i))
-    go true p true q e = absurd (false≢true (sym e))
+    go : (b : Bool) → leb end i ≡ b → owed k (take (end - i) (drop i us)) ≡ false
+    go true e = let t : end ≤ i = leb-true end i e in let z : end - i ≡ 0 = omega arith in rw z
+    go false e = let t : i < end = leb-false end i e in rw (drop_of_length-le us {i = i} (omega arith), take-nil (end - i))
 
 pub owed_all : (us : List Bool) (i k : ℕ) → owed k (take (length us - i) (drop i us)) ≡ owed k (drop i us)
 owed_all us i k = rw (take_all (length us - i) (drop i us) (simp length-drop (omega arith)))

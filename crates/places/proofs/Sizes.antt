@@ -1,21 +1,21 @@
 -- Groups as parts of a text: what is written of figures, letters, strokes and signs can be joined and cut, holds only bytes that a text may hold, and
 -- takes a known room.
 -- Assumes nothing.
-use Prim.Native.Nat.{ℕ, suc, ◌+◌, ◌*◌, ◌≤◌}
+use Prim.Native.Nat.{ℕ, ◌+◌, ◌*◌, ◌≤◌}
 use native.Mathlib.Omega.{arith}
 use native.Mathlib.Nat.{mul-suc}
 use mathlib.Core.Path.{◌≡◌, refl}
 use mathlib.Core.Bool.{Bool, true, false, not, ◌&&◌, ◌||◌, false≢true}
 use mathlib.Core.List.{List, [], ◌∷◌, ◌++◌}
 use lib.ListN.{length, length-append}
-use lib.Dec.{leb, eqb}
-use borrow.Author.Tests.{leb-true, leb-false, le-leb, lt-leb, eqb-true, ne_eqb, not-true}
+use lib.Dec.{leb}
+use borrow.Author.Tests.{leb-true, leb-false, le-leb, lt-leb, ne_eqb, not-true}
 use Rattle.figures.specs.Figures.{is_figure, is_letter, every}
 use Rattle.text.specs.Bytes.{inner, allowed}
 use Rattle.text.specs.Groups.{spaced, parted, join, Every, Everywhere, Whole, Wholes}
 use Rattle.text.proofs.Joins.{length-join, wholes-append, everywhere-append}
 use Rattle.shapes.specs.Pattern.{Pattern, low, high, fits, more, has_pattern, has_any}
-use Rattle.shapes.proofs.Patterns.{both, or_cases, or_right, starless, pattern-length, within}
+use Rattle.shapes.proofs.Patterns.{both, or_cases, starless, pattern-length, within}
 use Rattle.places.specs.Engine.{Group}
 use Rattle.places.proofs.ReadBack.{All, All-map}
 

@@ -1,11 +1,9 @@
 -- The place engine: one reading of a report's groups against its row of places, and one writing, for every report kind. Refusals 4 and 8 come from here
 -- and from nowhere else, and so do 6 and 9, but where a place's own reading of a group answers them; 5 and 7 come from such a reading alone.
 -- Assumes nothing: these are definitions.
-use Rattle.std.specs.Prelude.{ℕ, ◌+◌, Bool, true, false, cond, List, [], ◌∷◌, ◌++◌, map, length, get_or, drop, leb}
+use Rattle.std.specs.Prelude.{ℕ, ◌+◌, Bool, true, false, cond, List, [], ◌∷◌, ◌++◌, map, length, get_or, drop, leb, Err, None, Ok, Option, Result, Some}
 use Rattle.text.specs.declared.kinds.Refusal.{Refusal}
 use Rattle.text.specs.declared.kinds.Refusal.TheVariants as refusal
-use Rattle.text.specs.declared.kinds.Tail.{Tail}
-use Rattle.text.specs.declared.kinds.Tail.TheVariants.{Clear, Junk}
 use Rattle.text.specs.Groups.{Piece}
 use Rattle.shapes.specs.Pattern.{Pattern, has_any}
 use Rattle.places.specs.declared.kinds.Found.{Found}
@@ -15,15 +13,10 @@ use Rattle.places.specs.Seek.{Stand, find_of, owed, refusal_of}
 abbrev pub Group : Type 0
 Group = List ℕ
 
--- What a group adds to a record: the record with it, or the group's refusal.
-pub data Read (R : Type 0) : Type 0 where
-  Good : R → Read R
-  Bad : Refusal → Read R
-
 -- what is read goes on, or the refusal stands
-abbrev pub then : {A B : Type 0} → Read B → (B → Read A) → Read A
-then (Good b) k = k b
-then (Bad f) k = Bad f
+abbrev pub then : {A B : Type 0} → Result B Refusal → (B → Result A Refusal) → Result A Refusal
+then (Ok b) k = k b
+then (Err f) k = Err f
 
 -- A place of a report; `R` is the record.
 pub record Place (R : Type 0) : Type 0 where
@@ -37,7 +30,7 @@ pub record Place (R : Type 0) : Type 0 where
   pub must : Bool
   pub ends : Bool
   -- the record with what the group says, where so many stand already
-  pub read : ℕ → Group → R → Read R
+  pub read : ℕ → Group → R → Result R Refusal
   -- writing: the groups that say it of a record, and what reading them back makes of the record read so far
   pub show : R → List Group
   pub put : R → R → R
@@ -56,7 +49,7 @@ pub data Outcome (R : Type 0) : Type 0 where
 module _ {R : Type 0} where
   -- past the row no group is taken
   abbrev pub nowhere : Place R
-  nowhere = record { has = λ g. false; cover = []; spoken = []; most = 0; must = false; ends = false; read = λ k g r. Bad refusal.Shape; show = λ r. []; put = λ r acc. acc }
+  nowhere = record { has = λ g. false; cover = []; spoken = []; most = 0; must = false; ends = false; read = λ k g r. Err refusal.Shape; show = λ r. []; put = λ r acc. acc }
 
   abbrev pub place_at : List (Place R) → ℕ → Place R
   place_at row i = get_or row i nowhere
@@ -74,9 +67,9 @@ module _ {R : Type 0} where
   abbrev pub mosts_of : List (Place R) → List ℕ
   mosts_of row = map (λ (p : Place R). p.most) row
 
-  abbrev pub taken : ℕ → ℕ → Read R → Step R
-  taken i n (Good r) = On i n r
-  taken i n (Bad f) = Stop f
+  abbrev pub taken : ℕ → ℕ → Result R Refusal → Step R
+  taken i n (Ok r) = On i n r
+  taken i n (Err f) = Stop f
 
   -- past a place that ends the report reading is past the row
   abbrev pub onward : List (Place R) → ℕ → ℕ
@@ -108,12 +101,12 @@ module _ {R : Type 0} where
   closed row at c k acc = finish (owed k (drop c (musts_of row))) at acc
 
   -- the groups are over: what follows the "=" is refused first, "an absence at the end last"
-  abbrev pub over : List (Place R) → Tail → ℕ → ℕ → ℕ → R → Outcome R
-  over row (Junk at) end c k acc = Fault refusal.Shape at
-  over row Clear end c k acc = closed row end c k acc
+  abbrev pub over : List (Place R) → Option ℕ → ℕ → ℕ → ℕ → R → Outcome R
+  over row (Some at) end c k acc = Fault refusal.Shape at
+  over row None end c k acc = closed row end c k acc
 
   -- the groups left, where k groups stand at place c; what follows the "=", and the text's length
-  unfoldable pub run : List (Place R) → List Pattern → Tail → ℕ → ℕ → ℕ → R → List Piece → Outcome R
+  unfoldable pub run : List (Place R) → List Pattern → Option ℕ → ℕ → ℕ → ℕ → R → List Piece → Outcome R
   run row words tail end c k acc [] = over row tail end c k acc
   run row words tail end c k acc (g ∷ gs) =
       carry (step row words c k acc g.bytes) g.start (closed row g.start c k acc) (λ c' k' acc'. run row words tail end c' k' acc' gs)

@@ -11,7 +11,7 @@ ghost use Rattle.places.specs.Turn.{turn_by, is_unknown, turn_unknown};
 ghost use Rattle.places.specs.Answer.{end_verdict};
 
 use kinds::{Found, Turn};
-use text::kinds::{Refusal, Tail, Verdict};
+use text::kinds::{Refusal, Refused};
 
 // May a place answer for a group where `count` groups stand and `most` may? One more may stand there, or it repeats and is full; `all`: in any case.
 pub fn may_answer(all: bool, count: usize, most: usize) -> bool
@@ -24,13 +24,11 @@ pub fn may_answer(all: bool, count: usize, most: usize) -> bool
 fn is_owed_before(must: &[bool], place: usize, count: usize, end: usize) -> bool
     ensures { result ≡ owed count (take (end - place) (drop place must.now)) }
 {
-    let mut i = place;
     let mut k = count;
-    while (i < end) & (i < must.len()) {
+    for i in place..end.min(must.len()) {
         if must[i] & (k == 0) {
             return true;
         }
-        i += 1;
         k = 0;
     }
     false
@@ -60,11 +58,7 @@ pub fn refusal_of(found: Found) -> Refusal
 pub fn most_at(most: &[u8], place: usize) -> usize
     ensures { result ≡ get_or most.now place 0 }
 {
-    if place < most.len() {
-        most[place] as usize
-    } else {
-        0
-    }
+    most.get(place).map_or(0, |&m| m as usize)
 }
 
 // How many groups stand at a later place, or at the one where reading stands, which has `count`?
@@ -97,13 +91,7 @@ pub fn found_at(most: &[u8], must: &[bool], place: usize, count: usize, fit: usi
 pub fn is_unknown(found: Found) -> bool
     ensures { result ≡ is_unknown found }
 {
-    match found {
-        Found::Take { place: _, count: _ } => false,
-        Found::Skips => false,
-        Found::Full => false,
-        Found::Earlier => false,
-        Found::Unknown => true,
-    }
+    matches!(found, Found::Unknown)
 }
 
 // The turn of a group whose shape no place has: a word that halts stops the reading.
@@ -131,23 +119,23 @@ pub fn turn_by(found: Found) -> Turn
 }
 
 // The verdict where the groups are over: what follows the "=" is refused first, an absence last.
-pub fn end_verdict(text: &[u8], lacking: bool) -> Verdict
+pub fn end_verdict(text: &[u8], lacking: bool) -> Result<usize, Refused>
     ensures { result ≡ end_verdict (tail_of text.now) (length text.now) lacking }
 {
     let tail = text::tail(text);
     match tail {
-        Tail::Junk(place) => Verdict::Refused {
+        Some(place) => Err(Refused {
             refusal: Refusal::Shape,
             place,
-        },
-        Tail::Clear => {
+        }),
+        None => {
             if lacking {
-                Verdict::Refused {
+                Err(Refused {
                     refusal: Refusal::Absence,
                     place: text.len(),
-                }
+                })
             } else {
-                Verdict::Accepted { rest: text.len() }
+                Ok(text.len())
             }
         }
     }

@@ -1,19 +1,19 @@
 -- A part of a METAR, SPECI or TAF of which nothing is said is the blank one.
 -- Assumes nothing.
+use Rattle.std.specs.Prelude.{None, Option, Some}
 use mathlib.Core.Path.{◌≡◌, refl}
 use mathlib.Core.Bool.{true, false, false≢true}
 use lib.ListN.{length}
 use borrow.Author.Tests.{eqb-true, not-true}
 use Rattle.figures.proofs.Every.{every-is}
 use Rattle.shapes.proofs.Patterns.{both}
-use Rattle.record.specs.declared.values.Number.TheVariants as number
+use Rattle.record.specs.Missing.{is_missing}
 use Rattle.record.specs.declared.values.Direction.TheVariants as direction
 use Rattle.record.specs.declared.values.Speed.TheVariants as speed
 use Rattle.record.specs.declared.aerodrome.Unit.{Unit}
 use Rattle.record.specs.declared.aerodrome.Unit.TheVariants as unit
 use Rattle.record.specs.declared.aerodrome.Wind.{Wind}
 use Rattle.record.specs.declared.aerodrome.Extremes.{Extremes}
-use Rattle.record.specs.declared.aerodrome.Extremes.TheVariants as extremes
 use Rattle.record.specs.declared.aerodrome.View.{View}
 use Rattle.record.specs.declared.aerodrome.View.TheVariants as view
 use Rattle.record.specs.declared.aerodrome.Visibility.{Visibility}
@@ -31,7 +31,6 @@ use Rattle.record.specs.declared.aerodrome.Condition.TheVariants as condition
 use Rattle.record.specs.declared.aerodrome.RunwayState.{RunwayState}
 use Rattle.record.specs.declared.aerodrome.RunwayStates.{RunwayStates}
 use Rattle.record.specs.declared.aerodrome.Phenomena.{Phenomena}
-use Rattle.record.specs.declared.aerodrome.Phenomena.TheVariants as phenomena
 use Rattle.record.specs.declared.aerodrome.Weather.{Weather}
 use Rattle.record.specs.declared.aerodrome.Weathers.{Weathers}
 use Rattle.record.specs.declared.aerodrome.Amount.{Amount}
@@ -69,10 +68,10 @@ use Rattle.record.specs.Trend.{blank_trend_change, blank_trend, blank_metar}
 use Rattle.record.specs.Taf.{blank_instant, blank_period, blank_leg, blank_change, blank_taf}
 use Rattle.record.proofs.Counted.{blank-each}
 use Rattle.record.specs.Arrays.{BodyArrays, ObservationArrays, TrendArrays, MetarArrays, TafArrays}
-use Rattle.record.specs.SilentAerodrome.{no_unit, is_blank_wind, no_extremes, no_view, no_side, no_course, is_blank_runway, no_runways, no_depth, no_condition, is_blank_state, no_states, no_phenomena, is_blank_weather, no_weathers}
+use Rattle.record.specs.SilentAerodrome.{no_unit, is_blank_wind, no_view, no_side, no_course, is_blank_runway, no_runways, no_depth, no_condition, is_blank_state, no_states, is_blank_weather, no_weathers}
 use Rattle.record.specs.SilentAerodrome.{no_amount, no_convective, is_blank_layer, is_layers, no_sky, no_temperatures, no_station, no_instant, no_period, no_correction, no_opening}
 use Rattle.record.specs.SilentAerodrome.{is_blank_body, no_head, is_blank_change, no_observation, is_blank_observation, no_hours, no_tendency, is_blank_trend_change, no_trend, is_blank_metar, is_present, is_same_edition, is_blank_taf}
-use Rattle.record.proofs.Blanks.{number-blank, tenths-blank, direction-blank, speed-blank, letters-blank}
+use Rattle.record.proofs.Blanks.{none-said, direction-blank, speed-blank, letters-blank}
 
 -- ---- wind, visibility, runways
 
@@ -88,10 +87,6 @@ wind-blank w e =
     let g = both _ _ u.0 in
     let s = both _ _ g.0 in
     λ i. record { direction = direction-blank w.direction s.0 i; speed = speed-blank w.speed s.1 i; gust = speed-blank w.gust g.1 i; unit = unit-blank w.unit u.1 i }
-
-pub extremes-blank : (e : Extremes) → no_extremes e ≡ true → e ≡ extremes.Missing
-extremes-blank extremes.Missing e = refl
-extremes-blank (extremes.Between a b) e = absurd (false≢true e)
 
 pub view-blank : (v : View) → no_view v ≡ true → v ≡ view.Missing
 view-blank view.Missing e = refl
@@ -118,7 +113,7 @@ runway-blank w e =
     let c = both _ _ e in
     let r = both _ _ c.0 in
     let s = both _ _ r.0 in
-    λ i. record { number = number-blank w.number s.0 i; side = side-blank w.side s.1 i; range = number-blank w.range r.1 i; course = course-blank w.course c.1 i }
+    λ i. record { number = none-said w.number s.0 i; side = side-blank w.side s.1 i; range = none-said w.range r.1 i; course = course-blank w.course c.1 i }
 
 pub runways-blank : (x : Runways) → length x.items ≡ 4 → no_runways x ≡ true → x ≡ blank_runways
 runways-blank x all e =
@@ -138,12 +133,12 @@ condition-blank (condition.Covered d e h b) n =
     let brakes = both _ _ n in
     let deep = both _ _ brakes.0 in
     let lies = both _ _ deep.0 in
-    λ i. condition.Covered (number-blank d lies.0 i) (number-blank e lies.1 i) (depth-blank h deep.1 i) (number-blank b brakes.1 i)
+    λ i. condition.Covered (none-said d lies.0 i) (none-said e lies.1 i) (depth-blank h deep.1 i) (none-said b brakes.1 i)
 
 pub state-blank : (s : RunwayState) → is_blank_state s ≡ true → s ≡ blank_state
 state-blank s e =
     let t = both _ _ e in
-    λ i. record { runway = number-blank s.runway t.0 i; condition = condition-blank s.condition t.1 i }
+    λ i. record { runway = none-said s.runway t.0 i; condition = condition-blank s.condition t.1 i }
 
 states-blank : (x : RunwayStates) → length x.items ≡ 4 → no_states x ≡ true → x ≡ blank_states
 states-blank x all e =
@@ -156,9 +151,9 @@ states-blank x all e =
 pub weather-blank : (w : Weather) → is_blank_weather w ≡ true → w ≡ blank_weather
 weather-blank w e = same w.is e
   where
-    same : (p : Phenomena) → no_phenomena p ≡ true → ◌≡◌ {A = Weather} (record { is = p }) blank_weather
-    same phenomena.Missing e = refl
-    same (phenomena.Is i d a b c) e = absurd (false≢true e)
+    same : (p : Option Phenomena) → is_missing p ≡ true → ◌≡◌ {A = Weather} (record { is = p }) blank_weather
+    same None e = refl
+    same (Some x) e = absurd (false≢true e)
 
 pub weathers-blank : (x : Weathers) → length x.items ≡ 3 → no_weathers x ≡ true → x ≡ blank_weathers
 weathers-blank x all e =
@@ -181,7 +176,7 @@ pub layer-blank : (l : Layer) → is_blank_layer l ≡ true → l ≡ blank_laye
 layer-blank l e =
     let c = both _ _ e in
     let h = both _ _ c.0 in
-    λ i. record { amount = amount-blank l.amount h.0 i; height = number-blank l.height h.1 i; convective = convective-blank l.convective c.1 i }
+    λ i. record { amount = amount-blank l.amount h.0 i; height = none-said l.height h.1 i; convective = convective-blank l.convective c.1 i }
 
 pub cover-layers : (c : Cover) → is_layers c ≡ true → c ≡ cover.Layers
 cover-layers cover.Layers e = refl
@@ -201,7 +196,7 @@ sky-blank s four e =
 temperatures-blank : (t : Temperatures) → no_temperatures t ≡ true → t ≡ blank_observation.temperatures
 temperatures-blank t e =
     let b = both _ _ e in
-    λ i. record { air = tenths-blank t.air b.0 i; dew = tenths-blank t.dew b.1 i }
+    λ i. record { air = none-said t.air b.0 i; dew = none-said t.dew b.1 i }
 
 station-blank : (s : Station) → length s.letters ≡ 4 → no_station s ≡ true → s ≡ blank_observation.station
 station-blank s four e = λ i. record { letters = (rw four at (letters-blank s.letters e)) i }
@@ -210,7 +205,7 @@ pub instant-blank : (t : Instant) → no_instant t ≡ true → t ≡ blank_inst
 instant-blank t e =
     let m = both _ _ e in
     let h = both _ _ m.0 in
-    λ i. record { day = number-blank t.day h.0 i; hour = number-blank t.hour h.1 i; minute = number-blank t.minute m.1 i }
+    λ i. record { day = none-said t.day h.0 i; hour = none-said t.hour h.1 i; minute = none-said t.minute m.1 i }
 
 pub period-blank : (p : Period) → no_period p ≡ true → p ≡ blank_period
 period-blank p e =
@@ -267,10 +262,10 @@ bare r arrays e =
     record {
       automatic = not-true r.automatic first.0;
       body = body-blank r.body arrays.body first.1;
-      variation = rw (extremes-blank r.variation.is extremes.1);
+      variation = rw (none-said r.variation.is extremes.1);
       runways = runways-blank r.runways arrays.runways runways.1;
       temperatures = temperatures-blank r.temperatures temperatures.1;
-      qnh = rw (number-blank r.qnh.is qnh.1);
+      qnh = rw (none-said r.qnh.is qnh.1);
       recents = weathers-blank r.recents arrays.recents recents.1;
       states = states-blank r.states arrays.states states.1;
     }

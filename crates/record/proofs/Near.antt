@@ -1,6 +1,7 @@
 -- How a rounded value of the record is read back, for every kind of report: as the reading of its class, a number on a scale that rounds down not above its
 -- value and within its class, a direction near on the circle.
 -- Assumes nothing.
+use Rattle.std.specs.Prelude.{None, Option, Some}
 use Prim.Native.Nat.{ℕ, ◌+◌, ◌-◌, ◌%◌, ◌≤◌, ◌<◌}
 use mathlib.Core.Path.{◌≡◌, refl}
 use mathlib.Core.Bool.{Bool, true}
@@ -11,21 +12,19 @@ use Rattle.scales.specs.Rounded.{rounded_direction}
 use Rattle.scales.proofs.Laws.{Lawful}
 use Rattle.scales.proofs.Down.{Down, down}
 use Rattle.scales.proofs.DirectionLaws as scale
-use Rattle.record.specs.declared.values.Number.{Number}
-use Rattle.record.specs.declared.values.Number.TheVariants as number
 use Rattle.record.specs.declared.values.Direction.{Direction}
 use Rattle.record.specs.declared.values.Direction.TheVariants as direction
 use Rattle.record.specs.Classes.{class_on, class_direction}
 
 -- ---- a number on a scale, which may be missing
 
-pub data NumberDown {F : Type 0} (s : Scale F) : Number → Number → Type 0 where
-  no_number : NumberDown s number.Missing number.Missing
-  lower : {m n : ℕ} → Down s m n → NumberDown s (number.Is m) (number.Is n)
+pub data NumberDown {F : Type 0} (s : Scale F) : Option ℕ → Option ℕ → Type 0 where
+  no_number : NumberDown s None None
+  lower : {m n : ℕ} → Down s m n → NumberDown s (Some m) (Some n)
 
-pub number-down : {F : Type 0} {same : F → F → Bool} {s : Scale F} → Lawful same s → (n : Number) → NumberDown s n (class_on s n)
-number-down laws number.Missing = no_number
-number-down {same = same} {s} laws (number.Is m) = lower (down same s laws m)
+pub number-down : {F : Type 0} {same : F → F → Bool} {s : Scale F} → Lawful same s → (n : Option ℕ) → NumberDown s n (class_on s n)
+number-down laws None = no_number
+number-down {same = same} {s} laws (Some m) = lower (down same s laws m)
 
 -- ---- directions: the reading of its class; "on the circle, -5 to 4 degrees", so that five more is 0 to 9 round the circle
 

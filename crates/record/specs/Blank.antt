@@ -1,8 +1,6 @@
 -- The blank record: "A refused reading returns a blank record (all fields missing)."
 -- Assumes nothing: these are definitions.
-use Rattle.std.specs.Prelude.{List, replicate, Bool, true, false}
-use Rattle.record.specs.declared.values.Number.TheVariants as number
-use Rattle.record.specs.declared.values.Tenths.TheVariants as tenths
+use Rattle.std.specs.Prelude.{List, replicate, Bool, true, false, None}
 use Rattle.record.specs.declared.values.Direction.TheVariants as direction
 use Rattle.record.specs.declared.values.Speed.TheVariants as speed
 use Rattle.record.specs.declared.surface.CallSign.{CallSign}
@@ -11,9 +9,6 @@ use Rattle.record.specs.declared.surface.Time.{Time}
 use Rattle.record.specs.declared.surface.Sight.TheVariants as sight
 use Rattle.record.specs.declared.surface.Moist.TheVariants as moist
 use Rattle.record.specs.declared.surface.AtLevel.TheVariants as at_level
-use Rattle.record.specs.declared.surface.PressureChange.TheVariants as change
-use Rattle.record.specs.declared.surface.Fall.TheVariants as fall
-use Rattle.record.specs.declared.surface.Observed.TheVariants as observed
 use Rattle.record.specs.declared.surface.BaseHeight.TheVariants as height
 use Rattle.record.specs.declared.surface.CloudLayer.{CloudLayer}
 use Rattle.record.specs.declared.surface.CloudLayers.{CloudLayers}
@@ -26,38 +21,38 @@ abbrev pub blank_sign : CallSign
 blank_sign = record { letters = replicate 9 0; length = 0 }
 
 abbrev pub blank_position : Position
-blank_position = record { latitude = tenths.Missing; longitude = tenths.Missing }
+blank_position = record { latitude = None; longitude = None }
 
 abbrev pub blank_time : Time
-blank_time = record { day = number.Missing; hour = number.Missing; unit = number.Missing }
+blank_time = record { day = None; hour = None; unit = None }
 
 abbrev pub blank_surface : Surface
 blank_surface =
     record {
-      indicators = record { rain = number.Missing; weather = number.Missing; base = number.Missing; sight = sight.Missing };
-      wind = record { cover = number.Missing; direction = direction.Missing; speed = speed.Missing };
-      air = record { temperature = tenths.Missing };
+      indicators = record { rain = None; weather = None; base = None; sight = sight.Missing };
+      wind = record { cover = None; direction = direction.Missing; speed = speed.Missing };
+      air = record { temperature = None };
       moisture = record { is = moist.Missing };
-      pressure = record { station = number.Missing };
+      pressure = record { station = None };
       level = record { is = at_level.Missing };
-      tendency = record { is = change.Missing };
-      rainfall = record { is = fall.Missing };
-      weather = record { present = number.Missing; past = number.Missing; past2 = number.Missing };
-      clouds = record { amount = number.Missing; low = number.Missing; middle = number.Missing; high = number.Missing };
-      clock = record { is = observed.Missing };
+      tendency = record { is = None };
+      rainfall = record { is = None };
+      weather = record { present = None; past = None; past2 = None };
+      clouds = record { amount = None; low = None; middle = None; high = None };
+      clock = record { is = None };
     }
 
 abbrev pub blank_layer : CloudLayer
-blank_layer = record { amount = number.Missing; cloud = number.Missing; height = height.Missing }
+blank_layer = record { amount = None; cloud = None; height = height.Missing }
 
 abbrev pub blank_layers : CloudLayers
 blank_layers = record { items = replicate 4 blank_layer; count = 0 }
 
 abbrev pub blank_section3 : Section3
-blank_section3 = record { maximum = record { temperature = tenths.Missing }; minimum = record { temperature = tenths.Missing }; layers = blank_layers }
+blank_section3 = record { maximum = record { temperature = None }; minimum = record { temperature = None }; layers = blank_layers }
 
 abbrev pub blank_site : Site
-blank_site = record { station = number.Missing; sign = blank_sign; position = blank_position; time = blank_time; nil = false }
+blank_site = record { station = None; sign = blank_sign; position = blank_position; time = blank_time; nil = false }
 
 abbrev pub blank_synop : Synop
 blank_synop = record { ship = false; site = blank_site; surface = blank_surface; section3 = blank_section3 }

@@ -1,6 +1,6 @@
 -- The body, which an observation and each part of a forecast have alike, with one element set, and the blank one.
 -- Assumes nothing: these are definitions.
-use Rattle.std.specs.Prelude.{Bool, false, replicate}
+use Rattle.std.specs.Prelude.{Bool, false, replicate, None}
 use Rattle.record.specs.declared.aerodrome.Wind.{Wind}
 use Rattle.record.specs.declared.aerodrome.Visibility.{Visibility}
 use Rattle.record.specs.declared.aerodrome.Weather.{Weather}
@@ -10,11 +10,9 @@ use Rattle.record.specs.declared.aerodrome.Sky.{Sky}
 use Rattle.record.specs.declared.aerodrome.Body.{Body}
 use Rattle.record.specs.declared.aerodrome.Unit.TheVariants as unit
 use Rattle.record.specs.declared.aerodrome.View.TheVariants as view
-use Rattle.record.specs.declared.aerodrome.Phenomena.TheVariants as phenomena
 use Rattle.record.specs.declared.aerodrome.Amount.TheVariants as amount
 use Rattle.record.specs.declared.aerodrome.Convective.TheVariants as convective
 use Rattle.record.specs.declared.aerodrome.Cover.TheVariants as cover
-use Rattle.record.specs.declared.values.Number.TheVariants as number
 use Rattle.record.specs.declared.values.Direction.TheVariants as direction
 use Rattle.record.specs.declared.values.Speed.TheVariants as speed
 
@@ -40,13 +38,13 @@ abbrev pub blank_visibility : Visibility
 blank_visibility = record { is = view.Missing }
 
 abbrev pub blank_weather : Weather
-blank_weather = record { is = phenomena.Missing }
+blank_weather = record { is = None }
 
 abbrev pub blank_weathers : Weathers
 blank_weathers = record { items = replicate 3 blank_weather; count = 0 }
 
 abbrev pub blank_layer : Layer
-blank_layer = record { amount = amount.None; height = number.Missing; convective = convective.None }
+blank_layer = record { amount = amount.None; height = None; convective = convective.None }
 
 abbrev pub blank_sky : Sky
 blank_sky = record { cover = cover.Layers; layers = replicate 4 blank_layer; count = 0 }

@@ -1,3 +1,4 @@
+pub mod Values
 pub mod Blank
 pub mod Set
 pub mod Body

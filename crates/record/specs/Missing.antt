@@ -1,23 +1,15 @@
 -- Nothing is said: a number, a temperature, a direction, a speed or the letters of a name are not there. And what a number that is there has to be.
 -- Assumes nothing: these are definitions.
-use Rattle.std.specs.Prelude.{ℕ, Bool, true, false, ◌&&◌, List, leb, eqb}
+use Rattle.std.specs.Prelude.{ℕ, Bool, true, false, ◌&&◌, List, leb, eqb, None, Option, Some}
 use Rattle.figures.specs.Figures.{every}
-use Rattle.record.specs.declared.values.Number.{Number}
-use Rattle.record.specs.declared.values.Number.TheVariants as number
-use Rattle.record.specs.declared.values.Tenths.{Tenths}
-use Rattle.record.specs.declared.values.Tenths.TheVariants as tenths
 use Rattle.record.specs.declared.values.Direction.{Direction}
 use Rattle.record.specs.declared.values.Direction.TheVariants as direction
 use Rattle.record.specs.declared.values.Speed.{Speed}
 use Rattle.record.specs.declared.values.Speed.TheVariants as speed
 
-abbrev pub is_missing : Number → Bool
-is_missing number.Missing = true
-is_missing (number.Is n) = false
-
-abbrev pub no_tenths : Tenths → Bool
-no_tenths tenths.Missing = true
-no_tenths (tenths.Is t) = false
+abbrev pub is_missing : {A : Type 0} → Option A → Bool
+is_missing None = true
+is_missing (Some x) = false
 
 abbrev pub no_direction : Direction → Bool
 no_direction direction.Missing = true
@@ -45,10 +37,10 @@ no_letters l = every (λ b. eqb b 0) l
 abbrev pub between : ℕ → ℕ → ℕ → Bool
 between low high n = leb low n && leb n high
 
-abbrev pub present : (ℕ → Bool) → Number → Bool
-present ok number.Missing = false
-present ok (number.Is n) = ok n
+abbrev pub present : (ℕ → Bool) → Option ℕ → Bool
+present ok None = false
+present ok (Some n) = ok n
 
-abbrev pub optional : (ℕ → Bool) → Number → Bool
-optional ok number.Missing = true
-optional ok (number.Is n) = ok n
+abbrev pub optional : (ℕ → Bool) → Option ℕ → Bool
+optional ok None = true
+optional ok (Some n) = ok n

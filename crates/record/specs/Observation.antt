@@ -1,6 +1,6 @@
 -- The observation of a METAR or SPECI with one part set, and the blank one.
 -- Assumes nothing: these are definitions.
-use Rattle.std.specs.Prelude.{Bool, true, false, replicate}
+use Rattle.std.specs.Prelude.{Bool, true, false, replicate, None}
 use Rattle.record.specs.declared.aerodrome.Instant.{Instant}
 use Rattle.record.specs.declared.aerodrome.Qnh.{Qnh}
 use Rattle.record.specs.declared.aerodrome.Runway.{Runway}
@@ -13,13 +13,10 @@ use Rattle.record.specs.declared.aerodrome.Variation.{Variation}
 use Rattle.record.specs.declared.aerodrome.Weathers.{Weathers}
 use Rattle.record.specs.declared.aerodrome.Body.{Body}
 use Rattle.record.specs.declared.aerodrome.Observation.{Observation}
-use Rattle.record.specs.declared.aerodrome.Extremes.TheVariants as extremes
 use Rattle.record.specs.declared.aerodrome.Side.TheVariants as side
 use Rattle.record.specs.declared.aerodrome.Course.TheVariants as course
 use Rattle.record.specs.declared.aerodrome.Depth.TheVariants as depth
 use Rattle.record.specs.declared.aerodrome.Condition.TheVariants as condition
-use Rattle.record.specs.declared.values.Number.TheVariants as number
-use Rattle.record.specs.declared.values.Tenths.TheVariants as tenths
 use Rattle.record.specs.Body.{blank_weathers, blank_body}
 
 abbrev pub set_special : Bool → Observation → Observation
@@ -62,13 +59,13 @@ abbrev pub set_states : RunwayStates → Observation → Observation
 set_states x r = record { special = r.special; corrected = r.corrected; station = r.station; time = r.time; nil = r.nil; automatic = r.automatic; body = r.body; variation = r.variation; runways = r.runways; temperatures = r.temperatures; qnh = r.qnh; recents = r.recents; states = x }
 
 abbrev pub blank_runway : Runway
-blank_runway = record { number = number.Missing; side = side.None; range = number.Missing; course = course.None }
+blank_runway = record { number = None; side = side.None; range = None; course = course.None }
 
 abbrev pub blank_runways : Runways
 blank_runways = record { items = replicate 4 blank_runway; count = 0 }
 
 abbrev pub blank_state : RunwayState
-blank_state = record { runway = number.Missing; condition = condition.Covered number.Missing number.Missing depth.Missing number.Missing }
+blank_state = record { runway = None; condition = condition.Covered None None depth.Missing None }
 
 abbrev pub blank_states : RunwayStates
 blank_states = record { items = replicate 4 blank_state; count = 0; snoclo = false }
@@ -79,14 +76,14 @@ blank_observation =
       special = false;
       corrected = false;
       station = record { letters = replicate 4 0 };
-      time = record { day = number.Missing; hour = number.Missing; minute = number.Missing };
+      time = record { day = None; hour = None; minute = None };
       nil = false;
       automatic = false;
       body = blank_body;
-      variation = record { is = extremes.Missing };
+      variation = record { is = None };
       runways = blank_runways;
-      temperatures = record { air = tenths.Missing; dew = tenths.Missing };
-      qnh = record { is = number.Missing };
+      temperatures = record { air = None; dew = None };
+      qnh = record { is = None };
       recents = blank_weathers;
       states = blank_states;
     }

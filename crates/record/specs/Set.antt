@@ -12,8 +12,7 @@ use Rattle.record.specs.declared.surface.Weather.{Weather}
 use Rattle.record.specs.declared.surface.Clouds.{Clouds}
 use Rattle.record.specs.declared.surface.Clock.{Clock}
 use Rattle.record.specs.declared.surface.Surface.{Surface}
-use Rattle.std.specs.Prelude.{Bool}
-use Rattle.record.specs.declared.values.Number.{Number}
+use Rattle.std.specs.Prelude.{ℕ, Bool, Option}
 use Rattle.record.specs.declared.surface.CallSign.{CallSign}
 use Rattle.record.specs.declared.surface.Position.{Position}
 use Rattle.record.specs.declared.surface.Time.{Time}
@@ -55,7 +54,7 @@ set_clouds x s = record { indicators = s.indicators; wind = s.wind; air = s.air;
 abbrev pub set_clock : Clock → Surface → Surface
 set_clock x s = record { indicators = s.indicators; wind = s.wind; air = s.air; moisture = s.moisture; pressure = s.pressure; level = s.level; tendency = s.tendency; rainfall = s.rainfall; weather = s.weather; clouds = s.clouds; clock = x }
 
-abbrev pub set_station : Number → Site → Site
+abbrev pub set_station : Option ℕ → Site → Site
 set_station x s = record { station = x; sign = s.sign; position = s.position; time = s.time; nil = s.nil }
 
 abbrev pub set_sign : CallSign → Site → Site

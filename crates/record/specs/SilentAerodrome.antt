@@ -1,13 +1,12 @@
 -- Nothing is said in a METAR, SPECI or TAF, group by group and in the whole: "a field foreign to the kind (or to NIL, CNL) that is not blank" is
 -- refused 11.
 -- Assumes nothing: these are definitions.
-use Rattle.std.specs.Prelude.{Bool, true, false, not, ◌&&◌, eqb}
+use Rattle.std.specs.Prelude.{Bool, true, false, not, ◌&&◌, eqb, None, Option, Some}
 use Rattle.figures.specs.Figures.{every}
 use Rattle.record.specs.declared.aerodrome.Unit.{Unit}
 use Rattle.record.specs.declared.aerodrome.Unit.TheVariants as unit
 use Rattle.record.specs.declared.aerodrome.Wind.{Wind}
 use Rattle.record.specs.declared.aerodrome.Extremes.{Extremes}
-use Rattle.record.specs.declared.aerodrome.Extremes.TheVariants as extremes
 use Rattle.record.specs.declared.aerodrome.View.{View}
 use Rattle.record.specs.declared.aerodrome.View.TheVariants as view
 use Rattle.record.specs.declared.aerodrome.Body.{Body}
@@ -24,7 +23,6 @@ use Rattle.record.specs.declared.aerodrome.Condition.TheVariants as condition
 use Rattle.record.specs.declared.aerodrome.RunwayState.{RunwayState}
 use Rattle.record.specs.declared.aerodrome.RunwayStates.{RunwayStates}
 use Rattle.record.specs.declared.aerodrome.Phenomena.{Phenomena}
-use Rattle.record.specs.declared.aerodrome.Phenomena.TheVariants as phenomena
 use Rattle.record.specs.declared.aerodrome.Weather.{Weather}
 use Rattle.record.specs.declared.aerodrome.Weathers.{Weathers}
 use Rattle.record.specs.declared.aerodrome.Amount.{Amount}
@@ -57,7 +55,7 @@ use Rattle.record.specs.declared.aerodrome.Metar.{Metar}
 use Rattle.record.specs.declared.aerodrome.Edition.{Edition}
 use Rattle.record.specs.declared.aerodrome.Edition.TheVariants as edition
 use Rattle.record.specs.declared.aerodrome.Taf.{Taf}
-use Rattle.record.specs.Missing.{is_missing, no_tenths, no_direction, no_speed, no_letters}
+use Rattle.record.specs.Missing.{is_missing, no_direction, no_speed, no_letters}
 
 -- ---- wind, visibility, runways
 
@@ -70,10 +68,6 @@ no_unit unit.KilometresPerHour = false
 -- no wind at all: nothing of it is there, its unit neither
 abbrev pub is_blank_wind : Wind → Bool
 is_blank_wind w = no_direction w.direction && no_speed w.speed && no_speed w.gust && no_unit w.unit
-
-abbrev pub no_extremes : Extremes → Bool
-no_extremes extremes.Missing = true
-no_extremes (extremes.Between a b) = false
 
 abbrev pub no_view : View → Bool
 no_view view.Missing = true
@@ -118,12 +112,8 @@ no_states ss = not ss.snoclo && eqb ss.count 0 && every is_blank_state ss.items
 
 -- ---- weather and sky
 
-abbrev pub no_phenomena : Phenomena → Bool
-no_phenomena phenomena.Missing = true
-no_phenomena (phenomena.Is i d a b c) = false
-
 abbrev pub is_blank_weather : Weather → Bool
-is_blank_weather w = no_phenomena w.is
+is_blank_weather w = is_missing w.is
 
 abbrev pub no_weathers : Weathers → Bool
 no_weathers ws = eqb ws.count 0 && every is_blank_weather ws.items
@@ -157,7 +147,7 @@ no_sky s = is_layers s.cover && eqb s.count 0 && every is_blank_layer s.layers
 -- ---- temperatures, station and times
 
 abbrev pub no_temperatures : Temperatures → Bool
-no_temperatures t = no_tenths t.air && no_tenths t.dew
+no_temperatures t = is_missing t.air && is_missing t.dew
 
 abbrev pub no_station : Station → Bool
 no_station s = no_letters s.letters
@@ -192,7 +182,7 @@ is_blank_body b = is_blank_wind b.wind && no_view b.visibility.is && no_weathers
 -- nothing stands after the time
 unfoldable pub no_observation : Observation → Bool
 no_observation r =
-    not r.automatic && is_blank_body r.body && no_extremes r.variation.is && no_runways r.runways
+    not r.automatic && is_blank_body r.body && is_missing r.variation.is && no_runways r.runways
     && no_temperatures r.temperatures && is_missing r.qnh.is && no_weathers r.recents && no_states r.states
 
 unfoldable pub is_blank_observation : Observation → Bool

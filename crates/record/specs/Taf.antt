@@ -1,6 +1,6 @@
 -- A TAF's leg with one part set, and the blank records.
 -- Assumes nothing: these are definitions.
-use Rattle.std.specs.Prelude.{Bool, true, false, replicate}
+use Rattle.std.specs.Prelude.{Bool, true, false, replicate, None}
 use Rattle.record.specs.declared.aerodrome.Correction.{Correction}
 use Rattle.record.specs.declared.aerodrome.Instant.{Instant}
 use Rattle.record.specs.declared.aerodrome.Period.{Period}
@@ -13,7 +13,6 @@ use Rattle.record.specs.declared.aerodrome.Taf.{Taf}
 use Rattle.record.specs.declared.aerodrome.Correction.TheVariants as correction
 use Rattle.record.specs.declared.aerodrome.Opening.TheVariants as opening
 use Rattle.record.specs.declared.aerodrome.Edition.TheVariants as edition
-use Rattle.record.specs.declared.values.Number.TheVariants as number
 use Rattle.record.specs.Body.{blank_body}
 
 abbrev pub set_correction : Correction → Leg → Leg
@@ -38,7 +37,7 @@ abbrev pub set_body : Body → Leg → Leg
 set_body x r = record { correction = r.correction; station = r.station; time = r.time; nil = r.nil; period = r.period; cancelled = r.cancelled; body = x }
 
 abbrev pub blank_instant : Instant
-blank_instant = record { day = number.Missing; hour = number.Missing; minute = number.Missing }
+blank_instant = record { day = None; hour = None; minute = None }
 
 abbrev pub blank_period : Period
 blank_period = record { from = blank_instant; to = blank_instant }

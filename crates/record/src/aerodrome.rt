@@ -1,5 +1,7 @@
-// METAR, SPECI and TAF: one struct for each place of the report.
-use crate::values::{Direction, Number, Speed, Tenths};
+// METAR, SPECI and TAF: one struct for each place of the report. What has one case beside the missing one is an Option; an enum with more has its missing case
+// among them, as the paper lists it. A count stands beside its slots, since memory is fixed and a record can have a count past its slots, or a slot past its
+// count that is not blank: such a record is refused 11 (`judge_sky`, `judge_runways` and the like).
+use crate::values::{Direction, Speed};
 
 #[derive(Clone, Copy)]
 pub enum Unit {
@@ -20,14 +22,14 @@ pub struct Wind {
 
 // dddVddd, in degrees
 #[derive(Clone, Copy)]
-pub enum Extremes {
-    Missing,
-    Between { from: u32, to: u32 },
+pub struct Extremes {
+    pub from: u32,
+    pub to: u32,
 }
 
 #[derive(Clone, Copy)]
 pub struct Variation {
-    pub is: Extremes,
+    pub is: Option<Extremes>,
 }
 
 // VVVV or CAVOK
@@ -63,9 +65,9 @@ pub enum Course {
 // A runway by its number and side, its visual range in metres and the range's course.
 #[derive(Clone, Copy)]
 pub struct Runway {
-    pub number: Number,
+    pub number: Option<u32>,
     pub side: Side,
-    pub range: Number,
+    pub range: Option<u32>,
     pub course: Course,
 }
 
@@ -90,17 +92,17 @@ pub enum Depth {
 pub enum Condition {
     Cleared,
     Covered {
-        deposit: Number,
-        extent: Number,
+        deposit: Option<u32>,
+        extent: Option<u32>,
         depth: Depth,
-        braking: Number,
+        braking: Option<u32>,
     },
 }
 
 // The state of a runway: 01-36, 51-86 the right-hand one, 88 all, 99 repeated from the last.
 #[derive(Clone, Copy)]
 pub struct RunwayState {
-    pub runway: Number,
+    pub runway: Option<u32>,
     pub condition: Condition,
 }
 
@@ -122,26 +124,23 @@ pub enum Intensity {
 
 // Two letters of table 4678, or none.
 #[derive(Clone, Copy)]
-pub enum Code {
-    None,
-    Letters { first: u8, second: u8 },
+pub struct Code {
+    pub first: u8,
+    pub second: u8,
 }
 
 #[derive(Clone, Copy)]
-pub enum Phenomena {
-    Missing,
-    Is {
-        intensity: Intensity,
-        descriptor: Code,
-        first: Code,
-        second: Code,
-        third: Code,
-    },
+pub struct Phenomena {
+    pub intensity: Intensity,
+    pub descriptor: Option<Code>,
+    pub first: Option<Code>,
+    pub second: Option<Code>,
+    pub third: Option<Code>,
 }
 
 #[derive(Clone, Copy)]
 pub struct Weather {
-    pub is: Phenomena,
+    pub is: Option<Phenomena>,
 }
 
 // Up to three, the first `count`.
@@ -171,7 +170,7 @@ pub enum Convective {
 #[derive(Clone, Copy)]
 pub struct Layer {
     pub amount: Amount,
-    pub height: Number,
+    pub height: Option<u32>,
     pub convective: Convective,
 }
 
@@ -182,7 +181,7 @@ pub enum Cover {
     Clear,
     NoneSignificant,
     NoneDetected,
-    Vertical(Number),
+    Vertical(Option<u32>),
 }
 
 // Four sky layers with a count.
@@ -196,14 +195,14 @@ pub struct Sky {
 // T/Td, in tenths of a degree
 #[derive(Clone, Copy)]
 pub struct Temperatures {
-    pub air: Tenths,
-    pub dew: Tenths,
+    pub air: Option<i32>,
+    pub dew: Option<i32>,
 }
 
 // Q, in tenths of hPa
 #[derive(Clone, Copy)]
 pub struct Qnh {
-    pub is: Number,
+    pub is: Option<u32>,
 }
 
 // CCCC, four letters; all 0 where it is missing.
@@ -215,9 +214,9 @@ pub struct Station {
 // YYGGggZ
 #[derive(Clone, Copy)]
 pub struct Instant {
-    pub day: Number,
-    pub hour: Number,
-    pub minute: Number,
+    pub day: Option<u32>,
+    pub hour: Option<u32>,
+    pub minute: Option<u32>,
 }
 
 // What an observation and each part of a forecast say alike: wind, visibility or CAVOK, weather, clouds.
@@ -356,7 +355,7 @@ pub struct Changes {
 }
 
 // The edition of the code form that a TAF is written in: the present one, or that of 2005, which held until November 2008.
-#[derive(Clone, Copy)]
+#[derive(Clone, Copy, PartialEq, Eq)]
 pub enum Edition {
     Present,
     Of2005,

@@ -7,12 +7,11 @@ ghost use Rattle.record.specs.Taf.{blank_instant, blank_period, blank_leg, blank
 
 use crate::aerodrome::{
     Amount, Body, Change, Changes, Condition, Convective, Correction, Course, Cover, Depth,
-    Edition, Extremes, Hours, Instant, Layer, Leg, Metar, Observation, Opening, Period, Phenomena,
-    Qnh, Runway, RunwayState, RunwayStates, Runways, Side, Sky, Station, Taf, Temperatures,
-    Tendency, Times, Trend, TrendChange, Unit, Variation, View, Visibility, Weather, Weathers,
-    Wind,
+    Edition, Hours, Instant, Layer, Leg, Metar, Observation, Opening, Period, Qnh, Runway,
+    RunwayState, RunwayStates, Runways, Side, Sky, Station, Taf, Temperatures, Tendency, Times,
+    Trend, TrendChange, Unit, Variation, View, Visibility, Weather, Weathers, Wind,
 };
-use crate::values::{Direction, Number, Speed, Tenths};
+use crate::values::{Direction, Speed};
 
 pub fn blank_station() -> Station
     ensures { result ≡ blank_observation.station }
@@ -25,9 +24,9 @@ pub fn blank_instant() -> Instant
     ensures { result ≡ blank_instant }
 {
     Instant {
-        day: Number::Missing,
-        hour: Number::Missing,
-        minute: Number::Missing,
+        day: None,
+        hour: None,
+        minute: None,
     }
 }
 
@@ -35,9 +34,9 @@ fn blank_period() -> Period
     ensures { result ≡ blank_period }
 {
     let blank = Instant {
-        day: Number::Missing,
-        hour: Number::Missing,
-        minute: Number::Missing,
+        day: None,
+        hour: None,
+        minute: None,
     };
     Period {
         from: blank,
@@ -60,9 +59,9 @@ fn blank_runways() -> Runways
     ensures { result ≡ blank_runways }
 {
     let blank = Runway {
-        number: Number::Missing,
+        number: None,
         side: Side::None,
-        range: Number::Missing,
+        range: None,
         course: Course::None,
     };
     let items = [blank; 4];
@@ -73,13 +72,13 @@ fn blank_states() -> RunwayStates
     ensures { result ≡ blank_states }
 {
     let condition = Condition::Covered {
-        deposit: Number::Missing,
-        extent: Number::Missing,
+        deposit: None,
+        extent: None,
         depth: Depth::Missing,
-        braking: Number::Missing,
+        braking: None,
     };
     let blank = RunwayState {
-        runway: Number::Missing,
+        runway: None,
         condition,
     };
     let items = [blank; 4];
@@ -93,9 +92,7 @@ fn blank_states() -> RunwayStates
 fn blank_weathers() -> Weathers
     ensures { result ≡ blank_weathers }
 {
-    let blank = Weather {
-        is: Phenomena::Missing,
-    };
+    let blank = Weather { is: None };
     let items = [blank; 3];
     Weathers { items, count: 0 }
 }
@@ -105,7 +102,7 @@ fn blank_sky() -> Sky
 {
     let blank = Layer {
         amount: Amount::None,
-        height: Number::Missing,
+        height: None,
         convective: Convective::None,
     };
     let layers = [blank; 4];
@@ -148,17 +145,13 @@ pub fn blank_observation() -> Observation
         nil: false,
         automatic: false,
         body,
-        variation: Variation {
-            is: Extremes::Missing,
-        },
+        variation: Variation { is: None },
         runways,
         temperatures: Temperatures {
-            air: Tenths::Missing,
-            dew: Tenths::Missing,
+            air: None,
+            dew: None,
         },
-        qnh: Qnh {
-            is: Number::Missing,
-        },
+        qnh: Qnh { is: None },
         recents,
         states,
     }

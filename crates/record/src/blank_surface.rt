@@ -3,28 +3,28 @@ ghost use Rattle.std.specs.Prelude.{◌≡◌};
 ghost use Rattle.record.specs.Blank.{blank_site, blank_surface, blank_section3, blank_synop};
 
 use crate::surface::{
-    Air, AtLevel, BaseHeight, CallSign, Clock, CloudLayer, CloudLayers, Clouds, Fall, Indicators,
-    Level, Moist, Moisture, Observed, Position, Pressure, PressureChange, Rainfall, Section3,
-    Sight, Site, Surface, Synop, Tendency, Time, Weather, Wind,
+    Air, AtLevel, BaseHeight, CallSign, Clock, CloudLayer, CloudLayers, Clouds, Indicators, Level,
+    Moist, Moisture, Position, Pressure, Rainfall, Section3, Sight, Site, Surface, Synop, Tendency,
+    Time, Weather, Wind,
 };
-use crate::values::{Direction, Number, Speed, Tenths};
+use crate::values::{Direction, Speed};
 
 pub fn blank_site() -> Site
     ensures { result ≡ blank_site }
 {
-    let station = Number::Missing;
+    let station = None;
     let letters = [0u8; 9];
     Site {
         station,
         sign: CallSign { letters, length: 0 },
         position: Position {
-            latitude: Tenths::Missing,
-            longitude: Tenths::Missing,
+            latitude: None,
+            longitude: None,
         },
         time: Time {
-            day: Number::Missing,
-            hour: Number::Missing,
-            unit: Number::Missing,
+            day: None,
+            hour: None,
+            unit: None,
         },
         nil: false,
     }
@@ -34,9 +34,9 @@ fn blank_indicators() -> Indicators
     ensures { result ≡ blank_surface.indicators }
 {
     Indicators {
-        rain: Number::Missing,
-        weather: Number::Missing,
-        base: Number::Missing,
+        rain: None,
+        weather: None,
+        base: None,
         sight: Sight::Missing,
     }
 }
@@ -45,10 +45,10 @@ fn blank_clouds() -> Clouds
     ensures { result ≡ blank_surface.clouds }
 {
     Clouds {
-        amount: Number::Missing,
-        low: Number::Missing,
-        middle: Number::Missing,
-        high: Number::Missing,
+        amount: None,
+        low: None,
+        middle: None,
+        high: None,
     }
 }
 
@@ -60,33 +60,25 @@ pub fn blank_surface() -> Surface
     Surface {
         indicators,
         wind: Wind {
-            cover: Number::Missing,
+            cover: None,
             direction: Direction::Missing,
             speed: Speed::Missing,
         },
-        air: Air {
-            temperature: Tenths::Missing,
-        },
+        air: Air { temperature: None },
         moisture: Moisture { is: Moist::Missing },
-        pressure: Pressure {
-            station: Number::Missing,
-        },
+        pressure: Pressure { station: None },
         level: Level {
             is: AtLevel::Missing,
         },
-        tendency: Tendency {
-            is: PressureChange::Missing,
-        },
-        rainfall: Rainfall { is: Fall::Missing },
+        tendency: Tendency { is: None },
+        rainfall: Rainfall { is: None },
         weather: Weather {
-            present: Number::Missing,
-            past: Number::Missing,
-            past2: Number::Missing,
+            present: None,
+            past: None,
+            past2: None,
         },
         clouds,
-        clock: Clock {
-            is: Observed::Missing,
-        },
+        clock: Clock { is: None },
     }
 }
 
@@ -94,18 +86,14 @@ pub fn blank_section3() -> Section3
     ensures { result ≡ blank_section3 }
 {
     let blank = CloudLayer {
-        amount: Number::Missing,
-        cloud: Number::Missing,
+        amount: None,
+        cloud: None,
         height: BaseHeight::Missing,
     };
     let items = [blank; 4];
     Section3 {
-        maximum: Air {
-            temperature: Tenths::Missing,
-        },
-        minimum: Air {
-            temperature: Tenths::Missing,
-        },
+        maximum: Air { temperature: None },
+        minimum: Air { temperature: None },
         layers: CloudLayers { items, count: 0 },
     }
 }

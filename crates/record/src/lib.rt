@@ -3,9 +3,9 @@
 #![tactic(auto)]
 
 pub mod aerodrome;
+pub mod blank;
 pub mod blank_aerodrome;
 pub mod blank_surface;
-pub mod letters;
 pub mod meaning;
 pub mod silent_aerodrome;
 pub mod silent_surface;

@@ -1,9 +1,9 @@
 // Whether nothing is said in a METAR, SPECI or TAF, group by group and in the whole.
-// Two to four tests of single values are joined by `&&`, nested to the right: such a method is proved with no file.
 ghost use Rattle.std.specs.Prelude.{◌≡◌, drop};
 ghost use Rattle.figures.specs.Figures.{every};
-ghost use Rattle.record.specs.SilentAerodrome.{no_unit, is_blank_wind, no_extremes, no_view, no_side, no_course, is_blank_runway, no_runways, no_depth, no_condition, is_blank_state, no_states};
-ghost use Rattle.record.specs.SilentAerodrome.{no_phenomena, is_blank_weather, no_weathers};
+ghost use Rattle.record.specs.Missing.{is_missing};
+ghost use Rattle.record.specs.SilentAerodrome.{no_unit, is_blank_wind, no_view, no_side, no_course, is_blank_runway, no_runways, no_depth, no_condition, is_blank_state, no_states};
+ghost use Rattle.record.specs.SilentAerodrome.{is_blank_weather, no_weathers};
 ghost use Rattle.record.specs.SilentAerodrome.{no_amount, no_convective, is_blank_layer, is_layers, no_sky, no_temperatures, no_station, no_instant, no_period, no_correction, no_opening};
 ghost use Rattle.record.specs.SilentAerodrome.{is_blank_body, is_blank_change, no_changes, no_observation, is_blank_observation, no_hours, no_tendency, is_blank_trend_change, no_trend, is_blank_metar, is_present, is_same_edition, no_head, is_blank_taf};
 
@@ -13,7 +13,7 @@ use crate::aerodrome::{
     Runway, RunwayState, RunwayStates, Runways, Side, Sky, Station, Taf, Temperatures, Tendency,
     Trend, TrendChange, Unit, View, Weather, Weathers, Wind,
 };
-use crate::letters::are_blank_from;
+use crate::blank::{Blank, are_blank_from};
 
 // ---- wind, visibility, runways
 
@@ -21,12 +21,7 @@ impl Unit {
     pub fn is_missing(self) -> bool
         ensures { result ≡ no_unit self }
     {
-        match self {
-            Unit::Missing => true,
-            Unit::Knots => false,
-            Unit::MetresPerSecond => false,
-            Unit::KilometresPerHour => false,
-        }
+        matches!(self, Unit::Missing)
     }
 }
 
@@ -34,22 +29,10 @@ impl Wind {
     pub fn is_blank(self) -> bool
         ensures { result ≡ is_blank_wind self }
     {
-        let direction = self.direction;
-        let speed = self.speed;
-        let gust = self.gust;
-        let unit = self.unit;
-        direction.is_missing() && (speed.is_missing() && (gust.is_missing() && unit.is_missing()))
-    }
-}
-
-impl Extremes {
-    pub fn is_missing(self) -> bool
-        ensures { result ≡ no_extremes self }
-    {
-        match self {
-            Extremes::Missing => true,
-            Extremes::Between { .. } => false,
-        }
+        self.direction.is_missing()
+            && self.speed.is_missing()
+            && self.gust.is_missing()
+            && self.unit.is_missing()
     }
 }
 
@@ -57,11 +40,7 @@ impl View {
     pub fn is_missing(self) -> bool
         ensures { result ≡ no_view self }
     {
-        match self {
-            View::Missing => true,
-            View::Cavok => false,
-            View::Metres(_) => false,
-        }
+        matches!(self, View::Missing)
     }
 }
 
@@ -69,12 +48,7 @@ impl Side {
     pub fn is_none(self) -> bool
         ensures { result ≡ no_side self }
     {
-        match self {
-            Side::None => true,
-            Side::Left => false,
-            Side::Centre => false,
-            Side::Right => false,
-        }
+        matches!(self, Side::None)
     }
 }
 
@@ -82,12 +56,7 @@ impl Course {
     pub fn is_none(self) -> bool
         ensures { result ≡ no_course self }
     {
-        match self {
-            Course::None => true,
-            Course::Up => false,
-            Course::Down => false,
-            Course::NoChange => false,
-        }
+        matches!(self, Course::None)
     }
 }
 
@@ -95,11 +64,18 @@ impl Runway {
     pub fn is_blank(self) -> bool
         ensures { result ≡ is_blank_runway self }
     {
-        let number = self.number;
-        let side = self.side;
-        let range = self.range;
-        let course = self.course;
-        number.is_missing() && (side.is_none() && (range.is_missing() && course.is_none()))
+        self.number.is_none()
+            && self.side.is_none()
+            && self.range.is_none()
+            && self.course.is_none()
+    }
+}
+
+impl Blank for Runway {
+    ghost blank = { is_blank_runway };
+
+    fn says_nothing(&self) -> bool {
+        self.is_blank()
     }
 }
 
@@ -108,17 +84,7 @@ impl Runways {
     pub fn is_blank_from(self, from: usize) -> bool
         ensures { result ≡ every is_blank_runway (drop from self.items) }
     {
-        let items = self.items;
-        let mut i = from;
-        while i < 4 {
-            let one = items[i];
-            if one.is_blank() {
-                i += 1;
-            } else {
-                return false;
-            }
-        }
-        true
+        are_blank_from(&self.items, from)
     }
 
     pub fn is_blank(self) -> bool
@@ -134,11 +100,7 @@ impl Depth {
     pub fn is_missing(self) -> bool
         ensures { result ≡ no_depth self }
     {
-        match self {
-            Depth::Missing => true,
-            Depth::Closed => false,
-            Depth::Millimetres(_) => false,
-        }
+        matches!(self, Depth::Missing)
     }
 }
 
@@ -155,8 +117,8 @@ impl Condition {
                 depth,
                 braking,
             } => {
-                let seen = deposit.is_missing() & extent.is_missing();
-                seen & depth.is_missing() & braking.is_missing()
+                let seen = deposit.is_none() & extent.is_none();
+                seen & depth.is_missing() & braking.is_none()
             }
         }
     }
@@ -166,9 +128,15 @@ impl RunwayState {
     pub fn is_blank(self) -> bool
         ensures { result ≡ is_blank_state self }
     {
-        let runway = self.runway;
-        let condition = self.condition;
-        runway.is_missing() & condition.is_blank()
+        self.runway.is_none() & self.condition.is_blank()
+    }
+}
+
+impl Blank for RunwayState {
+    ghost blank = { is_blank_state };
+
+    fn says_nothing(&self) -> bool {
+        self.is_blank()
     }
 }
 
@@ -177,17 +145,7 @@ impl RunwayStates {
     pub fn is_blank_from(self, from: usize) -> bool
         ensures { result ≡ every is_blank_state (drop from self.items) }
     {
-        let items = self.items;
-        let mut i = from;
-        while i < 4 {
-            let one = items[i];
-            if one.is_blank() {
-                i += 1;
-            } else {
-                return false;
-            }
-        }
-        true
+        are_blank_from(&self.items, from)
     }
 
     pub fn is_blank(self) -> bool
@@ -199,23 +157,19 @@ impl RunwayStates {
 
 // ---- weather and sky
 
-impl Phenomena {
-    pub fn is_missing(self) -> bool
-        ensures { result ≡ no_phenomena self }
-    {
-        match self {
-            Phenomena::Missing => true,
-            Phenomena::Is { .. } => false,
-        }
-    }
-}
-
 impl Weather {
     pub fn is_blank(self) -> bool
         ensures { result ≡ is_blank_weather self }
     {
-        let is = self.is;
-        is.is_missing()
+        self.is.is_none()
+    }
+}
+
+impl Blank for Weather {
+    ghost blank = { is_blank_weather };
+
+    fn says_nothing(&self) -> bool {
+        self.is_blank()
     }
 }
 
@@ -224,17 +178,7 @@ impl Weathers {
     pub fn is_blank_from(self, from: usize) -> bool
         ensures { result ≡ every is_blank_weather (drop from self.items) }
     {
-        let items = self.items;
-        let mut i = from;
-        while i < 3 {
-            let one = items[i];
-            if one.is_blank() {
-                i += 1;
-            } else {
-                return false;
-            }
-        }
-        true
+        are_blank_from(&self.items, from)
     }
 
     pub fn is_blank(self) -> bool
@@ -248,13 +192,7 @@ impl Amount {
     pub fn is_none(self) -> bool
         ensures { result ≡ no_amount self }
     {
-        match self {
-            Amount::None => true,
-            Amount::Few => false,
-            Amount::Scattered => false,
-            Amount::Broken => false,
-            Amount::Overcast => false,
-        }
+        matches!(self, Amount::None)
     }
 }
 
@@ -262,11 +200,7 @@ impl Convective {
     pub fn is_none(self) -> bool
         ensures { result ≡ no_convective self }
     {
-        match self {
-            Convective::None => true,
-            Convective::Cumulonimbus => false,
-            Convective::ToweringCumulus => false,
-        }
+        matches!(self, Convective::None)
     }
 }
 
@@ -274,10 +208,15 @@ impl Layer {
     pub fn is_blank(self) -> bool
         ensures { result ≡ is_blank_layer self }
     {
-        let amount = self.amount;
-        let height = self.height;
-        let convective = self.convective;
-        amount.is_none() && (height.is_missing() && convective.is_none())
+        self.amount.is_none() && self.height.is_none() && self.convective.is_none()
+    }
+}
+
+impl Blank for Layer {
+    ghost blank = { is_blank_layer };
+
+    fn says_nothing(&self) -> bool {
+        self.is_blank()
     }
 }
 
@@ -285,13 +224,7 @@ impl Cover {
     pub fn is_layers(self) -> bool
         ensures { result ≡ is_layers self }
     {
-        match self {
-            Cover::Layers => true,
-            Cover::Clear => false,
-            Cover::NoneSignificant => false,
-            Cover::NoneDetected => false,
-            Cover::Vertical(_) => false,
-        }
+        matches!(self, Cover::Layers)
     }
 }
 
@@ -300,25 +233,13 @@ impl Sky {
     pub fn is_blank_from(self, from: usize) -> bool
         ensures { result ≡ every is_blank_layer (drop from self.layers) }
     {
-        let layers = self.layers;
-        let mut i = from;
-        while i < 4 {
-            let one = layers[i];
-            if one.is_blank() {
-                i += 1;
-            } else {
-                return false;
-            }
-        }
-        true
+        are_blank_from(&self.layers, from)
     }
 
     pub fn is_blank(self) -> bool
         ensures { result ≡ no_sky self }
     {
-        let cover = self.cover;
-        let count = self.count;
-        cover.is_layers() & (count == 0) & self.is_blank_from(0)
+        self.cover.is_layers() & (self.count == 0) & self.is_blank_from(0)
     }
 }
 
@@ -328,9 +249,7 @@ impl Temperatures {
     pub fn is_blank(self) -> bool
         ensures { result ≡ no_temperatures self }
     {
-        let air = self.air;
-        let dew = self.dew;
-        air.is_missing() && dew.is_missing()
+        self.air.is_none() && self.dew.is_none()
     }
 }
 
@@ -338,8 +257,7 @@ impl Station {
     pub fn is_blank(self) -> bool
         ensures { result ≡ no_station self }
     {
-        let letters = self.letters;
-        are_blank_from(&letters, 0)
+        are_blank_from(&self.letters, 0)
     }
 }
 
@@ -347,10 +265,7 @@ impl Instant {
     pub fn is_blank(self) -> bool
         ensures { result ≡ no_instant self }
     {
-        let day = self.day;
-        let hour = self.hour;
-        let minute = self.minute;
-        day.is_missing() & hour.is_missing() & minute.is_missing()
+        self.day.is_none() & self.hour.is_none() & self.minute.is_none()
     }
 }
 
@@ -358,9 +273,7 @@ impl Period {
     pub fn is_blank(self) -> bool
         ensures { result ≡ no_period self }
     {
-        let from = self.from;
-        let to = self.to;
-        from.is_blank() & to.is_blank()
+        self.from.is_blank() & self.to.is_blank()
     }
 }
 
@@ -368,11 +281,7 @@ impl Correction {
     pub fn is_none(self) -> bool
         ensures { result ≡ no_correction self }
     {
-        match self {
-            Correction::None => true,
-            Correction::Amended => false,
-            Correction::Corrected => false,
-        }
+        matches!(self, Correction::None)
     }
 }
 
@@ -380,30 +289,22 @@ impl Opening {
     pub fn is_none(self) -> bool
         ensures { result ≡ no_opening self }
     {
-        match self {
-            Opening::None => true,
-            Opening::Becoming => false,
-            Opening::Temporary => false,
-            Opening::Probable(_) => false,
-            Opening::ProbablyTemporary(_) => false,
-            Opening::From => false,
-        }
+        matches!(self, Opening::None)
     }
 }
 
 // ---- the reports
 
 impl Body {
+    #[tactic(auto, unfolding(crate::specs::SilentAerodrome::is_blank_body))]
     pub fn is_blank(self) -> bool
         ensures { result ≡ is_blank_body self }
     {
-        let wind = self.wind;
-        let visibility = self.visibility;
-        let view = visibility.is;
-        let weathers = self.weathers;
-        let nsw = self.nsw;
-        let sky = self.sky;
-        wind.is_blank() & view.is_missing() & weathers.is_blank() & !nsw & sky.is_blank()
+        self.wind.is_blank()
+            & self.visibility.is.is_missing()
+            & self.weathers.is_blank()
+            & !self.nsw
+            & self.sky.is_blank()
     }
 }
 
@@ -411,10 +312,15 @@ impl Change {
     pub fn is_blank(self) -> bool
         ensures { result ≡ is_blank_change self }
     {
-        let opening = self.opening;
-        let period = self.period;
-        let body = self.body;
-        opening.is_none() & period.is_blank() & body.is_blank()
+        self.opening.is_none() & self.period.is_blank() & self.body.is_blank()
+    }
+}
+
+impl Blank for Change {
+    ghost blank = { is_blank_change };
+
+    fn says_nothing(&self) -> bool {
+        self.is_blank()
     }
 }
 
@@ -423,17 +329,7 @@ impl Changes {
     pub fn is_blank_from(self, from: usize) -> bool
         ensures { result ≡ every is_blank_change (drop from self.items) }
     {
-        let items = self.items;
-        let mut i = from;
-        while i < 16 {
-            let one = items[i];
-            if one.is_blank() {
-                i += 1;
-            } else {
-                return false;
-            }
-        }
-        true
+        are_blank_from(&self.items, from)
     }
 
     pub fn is_blank(self) -> bool
@@ -445,34 +341,27 @@ impl Changes {
 
 impl Observation {
     // Nothing stands after the time.
+    #[tactic(auto, unfolding(crate::specs::SilentAerodrome::no_observation))]
     pub fn has_no_observation(self) -> bool
         ensures { result ≡ no_observation self }
     {
-        let body = self.body;
-        let variation = self.variation;
-        let extremes = variation.is;
-        let runways = self.runways;
-        let temperatures = self.temperatures;
-        let qnh = self.qnh;
-        let pressure = qnh.is;
-        let recents = self.recents;
-        let states = self.states;
-        let automatic = self.automatic;
-        let seen = !automatic & body.is_blank() & extremes.is_missing() & runways.is_blank();
-        let felt = seen & temperatures.is_blank() & pressure.is_missing();
-        felt & recents.is_blank() & states.is_blank()
+        let seen = !self.automatic
+            & self.body.is_blank()
+            & self.variation.is.is_none()
+            & self.runways.is_blank();
+        let felt = seen & self.temperatures.is_blank() & self.qnh.is.is_none();
+        felt & self.recents.is_blank() & self.states.is_blank()
     }
 
+    #[tactic(auto, unfolding(crate::specs::SilentAerodrome::is_blank_observation))]
     pub fn is_blank(self) -> bool
         ensures { result ≡ is_blank_observation self }
     {
-        let station = self.station;
-        let time = self.time;
-        let special = self.special;
-        let corrected = self.corrected;
-        let nil = self.nil;
-        let headed = !special & !corrected & station.is_blank() & time.is_blank();
-        headed & !nil & self.has_no_observation()
+        let headed = !self.special
+            & !self.corrected
+            & self.station.is_blank()
+            & self.time.is_blank();
+        headed & !self.nil & self.has_no_observation()
     }
 }
 
@@ -480,13 +369,7 @@ impl Hours {
     pub fn is_none(self) -> bool
         ensures { result ≡ no_hours self }
     {
-        match self {
-            Hours::None => true,
-            Hours::From(_) => false,
-            Hours::Until(_) => false,
-            Hours::Between { from: _, until: _ } => false,
-            Hours::At(_) => false,
-        }
+        matches!(self, Hours::None)
     }
 }
 
@@ -494,11 +377,7 @@ impl Tendency {
     pub fn is_none(self) -> bool
         ensures { result ≡ no_tendency self }
     {
-        match self {
-            Tendency::None => true,
-            Tendency::Becoming => false,
-            Tendency::Temporary => false,
-        }
+        matches!(self, Tendency::None)
     }
 }
 
@@ -506,11 +385,15 @@ impl TrendChange {
     pub fn is_blank(self) -> bool
         ensures { result ≡ is_blank_trend_change self }
     {
-        let tendency = self.tendency;
-        let times = self.times;
-        let hours = times.is;
-        let body = self.body;
-        tendency.is_none() & hours.is_none() & body.is_blank()
+        self.tendency.is_none() & self.times.is.is_none() & self.body.is_blank()
+    }
+}
+
+impl Blank for TrendChange {
+    ghost blank = { is_blank_trend_change };
+
+    fn says_nothing(&self) -> bool {
+        self.is_blank()
     }
 }
 
@@ -519,17 +402,7 @@ impl Trend {
     pub fn is_blank_from(self, from: usize) -> bool
         ensures { result ≡ every is_blank_trend_change (drop from self.items) }
     {
-        let items = self.items;
-        let mut i = from;
-        while i < 3 {
-            let one = items[i];
-            if one.is_blank() {
-                i += 1;
-            } else {
-                return false;
-            }
-        }
-        true
+        are_blank_from(&self.items, from)
     }
 
     pub fn is_blank(self) -> bool
@@ -540,12 +413,11 @@ impl Trend {
 }
 
 impl Metar {
+    #[tactic(auto, unfolding(crate::specs::SilentAerodrome::is_blank_metar))]
     pub fn is_blank(self) -> bool
         ensures { result ≡ is_blank_metar self }
     {
-        let observation = self.observation;
-        let trend = self.trend;
-        observation.is_blank() & trend.is_blank()
+        self.observation.is_blank() & self.trend.is_blank()
     }
 }
 
@@ -554,14 +426,8 @@ impl Leg {
     fn has_no_head(self) -> bool
         ensures { result ≡ no_head self }
     {
-        let correction = self.correction;
-        let station = self.station;
-        let time = self.time;
-        let period = self.period;
-        let nil = self.nil;
-        let cancelled = self.cancelled;
-        let placed = correction.is_none() & station.is_blank() & time.is_blank();
-        placed & !nil & period.is_blank() & !cancelled
+        let placed = self.correction.is_none() & self.station.is_blank() & self.time.is_blank();
+        placed & !self.nil & self.period.is_blank() & !self.cancelled
     }
 }
 
@@ -569,36 +435,24 @@ impl Edition {
     fn is_present(self) -> bool
         ensures { result ≡ is_present self }
     {
-        match self {
-            Edition::Present => true,
-            Edition::Of2005 => false,
-        }
+        matches!(self, Edition::Present)
     }
 
     pub fn is_same(self, other: Edition) -> bool
         ensures { result ≡ is_same_edition self other }
     {
-        match self {
-            Edition::Present => match other {
-                Edition::Present => true,
-                Edition::Of2005 => false,
-            },
-            Edition::Of2005 => match other {
-                Edition::Present => false,
-                Edition::Of2005 => true,
-            },
-        }
+        self == other
     }
 }
 
 impl Taf {
+    #[tactic(auto, unfolding(crate::specs::SilentAerodrome::is_blank_taf))]
     pub fn is_blank(self) -> bool
         ensures { result ≡ is_blank_taf self }
     {
-        let edition = self.edition;
-        let leg = self.leg;
-        let body = leg.body;
-        let changes = self.changes;
-        edition.is_present() & leg.has_no_head() & body.is_blank() & changes.is_blank()
+        self.edition.is_present()
+            & self.leg.has_no_head()
+            & self.leg.body.is_blank()
+            & self.changes.is_blank()
     }
 }

@@ -1,12 +1,11 @@
 // Whether nothing is said in a SYNOP or SHIP, group by group and in the whole.
-// Two to four tests of single values are joined by `&&`, nested to the right: such a method is proved with no file.
 ghost use Rattle.std.specs.Prelude.{◌≡◌, drop};
 ghost use Rattle.figures.specs.Figures.{every};
-ghost use Rattle.record.specs.Missing.{no_letters};
-ghost use Rattle.record.specs.SilentSurface.{no_sign, no_position, no_time, no_sight, no_indicators, no_wind, no_moist, no_level, no_change, no_fall, no_weather, no_clouds, no_clock};
+ghost use Rattle.record.specs.Missing.{is_missing, no_letters};
+ghost use Rattle.record.specs.SilentSurface.{no_sign, no_position, no_time, no_sight, no_indicators, no_wind, no_moist, no_level, no_weather, no_clouds};
 ghost use Rattle.record.specs.SilentSurface.{no_height, is_blank_layer, no_layers, no_site, no_surface, no_section3, is_blank_synop};
 
-use crate::letters::are_blank_from;
+use crate::blank::{Blank, are_blank_from};
 use crate::surface::{
     AtLevel, BaseHeight, CallSign, CloudLayer, CloudLayers, Clouds, Fall, Indicators, Moist,
     Observed, Position, PressureChange, Section3, Sight, Site, Surface, Synop, Time, Weather, Wind,
@@ -17,8 +16,7 @@ impl CallSign {
     pub fn is_blank_from(self, from: usize) -> bool
         ensures { result ≡ no_letters (drop from self.letters) }
     {
-        let letters = self.letters;
-        are_blank_from(&letters, from)
+        are_blank_from(&self.letters, from)
     }
 
     pub fn is_blank(self) -> bool
@@ -32,9 +30,7 @@ impl Position {
     pub fn is_blank(self) -> bool
         ensures { result ≡ no_position self }
     {
-        let latitude = self.latitude;
-        let longitude = self.longitude;
-        latitude.is_missing() && longitude.is_missing()
+        self.latitude.is_none() && self.longitude.is_none()
     }
 }
 
@@ -42,10 +38,7 @@ impl Time {
     pub fn is_blank(self) -> bool
         ensures { result ≡ no_time self }
     {
-        let day = self.day;
-        let hour = self.hour;
-        let unit = self.unit;
-        day.is_missing() && (hour.is_missing() && unit.is_missing())
+        self.day.is_none() && self.hour.is_none() && self.unit.is_none()
     }
 }
 
@@ -53,11 +46,7 @@ impl Sight {
     pub fn is_missing(self) -> bool
         ensures { result ≡ no_sight self }
     {
-        match self {
-            Sight::Missing => true,
-            Sight::Land(_) => false,
-            Sight::Sea(_) => false,
-        }
+        matches!(self, Sight::Missing)
     }
 }
 
@@ -65,11 +54,10 @@ impl Indicators {
     pub fn is_blank(self) -> bool
         ensures { result ≡ no_indicators self }
     {
-        let rain = self.rain;
-        let weather = self.weather;
-        let base = self.base;
-        let sight = self.sight;
-        rain.is_missing() && (weather.is_missing() && (base.is_missing() && sight.is_missing()))
+        self.rain.is_none()
+            && self.weather.is_none()
+            && self.base.is_none()
+            && self.sight.is_missing()
     }
 }
 
@@ -77,10 +65,7 @@ impl Wind {
     pub fn is_blank(self) -> bool
         ensures { result ≡ no_wind self }
     {
-        let cover = self.cover;
-        let direction = self.direction;
-        let speed = self.speed;
-        cover.is_missing() && (direction.is_missing() && speed.is_missing())
+        self.cover.is_none() && self.direction.is_missing() && self.speed.is_missing()
     }
 }
 
@@ -88,11 +73,7 @@ impl Moist {
     pub fn is_missing(self) -> bool
         ensures { result ≡ no_moist self }
     {
-        match self {
-            Moist::Missing => true,
-            Moist::DewPoint(_) => false,
-            Moist::Humidity(_) => false,
-        }
+        matches!(self, Moist::Missing)
     }
 }
 
@@ -100,33 +81,7 @@ impl AtLevel {
     pub fn is_missing(self) -> bool
         ensures { result ≡ no_level self }
     {
-        match self {
-            AtLevel::Missing => true,
-            AtLevel::Pressure(_) => false,
-            AtLevel::Isobaric { .. } => false,
-        }
-    }
-}
-
-impl PressureChange {
-    pub fn is_missing(self) -> bool
-        ensures { result ≡ no_change self }
-    {
-        match self {
-            PressureChange::Missing => true,
-            PressureChange::Is { .. } => false,
-        }
-    }
-}
-
-impl Fall {
-    pub fn is_missing(self) -> bool
-        ensures { result ≡ no_fall self }
-    {
-        match self {
-            Fall::Missing => true,
-            Fall::Is { .. } => false,
-        }
+        matches!(self, AtLevel::Missing)
     }
 }
 
@@ -134,10 +89,7 @@ impl Weather {
     pub fn is_blank(self) -> bool
         ensures { result ≡ no_weather self }
     {
-        let present = self.present;
-        let past = self.past;
-        let past2 = self.past2;
-        present.is_missing() && (past.is_missing() && past2.is_missing())
+        self.present.is_none() && self.past.is_none() && self.past2.is_none()
     }
 }
 
@@ -145,22 +97,7 @@ impl Clouds {
     pub fn is_blank(self) -> bool
         ensures { result ≡ no_clouds self }
     {
-        let amount = self.amount;
-        let low = self.low;
-        let middle = self.middle;
-        let high = self.high;
-        amount.is_missing() && (low.is_missing() && (middle.is_missing() && high.is_missing()))
-    }
-}
-
-impl Observed {
-    pub fn is_missing(self) -> bool
-        ensures { result ≡ no_clock self }
-    {
-        match self {
-            Observed::Missing => true,
-            Observed::At { .. } => false,
-        }
+        self.amount.is_none() && self.low.is_none() && self.middle.is_none() && self.high.is_none()
     }
 }
 
@@ -168,11 +105,7 @@ impl BaseHeight {
     pub fn is_missing(self) -> bool
         ensures { result ≡ no_height self }
     {
-        match self {
-            BaseHeight::Missing => true,
-            BaseHeight::Steps(_) => false,
-            BaseHeight::Bands(_) => false,
-        }
+        matches!(self, BaseHeight::Missing)
     }
 }
 
@@ -180,10 +113,15 @@ impl CloudLayer {
     pub fn is_blank(self) -> bool
         ensures { result ≡ is_blank_layer self }
     {
-        let amount = self.amount;
-        let cloud = self.cloud;
-        let height = self.height;
-        amount.is_missing() && (cloud.is_missing() && height.is_missing())
+        self.amount.is_none() && self.cloud.is_none() && self.height.is_missing()
+    }
+}
+
+impl Blank for CloudLayer {
+    ghost blank = { is_blank_layer };
+
+    fn says_nothing(&self) -> bool {
+        self.is_blank()
     }
 }
 
@@ -192,17 +130,7 @@ impl CloudLayers {
     pub fn is_blank_from(self, from: usize) -> bool
         ensures { result ≡ every is_blank_layer (drop from self.items) }
     {
-        let items = self.items;
-        let mut i = from;
-        while i < 4 {
-            let one = items[i];
-            if one.is_blank() {
-                i += 1;
-            } else {
-                return false;
-            }
-        }
-        true
+        are_blank_from(&self.items, from)
     }
 
     pub fn is_blank(self) -> bool
@@ -216,12 +144,9 @@ impl Section3 {
     pub fn is_blank(self) -> bool
         ensures { result ≡ no_section3 self }
     {
-        let maximum = self.maximum;
-        let highest = maximum.temperature;
-        let minimum = self.minimum;
-        let lowest = minimum.temperature;
-        let layers = self.layers;
-        highest.is_missing() & lowest.is_missing() & layers.is_blank()
+        self.maximum.temperature.is_none()
+            & self.minimum.temperature.is_none()
+            & self.layers.is_blank()
     }
 }
 
@@ -229,28 +154,18 @@ impl Surface {
     pub fn is_blank(self) -> bool
         ensures { result ≡ no_surface self }
     {
-        let indicators = self.indicators;
-        let wind = self.wind;
-        let air = self.air;
-        let temperature = air.temperature;
-        let moisture = self.moisture;
-        let moist = moisture.is;
-        let pressure = self.pressure;
-        let station = pressure.station;
-        let level = self.level;
-        let height = level.is;
-        let tendency = self.tendency;
-        let change = tendency.is;
-        let rainfall = self.rainfall;
-        let fall = rainfall.is;
-        let weather = self.weather;
-        let clouds = self.clouds;
-        let clock = self.clock;
-        let observed = clock.is;
-        let first = indicators.is_blank() & wind.is_blank() & temperature.is_missing();
-        let second = first & moist.is_missing() & station.is_missing() & height.is_missing();
-        let third = second & change.is_missing() & fall.is_missing() & weather.is_blank();
-        third & clouds.is_blank() & observed.is_missing()
+        let first = self.indicators.is_blank()
+            & self.wind.is_blank()
+            & self.air.temperature.is_none();
+        let second = first
+            & self.moisture.is.is_missing()
+            & self.pressure.station.is_none()
+            & self.level.is.is_missing();
+        let third = second
+            & self.tendency.is.is_none()
+            & self.rainfall.is.is_none()
+            & self.weather.is_blank();
+        third & self.clouds.is_blank() & self.clock.is.is_none()
     }
 }
 
@@ -258,23 +173,19 @@ impl Site {
     pub fn is_blank(self) -> bool
         ensures { result ≡ no_site self }
     {
-        let station = self.station;
-        let sign = self.sign;
-        let position = self.position;
-        let time = self.time;
-        let nil = self.nil;
-        station.is_missing() & sign.is_blank() & position.is_blank() & time.is_blank() & !nil
+        self.station.is_none()
+            & self.sign.is_blank()
+            & self.position.is_blank()
+            & self.time.is_blank()
+            & !self.nil
     }
 }
 
 impl Synop {
+    #[tactic(auto, unfolding(crate::specs::SilentSurface::is_blank_synop))]
     pub fn is_blank(self) -> bool
         ensures { result ≡ is_blank_synop self }
     {
-        let site = self.site;
-        let surface = self.surface;
-        let section3 = self.section3;
-        let ship = self.ship;
-        !ship & site.is_blank() & surface.is_blank() & section3.is_blank()
+        !self.ship & self.site.is_blank() & self.surface.is_blank() & self.section3.is_blank()
     }
 }

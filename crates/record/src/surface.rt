@@ -1,5 +1,6 @@
-// SYNOP and SHIP: one struct for each code group.
-use crate::values::{Direction, Number, Speed, Tenths};
+// SYNOP and SHIP: one struct for each code group. As to missing values and counts see `aerodrome`; figures of code tables (iw, a, iR, ix) are kept as figures, since
+// a record may hold any and is refused 11 for one that the table has not got.
+use crate::values::{Direction, Speed};
 use scales::kinds::Rain;
 
 // A call sign, 3 to 9 letters and figures; the bytes past the length are 0, and a length of 0 is missing.
@@ -12,16 +13,16 @@ pub struct CallSign {
 // 99LaLaLa QcLoLoLoLo: tenths of a degree, north and east positive.
 #[derive(Clone, Copy)]
 pub struct Position {
-    pub latitude: Tenths,
-    pub longitude: Tenths,
+    pub latitude: Option<i32>,
+    pub longitude: Option<i32>,
 }
 
 // YYGGiw: day, hour, and the unit of wind speed by its figure.
 #[derive(Clone, Copy)]
 pub struct Time {
-    pub day: Number,
-    pub hour: Number,
-    pub unit: Number,
+    pub day: Option<u32>,
+    pub hour: Option<u32>,
+    pub unit: Option<u32>,
 }
 
 // A visibility in metres, on the scale of table 4377 that it is written on.
@@ -35,16 +36,16 @@ pub enum Sight {
 // iR ix h VV: the figures of iR and ix, the height of the lowest cloud's base and the visibility in metres.
 #[derive(Clone, Copy)]
 pub struct Indicators {
-    pub rain: Number,
-    pub weather: Number,
-    pub base: Number,
+    pub rain: Option<u32>,
+    pub weather: Option<u32>,
+    pub base: Option<u32>,
     pub sight: Sight,
 }
 
 // N dd ff, with 00fff.
 #[derive(Clone, Copy)]
 pub struct Wind {
-    pub cover: Number,
+    pub cover: Option<u32>,
     pub direction: Direction,
     pub speed: Speed,
 }
@@ -52,7 +53,7 @@ pub struct Wind {
 // 1sTTT; in section 3 2sTTT too
 #[derive(Clone, Copy)]
 pub struct Air {
-    pub temperature: Tenths,
+    pub temperature: Option<i32>,
 }
 
 // 2sTTT or 29UUU: the dew point, or the humidity in per cent.
@@ -71,7 +72,7 @@ pub struct Moisture {
 // 3PPPP: pressure at the station, tenths of hPa.
 #[derive(Clone, Copy)]
 pub struct Pressure {
-    pub station: Number,
+    pub station: Option<u32>,
 }
 
 // 4PPPP or 4ahhh: pressure at sea level in tenths of hPa, or the figure of an isobaric surface and its height as three figures.
@@ -89,55 +90,55 @@ pub struct Level {
 
 // 5appp: the figure of the tendency and the change in tenths of hPa.
 #[derive(Clone, Copy)]
-pub enum PressureChange {
-    Missing,
-    Is { tendency: u32, change: i32 },
+pub struct PressureChange {
+    pub tendency: u32,
+    pub change: i32,
 }
 
 #[derive(Clone, Copy)]
 pub struct Tendency {
-    pub is: PressureChange,
+    pub is: Option<PressureChange>,
 }
 
 // 6RRRt: the amount, and the figure of its period.
 #[derive(Clone, Copy)]
-pub enum Fall {
-    Missing,
-    Is { amount: Rain, period: Number },
+pub struct Fall {
+    pub amount: Rain,
+    pub period: Option<u32>,
 }
 
 #[derive(Clone, Copy)]
 pub struct Rainfall {
-    pub is: Fall,
+    pub is: Option<Fall>,
 }
 
 // 7wwWW: present weather, and past weather twice.
 #[derive(Clone, Copy)]
 pub struct Weather {
-    pub present: Number,
-    pub past: Number,
-    pub past2: Number,
+    pub present: Option<u32>,
+    pub past: Option<u32>,
+    pub past2: Option<u32>,
 }
 
 // 8NCCC: the amount of low or middle cloud, and the low, middle and high clouds.
 #[derive(Clone, Copy)]
 pub struct Clouds {
-    pub amount: Number,
-    pub low: Number,
-    pub middle: Number,
-    pub high: Number,
+    pub amount: Option<u32>,
+    pub low: Option<u32>,
+    pub middle: Option<u32>,
+    pub high: Option<u32>,
 }
 
 // 9GGgg: the hour and minute of the observation.
 #[derive(Clone, Copy)]
-pub enum Observed {
-    Missing,
-    At { hour: u32, minute: u32 },
+pub struct Observed {
+    pub hour: u32,
+    pub minute: u32,
 }
 
 #[derive(Clone, Copy)]
 pub struct Clock {
-    pub is: Observed,
+    pub is: Option<Observed>,
 }
 
 // hh of section 3: the height of a layer's base in metres, on the scale of table 1677 that it is written on.
@@ -153,8 +154,8 @@ pub enum BaseHeight {
 // 8NChh of section 3: the amount of a layer, the kind of its cloud, and the height of its base.
 #[derive(Clone, Copy)]
 pub struct CloudLayer {
-    pub amount: Number,
-    pub cloud: Number,
+    pub amount: Option<u32>,
+    pub cloud: Option<u32>,
     pub height: BaseHeight,
 }
 
@@ -192,7 +193,7 @@ pub struct Surface {
 // Where and when: a land station's number, or a ship's call sign and position; the time; and whether the report is NIL.
 #[derive(Clone, Copy)]
 pub struct Site {
-    pub station: Number,
+    pub station: Option<u32>,
     pub sign: CallSign,
     pub position: Position,
     pub time: Time,

@@ -1,20 +1,6 @@
-// Values that may be missing.
+// Values that may be missing: whole numbers and tenths of a degree with their sign are an Option, directions and speeds have more to say.
 ghost use Rattle.std.specs.Prelude.{◌≡◌, leb};
-ghost use Rattle.record.specs.Missing.{is_missing, between, present, optional, no_tenths, no_direction, no_speed, is_still};
-
-// A whole number.
-#[derive(Clone, Copy)]
-pub enum Number {
-    Missing,
-    Is(u32),
-}
-
-// Tenths of a degree, with their sign.
-#[derive(Clone, Copy)]
-pub enum Tenths {
-    Missing,
-    Is(i32),
-}
+ghost use Rattle.record.specs.Missing.{between, present, optional, no_direction, no_speed, is_still};
 
 // "A record's direction is calm, variable, missing or 0-359."
 #[derive(Clone, Copy)]
@@ -33,55 +19,33 @@ pub enum Speed {
     Above(u32),
 }
 
-impl Number {
-    pub fn is_missing(self) -> bool
-        ensures { result ≡ is_missing self }
-    {
-        match self {
-            Number::Missing => true,
-            Number::Is(_) => false,
-        }
-    }
-
-    // A number that has to be there, and lies in a range.
-    pub fn is_between(self, low: u32, high: u32) -> bool
-        ensures { result ≡ present (between low high) self }
-    {
-        match self {
-            Number::Missing => false,
-            Number::Is(n) => (low <= n) & (n <= high),
-        }
-    }
-
-    // A number that has to be there, up to the most.
-    pub fn is_up_to(self, most: u32) -> bool
-        ensures { result ≡ present (λ n. leb n most) self }
-    {
-        match self {
-            Number::Missing => false,
-            Number::Is(n) => n <= most,
-        }
-    }
-
-    // A number that may be missing, and else lies in a range.
-    pub fn is_missing_or_between(self, low: u32, high: u32) -> bool
-        ensures { result ≡ optional (between low high) self }
-    {
-        match self {
-            Number::Missing => true,
-            Number::Is(n) => (low <= n) & (n <= high),
-        }
+// A number that has to be there, and lies in a range.
+pub fn is_between(number: Option<u32>, low: u32, high: u32) -> bool
+    ensures { result ≡ present (between low high) number }
+{
+    match number {
+        Some(n) => (low <= n) & (n <= high),
+        None => false,
     }
 }
 
-impl Tenths {
-    pub fn is_missing(self) -> bool
-        ensures { result ≡ no_tenths self }
-    {
-        match self {
-            Tenths::Missing => true,
-            Tenths::Is(_) => false,
-        }
+// A number that has to be there, up to the most.
+pub fn is_up_to(number: Option<u32>, most: u32) -> bool
+    ensures { result ≡ present (λ n. leb n most) number }
+{
+    match number {
+        Some(n) => n <= most,
+        None => false,
+    }
+}
+
+// A number that may be missing, and else lies in a range.
+pub fn is_missing_or_between(number: Option<u32>, low: u32, high: u32) -> bool
+    ensures { result ≡ optional (between low high) number }
+{
+    match number {
+        Some(_) => is_between(number, low, high),
+        None => true,
     }
 }
 
@@ -89,12 +53,7 @@ impl Direction {
     pub fn is_missing(self) -> bool
         ensures { result ≡ no_direction self }
     {
-        match self {
-            Direction::Missing => true,
-            Direction::Calm => false,
-            Direction::Variable => false,
-            Direction::Degrees(_) => false,
-        }
+        matches!(self, Direction::Missing)
     }
 }
 
@@ -102,21 +61,13 @@ impl Speed {
     pub fn is_missing(self) -> bool
         ensures { result ≡ no_speed self }
     {
-        match self {
-            Speed::Missing => true,
-            Speed::Is(_) => false,
-            Speed::Above(_) => false,
-        }
+        matches!(self, Speed::Missing)
     }
 
     // A speed of zero, which goes with calm.
     pub fn is_still(self) -> bool
         ensures { result ≡ is_still self }
     {
-        match self {
-            Speed::Missing => false,
-            Speed::Is(n) => n == 0,
-            Speed::Above(_) => false,
-        }
+        matches!(self, Speed::Is(0))
     }
 }

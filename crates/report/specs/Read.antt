@@ -1,13 +1,12 @@
 -- Reading a text of any kind: as the kind that its first group names.
 -- Assumes nothing: these are definitions.
-use Rattle.std.specs.Prelude.{ℕ, ◌+◌, Bool, true, false, cond, List, [], ◌∷◌, length}
+use Rattle.std.specs.Prelude.{ℕ, ◌+◌, Bool, true, false, cond, List, [], ◌∷◌, length, Err, Ok, Result}
 use Prim.Native.String.{String}
 use Rattle.figures.specs.Quote.{bytes}
 use Rattle.text.specs.declared.kinds.Refusal.TheVariants as refusal
 use Rattle.text.specs.declared.kinds.Bytes.{Bytes}
 use Rattle.text.specs.declared.kinds.Bytes.TheVariants as judgement
-use Rattle.text.specs.declared.kinds.Verdict.{Verdict}
-use Rattle.text.specs.declared.kinds.Verdict.TheVariants as verdict
+use Rattle.text.specs.declared.kinds.Refused.{Refused}
 use Rattle.text.specs.Groups.{Piece, groups_from, part_of}
 use Rattle.text.specs.Text.{bytes_of, tail_of}
 use Rattle.shapes.specs.Pattern.{has_pattern}
@@ -75,9 +74,9 @@ read_of text = read_in edition.Present text
 -- ---- "The rest, from that group to the text's end, is .. handed back as a part of the caller's text; where there is none, or the text is refused, it
 -- is the empty part at the end."
 
-abbrev pub rest_at : ℕ → Verdict → ℕ
-rest_at end (verdict.Accepted rest) = rest
-rest_at end (verdict.Refused f at) = end
+abbrev pub rest_at : ℕ → Result ℕ Refused → ℕ
+rest_at end (Ok rest) = rest
+rest_at end (Err x) = end
 
 unfoldable pub rest_place_in : Edition → List ℕ → ℕ
 rest_place_in e text = rest_at (length text) (read_in e text).verdict

@@ -14,7 +14,7 @@ use record::aerodrome::Edition;
 use report_record::kinds::{Kind, Name, Reading, Report, Stands};
 use report_record::{answer, kinship};
 use shapes::has_pattern;
-use text::kinds::{Bytes, Cut, Refusal, Verdict, Written};
+use text::kinds::{Bytes, Cut, Refusal, Refused};
 
 // ---- reading
 
@@ -46,8 +46,7 @@ fn name_group(g: &[u8], place: usize, at: usize) -> Name
 fn name_first(text: &[u8]) -> Name
     ensures { result ≡ first_name (groups_from text.now 0) }
 {
-    let first = text::next_group(text, 0);
-    match first {
+    match text::next_group(text, 0) {
         Cut::End { at: _ } => Name::Refused {
             refusal: Refusal::Kind,
             place: 0,
@@ -58,11 +57,11 @@ fn name_first(text: &[u8]) -> Name
 
 // The kind that a text's first group names, and where the groups behind it begin; or refusal 1, 2 or 3. Who wants the reports of one kind only goes on
 // with that kind's own reader: `synop::read::read_from`, `metar::read::read_from`, `taf::read::read_from`.
+#[tactic(auto, unfolding(crate::specs::Read::name_of))]
 pub fn name(text: &[u8]) -> Name
     ensures { result ≡ name_of text.now }
 {
-    let judged = text::judge_bytes(text);
-    match judged {
+    match text::judge_bytes(text) {
         Bytes::Length => Name::Refused {
             refusal: Refusal::Length,
             place: 0,
@@ -79,22 +78,18 @@ pub fn name(text: &[u8]) -> Name
 pub fn read_in(edition: Edition, text: &[u8]) -> Reading
     ensures { result ≡ read_in edition text.now }
 {
-    let named = name(text);
-    match named {
+    match name(text) {
         Name::Surface { ship, at } => {
             let reading = synop::read::read_from(text, at, ship);
-            let verdict = reading.verdict;
-            answer::of_surface(verdict, reading.report)
+            answer::of_surface(reading.verdict, reading.report)
         }
         Name::Observed { special, at } => {
             let reading = metar::read::read_from(text, at, special);
-            let verdict = reading.verdict;
-            answer::of_observed(verdict, reading.report)
+            answer::of_observed(reading.verdict, reading.report)
         }
         Name::Forecast { at } => {
             let reading = taf::read::read_from_in(edition, text, at);
-            let verdict = reading.verdict;
-            answer::of_forecast(verdict, reading.report)
+            answer::of_forecast(reading.verdict, reading.report)
         }
         Name::Refused { refusal, place } => answer::refuse(refusal, place),
     }
@@ -108,44 +103,31 @@ pub fn read(text: &[u8]) -> Reading
 }
 
 // Whether a text is accepted, and where its unread rest begins, or its refusal and place: what `read_in` answers, without the record.
-pub fn verdict_in(edition: Edition, text: &[u8]) -> Verdict
+pub fn verdict_in(edition: Edition, text: &[u8]) -> Result<usize, Refused>
     ensures { result ≡ (read_in edition text.now).verdict }
 {
-    let named = name(text);
-    match named {
-        Name::Surface { ship, at } => {
-            let reading = synop::read::read_from(text, at, ship);
-            reading.verdict
-        }
-        Name::Observed { special, at } => {
-            let reading = metar::read::read_from(text, at, special);
-            reading.verdict
-        }
-        Name::Forecast { at } => {
-            let reading = taf::read::read_from_in(edition, text, at);
-            reading.verdict
-        }
-        Name::Refused { refusal, place } => Verdict::Refused { refusal, place },
+    match name(text) {
+        Name::Surface { ship, at } => synop::read::read_from(text, at, ship).verdict,
+        Name::Observed { special, at } => metar::read::read_from(text, at, special).verdict,
+        Name::Forecast { at } => taf::read::read_from_in(edition, text, at).verdict,
+        Name::Refused { refusal, place } => Err(Refused { refusal, place }),
     }
 }
 
-pub fn verdict_of(text: &[u8]) -> Verdict
+pub fn verdict_of(text: &[u8]) -> Result<usize, Refused>
     ensures { result ≡ (read_of text.now).verdict }
 {
     verdict_in(Edition::Present, text)
 }
 
 // Where the unread rest begins: at the text's end where there is none, or the text is refused.
+#[tactic(auto, unfolding(crate::specs::Read::rest_place_in))]
 pub fn rest_place_in(edition: Edition, text: &[u8]) -> usize
     ensures { result ≡ rest_place_in edition text.now }
 {
-    let verdict = verdict_in(edition, text);
-    match verdict {
-        Verdict::Accepted { rest } => rest,
-        Verdict::Refused {
-            refusal: _,
-            place: _,
-        } => text.len(),
+    match verdict_in(edition, text) {
+        Ok(rest) => rest,
+        Err(_) => text.len(),
     }
 }
 
@@ -159,9 +141,7 @@ pub fn rest_place(text: &[u8]) -> usize
 pub fn rest_in(edition: Edition, text: &[u8]) -> &[u8]
     ensures { PartAt text.entry result (rest_place_in edition text.now) (length text.now) }
 {
-    let place = rest_place_in(edition, text);
-    let end = text.len();
-    text::part_at(text, place, end)
+    text::part_at(text, rest_place_in(edition, text), text.len())
 }
 
 pub fn rest(text: &[u8]) -> &[u8]
@@ -172,47 +152,46 @@ pub fn rest(text: &[u8]) -> &[u8]
 
 // ---- writing: the parts of the other kinds are judged first
 
-fn write_surface(report: Report, out: &mut [u8]) -> Written
+fn write_surface(report: Report, out: &mut [u8]) -> Result<usize, Refusal>
     ensures { WrittenAnyway kind.Surface report out.old result out.new }
 {
     if report.observed.is_blank() & report.forecast.is_blank() {
         return synop_write::write::write(report.surface, out);
     }
-    Written::Refused(Refusal::Value)
+    Err(Refusal::Value)
 }
 
-fn write_observed(report: Report, out: &mut [u8]) -> Written
+fn write_observed(report: Report, out: &mut [u8]) -> Result<usize, Refusal>
     ensures { WrittenAnyway kind.Observed report out.old result out.new }
 {
     if report.surface.is_blank() & report.forecast.is_blank() {
         return metar_write::write::write(report.observed, out);
     }
-    Written::Refused(Refusal::Value)
+    Err(Refusal::Value)
 }
 
-fn write_forecast(edition: Edition, report: Report, out: &mut [u8]) -> Written
+fn write_forecast(edition: Edition, report: Report, out: &mut [u8]) -> Result<usize, Refusal>
     ensures { (result ≡ written_by edition kind.Forecast report (length out.old)) × (out.new ≡ buffer_after edition kind.Forecast report out.old) }
 {
     if report.surface.is_blank() & report.observed.is_blank() {
         return taf_write::write::write_in(edition, report.forecast, out);
     }
-    Written::Refused(Refusal::Value)
+    Err(Refusal::Value)
 }
 
 // The record's canonical text goes into the lent buffer, or the buffer stays as it came. A TAF of another edition than the one that is named is refused.
-pub fn write_in(edition: Edition, report: Report, out: &mut [u8]) -> Written
+pub fn write_in(edition: Edition, report: Report, out: &mut [u8]) -> Result<usize, Refusal>
     ensures { (result ≡ written_in edition report (length out.old)) × (out.new ≡ buffer_in edition report out.old) }
 {
-    let kind = report.kind;
-    match kind {
-        Kind::Missing => Written::Refused(Refusal::Value),
+    match report.kind {
+        Kind::Missing => Err(Refusal::Value),
         Kind::Surface => write_surface(report, out),
         Kind::Observed => write_observed(report, out),
         Kind::Forecast => write_forecast(edition, report, out),
     }
 }
 
-pub fn write(report: Report, out: &mut [u8]) -> Written
+pub fn write(report: Report, out: &mut [u8]) -> Result<usize, Refusal>
     ensures { (result ≡ written_of report (length out.old)) × (out.new ≡ buffer_of report out.old) }
 {
     write_in(Edition::Present, report, out)
@@ -221,6 +200,7 @@ pub fn write(report: Report, out: &mut [u8]) -> Written
 // ---- which text stands
 
 // Which of the two it is.
+#[tactic(auto, unfolding(crate::specs::Standing::stands_of))]
 pub fn which_stands(first: &[u8], second: &[u8]) -> Stands
     ensures { result ≡ stands_of first.now second.now }
 {
@@ -233,13 +213,9 @@ pub fn which_stands(first: &[u8], second: &[u8]) -> Stands
 pub fn standing<'a>(first: &'a [u8], second: &'a [u8]) -> &'a [u8]
     ensures { PartStanding (stands_of first.now second.now) first.entry second.entry result }
 {
-    let stands = which_stands(first, second);
-    match stands {
+    match which_stands(first, second) {
         Stands::First => text::trimmed(first),
         Stands::Second => text::trimmed(second),
-        Stands::Neither => {
-            let end = first.len();
-            text::part_at(first, end, end)
-        }
+        Stands::Neither => text::part_at(first, first.len(), first.len()),
     }
 }

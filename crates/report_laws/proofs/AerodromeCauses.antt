@@ -1,6 +1,7 @@
 -- What METAR, SPECI and TAF share: THE CAUSES for which the writer refuses a station, a time, and the body of an observation, of a trend's change or of a TAF's
 -- part, in the order of judging. What they are a part of names their fields (`at`).
 -- Assumes nothing.
+use Rattle.std.specs.Prelude.{Err, None, Option, Some}
 use Prim.Native.Nat.{ℕ, ◌+◌}
 use mathlib.Core.Path.{◌≡◌, refl}
 use mathlib.Core.Bool.{Bool, true, false, cond, not, ◌&&◌, ◌||◌}
@@ -10,11 +11,8 @@ use lib.Dec.{leb, eqb}
 use borrow.Author.Tests.{eqb-true}
 use Rattle.figures.specs.Figures.{is_letter, every}
 use Rattle.text.specs.declared.kinds.Refusal.TheVariants as refusal
-use Rattle.text.specs.declared.kinds.Judged.TheVariants as judged
 use Rattle.text.specs.Judge.{judge, and_then}
 use Rattle.shapes.proofs.Patterns.{both}
-use Rattle.record.specs.declared.values.Number.{Number}
-use Rattle.record.specs.declared.values.Number.TheVariants as number
 use Rattle.record.specs.declared.values.Direction.{Direction}
 use Rattle.record.specs.declared.values.Direction.TheVariants as direction
 use Rattle.record.specs.declared.values.Speed.{Speed}
@@ -27,7 +25,6 @@ use Rattle.record.specs.declared.aerodrome.View.{View}
 use Rattle.record.specs.declared.aerodrome.View.TheVariants as view
 use Rattle.record.specs.declared.aerodrome.Visibility.{Visibility}
 use Rattle.record.specs.declared.aerodrome.Phenomena.{Phenomena}
-use Rattle.record.specs.declared.aerodrome.Phenomena.TheVariants as phenomena
 use Rattle.record.specs.declared.aerodrome.Weather.{Weather}
 use Rattle.record.specs.declared.aerodrome.Weathers.{Weathers}
 use Rattle.record.specs.declared.aerodrome.Cover.{Cover}
@@ -115,13 +112,13 @@ module _ {F : Type 0} (at : BodyField → F) where
 
   -- ---- metres: in a forecast not missing
 
-  abbrev metres_causes : Bool → BodyField → Number → Causes
-  metres_causes forecast f number.Missing = asked (required-missing (at f)) forecast ∷ []
-  metres_causes forecast f (number.Is m) = unless (leb m 99999) (outside-its-range (at f))
+  abbrev metres_causes : Bool → BodyField → Option ℕ → Causes
+  metres_causes forecast f None = asked (required-missing (at f)) forecast ∷ []
+  metres_causes forecast f (Some m) = unless (leb m 99999) (outside-its-range (at f))
 
-  metres-clear : (forecast : Bool) (f : BodyField) (n : Number) → Clears refusal.Value (metres_fit forecast n) (metres_causes forecast f n)
-  metres-clear forecast f number.Missing = clear-asked forecast
-  metres-clear forecast f (number.Is m) = clear-unless (leb m 99999)
+  metres-clear : (forecast : Bool) (f : BodyField) (n : Option ℕ) → Clears refusal.Value (metres_fit forecast n) (metres_causes forecast f n)
+  metres-clear forecast f None = clear-asked forecast
+  metres-clear forecast f (Some m) = clear-unless (leb m 99999)
 
   -- ---- wind
 
@@ -181,9 +178,9 @@ module _ {F : Type 0} (at : BodyField → F) where
 
   -- ---- weather: // is none in a forecast; beside CAVOK or NSW no weather stands, and UP without AUTO does not
 
-  abbrev phenomena_causes : Bool → ℕ → Phenomena → Causes
-  phenomena_causes forecast n phenomena.Missing = asked (required-missing (at (weather n))) forecast ∷ []
-  phenomena_causes forecast n (phenomena.Is i d a b c) = unless (phenomena_fit (phenomena.Is i d a b c)) (outside-its-range (at (weather n)))
+  abbrev phenomena_causes : Bool → ℕ → Option Phenomena → Causes
+  phenomena_causes forecast n None = asked (required-missing (at (weather n))) forecast ∷ []
+  phenomena_causes forecast n (Some x) = unless (phenomena_fit (Some x)) (outside-its-range (at (weather n)))
 
   abbrev weather_causes : Bool → Bool → Bool → ℕ → Weather → Causes
   weather_causes forecast automatic beside n w =
@@ -198,9 +195,9 @@ module _ {F : Type 0} (at : BodyField → F) where
       missing true = refl
       missing false = refl
 
-      go : (x : Phenomena) → Clears refusal.Value (phenomena_fit x || (not forecast && is_blank_weather (record { is = x }))) (phenomena_causes forecast n x)
-      go phenomena.Missing = rw (missing forecast) (clear-asked forecast)
-      go (phenomena.Is i d a b c) = rw (fails-or (phenomena_fit (phenomena.Is i d a b c)) (not forecast)) (clear-unless (phenomena_fit (phenomena.Is i d a b c)))
+      go : (x : Option Phenomena) → Clears refusal.Value (phenomena_fit x || (not forecast && is_blank_weather (record { is = x }))) (phenomena_causes forecast n x)
+      go None = rw (missing forecast) (clear-asked forecast)
+      go (Some x) = rw (fails-or (phenomena_fit (Some x)) (not forecast)) (clear-unless (phenomena_fit (Some x)))
 
   -- up to three: the count, NSW, then each weather group
   abbrev three_causes : Weathers → Causes
@@ -230,7 +227,7 @@ module _ {F : Type 0} (at : BodyField → F) where
       ws : List Weather
       ws = take b.weathers.count b.weathers.items
 
-      first : (v : Bool) → judge v false ≡ and_then (judge v true) (judged.Refused refusal.Disagreement)
+      first : (v : Bool) → judge v false ≡ and_then (judge v true) (Err refusal.Disagreement)
       first true = refl
       first false = refl
 

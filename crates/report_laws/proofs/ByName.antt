@@ -1,15 +1,17 @@
 -- A text is read as the kind that its first group names: it is accepted, or refused, as the groups of that kind come to.
 -- Assumes nothing.
+use Rattle.std.specs.Prelude.{Err, Ok, Result}
 use Prim.Native.Nat.{ℕ}
 use native.Mathlib.Omega.{arith}
-use mathlib.Core.Path.{◌≡◌, refl, sym, ap, subst, ◌∙◌}
+use mathlib.Core.Path.{◌≡◌, refl, sym, ap, subst}
 use mathlib.Core.Bool.{Bool}
 use mathlib.Core.List.{List}
 use lib.ListN.{length}
 use Rattle.text.specs.declared.kinds.Refusal.{Refusal}
-use Rattle.text.specs.declared.kinds.Verdict.TheVariants as verdict
+use Rattle.text.specs.declared.kinds.Refused.{Refused}
 use Rattle.text.specs.Groups.{groups_from}
 use Rattle.text.specs.Text.{tail_of}
+use Rattle.text.specs.Refusals.{refused_with}
 use Rattle.places.specs.Engine.{Outcome, Done, Fault}
 use Rattle.record.specs.declared.surface.Synop.{Synop}
 use Rattle.record.specs.declared.aerodrome.Metar.{Metar}
@@ -91,16 +93,22 @@ pub data AcceptedAs (chosen : Edition) (t : List ℕ) (rest : ℕ) : Report → 
 
 not-refused : (f : Refusal) (at rest : ℕ) (w : Report) → refused f at ≡ accepted rest w → ⊥
 not-refused f at rest w e =
-    let v : verdict.Refused f at ≡ verdict.Accepted rest = ap (λ (a : Reading). a.verdict) e in
+    let v : Err (refused_with f at) ≡ Ok rest = ap (λ (a : Reading). a.verdict) e in
     let z : ◌≡◌ {A = ℕ} 0 1 = cc in
     omega arith
+
+-- two refusals that are one have one number and one place
+pub same-fault : {f g : Refusal} {at p : ℕ} → ◌≡◌ {A = Result ℕ Refused} (Err (refused_with f at)) (Err (refused_with g p)) → (f ≡ g) × (at ≡ p)
+same-fault {f} {g} {at} {p} e =
+    let is : refused_with f at ≡ refused_with g p = cc in
+    (ap (λ (x : Refused). x.refusal) is, ap (λ (x : Refused). x.place) is)
 
 -- what is accepted is what the groups come to, and what is refused too
 module _ {R : Type 0} (within : R → Report) where
   picked : (P : Outcome R → Type 0) (Q : Report → Type 0) (rest : ℕ) (w : Report) → ((r : R) → P (Done rest r) → Q (within r))
       → (o : Outcome R) → P o → answered within o ≡ accepted rest w → Q w
   picked P Q rest w f (Done k r) p e =
-      let v : verdict.Accepted k ≡ verdict.Accepted rest = ap (λ (a : Reading). a.verdict) e in
+      let v : Ok k ≡ Ok rest = ap (λ (a : Reading). a.verdict) e in
       let is : k ≡ rest = cc in
       subst Q (ap (λ (a : Reading). a.report) e) (f r (subst (λ (n : ℕ). P (Done n r)) is p))
   picked P Q rest w f (Fault g at) p e = absurd (not-refused g at rest w e)
@@ -108,9 +116,7 @@ module _ {R : Type 0} (within : R → Report) where
   blamed : (P : Outcome R → Type 0) (f : Refusal) (at : ℕ) (o : Outcome R) → P o → answered within o ≡ refused f at → P (Fault f at)
   blamed P f at (Done k r) p e = absurd (not-refused f at k (within r) (sym e))
   blamed P f at (Fault g place) p e =
-      let v : verdict.Refused g place ≡ verdict.Refused f at = ap (λ (a : Reading). a.verdict) e in
-      let is : g ≡ f = cc in
-      let there : place ≡ at = cc in
+      let (is, there) = same-fault (ap (λ (a : Reading). a.verdict) e) in
       rw (← is, ← there) p
 
 pub accepted-as : (chosen : Edition) (t : List ℕ) (rest : ℕ) (w : Report) → read_in chosen t ≡ accepted rest w → AcceptedAs chosen t rest w
@@ -165,8 +171,8 @@ module _ {chosen : Edition} {t : List ℕ} {f : Refusal} {at : ℕ} where
       go _ (by-observed o x) e = no-observed (blamed observed_report (ObservedText t) f at o x e)
       go _ (by-forecast o x) e = no-forecast (blamed forecast_report (ForecastText chosen t) f at o x e)
       go _ (by-none g p is) e =
-          let v : verdict.Refused g p ≡ verdict.Refused f at = ap (λ (a : Reading). a.verdict) e in
-          no_name (is ∙ (cc))
+          let (same, there) = same-fault (ap (λ (a : Reading). a.verdict) e) in
+          no_name (rw (← same, ← there) is)
 
   pub as-refused : RefusedAs chosen t f at → read_in chosen t ≡ refused f at
   unfolding read_in

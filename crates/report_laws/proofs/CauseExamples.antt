@@ -1,13 +1,12 @@
 -- Worked examples of the causes: which of them hold of some records.
 -- Assumes nothing.
+use Rattle.std.specs.Prelude.{None, Some}
 use mathlib.Core.Path.{◌≡◌, refl}
 use mathlib.Core.Bool.{true, false, cond}
 use mathlib.Core.List.{List, [], ◌∷◌, map}
 use lib.IntN.{pos}
 use Rattle.scales.specs.Scale.{run, class_in}
 use Rattle.scales.specs.Layers.{layer_steps}
-use Rattle.record.specs.declared.values.Number.TheVariants as number
-use Rattle.record.specs.declared.values.Tenths.TheVariants as tenths
 use Rattle.record.specs.declared.values.Direction.TheVariants as direction
 use Rattle.record.specs.declared.values.Speed.TheVariants as speed
 use Rattle.record.specs.declared.surface.BaseHeight.TheVariants as height
@@ -77,8 +76,8 @@ of2005 r = record { edition = edition.Of2005; leg = r; changes = blank_taf.chang
 pub edition-causes : map (λ (x : Edition × Taf). holding (forecast.causes_in x.0 x.1))
     ((edition.Present, of2005 (set_nil true headed))
     ∷ (edition.Of2005, of2005 (set_nil true headed))
-    ∷ (edition.Of2005, of2005 (set_cancelled true (set_period (until (number.Is 1) 5) headed)))
-    ∷ (edition.Of2005, of2005 (set_cancelled true (set_period (until number.Missing 50) headed)))
+    ∷ (edition.Of2005, of2005 (set_cancelled true (set_period (until (Some 1) 5) headed)))
+    ∷ (edition.Of2005, of2005 (set_cancelled true (set_period (until None 50) headed)))
     ∷ (edition.Of2005, changing)
     ∷ [])
     ≡ (foreign forecast.edition-named ∷ [])
@@ -94,9 +93,9 @@ edition-causes = refl
 abbrev third : Section3
 third =
     record {
-      maximum = record { temperature = tenths.Is (pos 1000) };
-      minimum = record { temperature = tenths.Missing };
-      layers = record { items = at (number.Is 4) (height.Steps 3000) ∷ at (number.Is 4) (height.Steps 300) ∷ blank_layer ∷ at (number.Is 4) height.Missing ∷ []; count = 3 };
+      maximum = record { temperature = Some (pos 1000) };
+      minimum = record { temperature = None };
+      layers = record { items = at (Some 4) (height.Steps 3000) ∷ at (Some 4) (height.Steps 300) ∷ blank_layer ∷ at (Some 4) height.Missing ∷ []; count = 3 };
     }
 
 pub section3-causes : holding (surface.section3_causes third)

@@ -3,6 +3,7 @@
 -- back has the bytes `rest_in`; `read`, `rest` and `write`, which name no edition, are the instance of the present one (`read_of`, ..). Demand 3 is of records whose arrays have
 -- their lengths (`Arrays`), as those of every record of the code have by its type: `round_trip::read_back`, which writes and reads, ensures it of any record.
 -- Assumes nothing.
+use Rattle.std.specs.Prelude.{⊤, Err, None, Ok, Result}
 use Prim.Native.Nat.{ℕ, ◌≤◌, ◌<◌, ◌+◌, ◌-◌, ◌%◌}
 use native.Mathlib.Omega.{arith}
 use mathlib.Core.Path.{◌≡◌, refl, sym, ap, subst, ◌∙◌}
@@ -25,12 +26,7 @@ use Rattle.scales.proofs.DirectionLaws.{direction-near}
 use Rattle.scales.proofs.RainLaws.{rain-order, trace-exact, rain-near, rain-most}
 use Rattle.text.specs.declared.kinds.Refusal.{Refusal}
 use Rattle.text.specs.declared.kinds.Refusal.TheVariants as refusal
-use Rattle.text.specs.declared.kinds.Judged.{Judged}
-use Rattle.text.specs.declared.kinds.Judged.TheVariants as judged
-use Rattle.text.specs.declared.kinds.Verdict.TheVariants as verdict
-use Rattle.text.specs.declared.kinds.Written.{Written}
-use Rattle.text.specs.declared.kinds.Written.TheVariants as answer
-use Rattle.text.specs.Refusals.{number_of}
+use Rattle.text.specs.Refusals.{number_of, refused_with}
 use Rattle.text.specs.Numbers.{AnswerNumbers, verdict_numbers, written_numbers}
 use Rattle.text.specs.Groups.{groups_from}
 use Rattle.text.specs.Text.{tail_of}
@@ -38,8 +34,6 @@ use Rattle.text.specs.Write.{answer_by, buffer_by}
 use Rattle.text.proofs.Groups.{part-nothing}
 use Rattle.text.proofs.Numbers.{verdict-told}
 use Rattle.places.specs.Engine.{Outcome, Done, Fault}
-use Rattle.record.specs.declared.values.Number.TheVariants as number
-use Rattle.record.specs.declared.values.Tenths.TheVariants as tenths
 use Rattle.record.specs.declared.values.Speed.TheVariants as speed
 use Rattle.record.specs.Classes.{class_direction}
 use Rattle.record.proofs.Near.{DirectionNear}
@@ -58,7 +52,7 @@ use Rattle.report_record.specs.declared.kinds.Reading.{Reading}
 use Rattle.report_record.specs.Record.{blank_report, surface_report, observed_report, forecast_report, accepted, refused}
 use Rattle.report.specs.Read.{answered, read_in, rest_place_in, rest_in}
 use Rattle.report.specs.Write.{judge_in, canonical_of, classed_of, written_in, buffer_in}
-use Rattle.report_laws.proofs.ByName.{surface_word, observed_word, forecast_word, Named, SurfaceText, ObservedText, ForecastText, read-surface, read-observed, read-forecast, Which, by-surface, by-observed, by-forecast, by-none, which, AcceptedAs, accepted-as, as-surface, as-observed, as-forecast, RefusedAs, refused_as, as-refused}
+use Rattle.report_laws.proofs.ByName.{surface_word, observed_word, forecast_word, Named, SurfaceText, ObservedText, ForecastText, read-surface, read-observed, read-forecast, Which, by-surface, by-observed, by-forecast, by-none, which, AcceptedAs, accepted-as, as-surface, as-observed, as-forecast, RefusedAs, refused_as, as-refused, same-fault}
 use Rattle.report_laws.proofs.Listed.{ListedCause, refused_by, seven-or-eleven, First, Holds, some_first, refused-for, first-refuses}
 use Rattle.report_laws.proofs.ReportCauses.{Field, causes_in, report-judged}
 use Rattle.report_laws.proofs.Placed.{one-or-more, Placed, At, at_place, Within, groups-within, tail_within}
@@ -87,32 +81,32 @@ every-text chosen t = go (read_in chosen t) (which chosen t)
     go _ (by-none f at is) = no f at
 
 -- Of a refused text the record is blank, with no kind, station or hour under which it could be filed, and the unread rest is empty.
-pub refused-blank : (chosen : Edition) (t : List ℕ) (f : Refusal) (at : ℕ) → (read_in chosen t).verdict ≡ verdict.Refused f at → ((read_in chosen t).report ≡ blank_report) × (rest_in chosen t ≡ [])
+pub refused-blank : (chosen : Edition) (t : List ℕ) (f : Refusal) (at : ℕ) → (read_in chosen t).verdict ≡ Err (refused_with f at) → ((read_in chosen t).report ≡ blank_report) × (rest_in chosen t ≡ [])
 unfolding rest_in rest_place_in
 refused-blank chosen t f at e = (go (read_in chosen t) (every-text chosen t) e, rw (e, part-nothing t (length t)))
   where
-    go : (a : Reading) → Answered a → a.verdict ≡ verdict.Refused f at → a.report ≡ blank_report
+    go : (a : Reading) → Answered a → a.verdict ≡ Err (refused_with f at) → a.report ≡ blank_report
     go _ (yes rest r) e = impossible (cc)
     go _ (no g p) e = refl
 
 -- A record that is judged fine is written where it has room, "The count of bytes written is the canonical text's length", and the bytes past the text are as they were; or it is refused, and
 -- the lent buffer stays as it came.
-pub data Settled (chosen : Edition) (r : Report) (b : List ℕ) : Written → List ℕ → Type 0 where
-  done : judge_in chosen r ≡ judged.Fine → length (canonical_of r) ≤ length b → Settled chosen r b (answer.Count (length (canonical_of r))) (splice b 0 (canonical_of r))
-  unchanged : (f : Refusal) → Settled chosen r b (answer.Refused f) b
+pub data Settled (chosen : Edition) (r : Report) (b : List ℕ) : Result ℕ Refusal → List ℕ → Type 0 where
+  done : judge_in chosen r ≡ Ok tt → length (canonical_of r) ≤ length b → Settled chosen r b (Ok (length (canonical_of r))) (splice b 0 (canonical_of r))
+  unchanged : (f : Refusal) → Settled chosen r b (Err f) b
 
 pub every-record : (chosen : Edition) (r : Report) (b : List ℕ) → Settled chosen r b (written_in chosen r (length b)) (buffer_in chosen r b)
 unfolding written_in buffer_in judge_in canonical_of
 every-record chosen r b = go (judge_in chosen r) refl
   where
-    room : judge_in chosen r ≡ judged.Fine → (c : Bool) → leb (length (canonical_of r)) (length b) ≡ c
-        → Settled chosen r b (cond c (answer.Count (length (canonical_of r))) (answer.Refused refusal.Room)) (cond c (splice b 0 (canonical_of r)) b)
+    room : judge_in chosen r ≡ Ok tt → (c : Bool) → leb (length (canonical_of r)) (length b) ≡ c
+        → Settled chosen r b (cond c (Ok (length (canonical_of r))) (Err refusal.Room)) (cond c (splice b 0 (canonical_of r)) b)
     room j true e = done j (leb-true (length (canonical_of r)) (length b) e)
     room j false e = unchanged refusal.Room
 
-    go : (j : Judged) → judge_in chosen r ≡ j → Settled chosen r b (answer_by j (canonical_of r) (length b)) (buffer_by j (canonical_of r) b)
-    go judged.Fine is = room is (leb (length (canonical_of r)) (length b)) refl
-    go (judged.Refused f) is = unchanged f
+    go : (j : Result ⊤ Refusal) → judge_in chosen r ≡ j → Settled chosen r b (answer_by j (canonical_of r) (length b)) (buffer_by j (canonical_of r) b)
+    go (Ok tt) is = room is (leb (length (canonical_of r)) (length b)) refl
+    go (Err f) is = unchanged f
 
 -- ==== DEMAND 2. A text is accepted exactly when WMO-306 with document 01's rulings allows it, and the record, station and hour included, is the meaning
 -- given there; the writer refuses only for the causes listed there and writes the one canonical text. A text is of the kind that its first group names
@@ -165,7 +159,7 @@ text-numbers chosen t = go (read_in chosen t) (which chosen t)
     one within (Done rest r) u = record { number = omega arith; place = u }
     one within (Fault f at) (a, u) = record { number = leb-true (number_of f) 9 a; place = u }
 
-    none : (f : Refusal) (at : ℕ) → NamePlaced (length t) (name.Refused f at) → InText (length t) (verdict_numbers (verdict.Refused f at))
+    none : (f : Refusal) (at : ℕ) → NamePlaced (length t) (name.Refused f at) → InText (length t) (verdict_numbers (Err (refused_with f at)))
     none f at (a, u) = record { number = leb-true (number_of f) 9 a; place = u }
 
     go : (a : Reading) → Which chosen t a → InText (length t) (verdict_numbers a.verdict)
@@ -179,66 +173,65 @@ text-numbers chosen t = go (read_in chosen t) (which chosen t)
     go _ (by-none f at is) = none f at (subst (NamePlaced (length t)) is (name-placed t))
 
 -- So the number of a refused text is one of 1 to 9, and its place at most the text's length.
-pub refused-within : (chosen : Edition) (t : List ℕ) (f : Refusal) (at : ℕ) → (read_in chosen t).verdict ≡ verdict.Refused f at → (1 ≤ number_of f) × (number_of f ≤ 9) × (at ≤ length t)
+pub refused-within : (chosen : Edition) (t : List ℕ) (f : Refusal) (at : ℕ) → (read_in chosen t).verdict ≡ Err (refused_with f at) → (1 ≤ number_of f) × (number_of f ≤ 9) × (at ≤ length t)
 refused-within chosen t f at e = (one-or-more f, rw e at (text-numbers chosen t).number, rw e at (text-numbers chosen t).place)
 
 -- The numbers say all that the verdict says: a text has the number and the place of a refusal exactly when it is refused so.
 pub refused-numbers : (chosen : Edition) (t : List ℕ) (f : Refusal) (at : ℕ) → Exactly (verdict_numbers (read_in chosen t).verdict ≡ record { refusal = number_of f; value = at }) (RefusedAs chosen t f at)
-refused-numbers chosen t f at = record { only = λ e. refused_as (go (read_in chosen t) (every-text chosen t) (verdict-told (read_in chosen t).verdict (verdict.Refused f at) e)); all = λ x. rw (as-refused x) }
+refused-numbers chosen t f at = record { only = λ e. refused_as (go (read_in chosen t) (every-text chosen t) (verdict-told (read_in chosen t).verdict (Err (refused_with f at)) e)); all = λ x. rw (as-refused x) }
   where
-    go : (a : Reading) → Answered a → a.verdict ≡ verdict.Refused f at → a ≡ refused f at
+    go : (a : Reading) → Answered a → a.verdict ≡ Err (refused_with f at) → a ≡ refused f at
     go _ (yes rest r) e = impossible (cc)
     go _ (no g p) e =
-        let is : g ≡ f = cc in
-        let there : p ≡ at = cc in
+        let (is, there) = same-fault e in
         rw (is, there)
 
 -- THE CAUSES for which the writer refuses: the first that holds of those that the paper lists for a record, each with the field or the group that it is about, in
 -- the order of judging (`causes_in`); "and 10 last", where "the buffer is shorter than the canonical text, and not otherwise".
 pub data Cause (chosen : Edition) (r : Report) (b : List ℕ) : Refusal → Type 0 where
   listed : (c : ListedCause Field) → First (causes_in chosen r) c → Cause chosen r b (refused_by c)
-  short-buffer : judge_in chosen r ≡ judged.Fine → length b < length (canonical_of r) → Cause chosen r b refusal.Room
+  short-buffer : judge_in chosen r ≡ Ok tt → length b < length (canonical_of r) → Cause chosen r b refusal.Room
 
-pub only-causes : (chosen : Edition) (r : Report) (b : List ℕ) (f : Refusal) → written_in chosen r (length b) ≡ answer.Refused f → Cause chosen r b f
+pub only-causes : (chosen : Edition) (r : Report) (b : List ℕ) (f : Refusal) → written_in chosen r (length b) ≡ Err f → Cause chosen r b f
 unfolding written_in judge_in canonical_of
 only-causes chosen r b f e = go (judge_in chosen r) refl e
   where
-    short : (c : Bool) → leb (length (canonical_of r)) (length b) ≡ c → judge_in chosen r ≡ judged.Fine
-        → cond c (answer.Count (length (canonical_of r))) (answer.Refused refusal.Room) ≡ answer.Refused f → Cause chosen r b f
+    short : (c : Bool) → leb (length (canonical_of r)) (length b) ≡ c → judge_in chosen r ≡ Ok tt
+        → cond c (Ok (length (canonical_of r))) (Err refusal.Room) ≡ Err f → Cause chosen r b f
     short true t j e = impossible (cc)
     short false t j e =
         let g : refusal.Room ≡ f = cc in
         rw (← g) (short-buffer j (leb-false (length (canonical_of r)) (length b) t))
 
-    go : (j : Judged) → judge_in chosen r ≡ j → answer_by j (canonical_of r) (length b) ≡ answer.Refused f → Cause chosen r b f
-    go judged.Fine j e = short (leb (length (canonical_of r)) (length b)) refl j e
-    go (judged.Refused g) j e =
+    go : (j : Result ⊤ Refusal) → judge_in chosen r ≡ j → answer_by j (canonical_of r) (length b) ≡ Err f → Cause chosen r b f
+    go (Ok tt) j e = short (leb (length (canonical_of r)) (length b)) refl j e
+    go (Err g) j e =
         let (c, x, is) = refused-for (report-judged chosen r) g j in
         let same : refused_by c ≡ f = cc in
         rw (← same) (listed c x)
 
 -- and where there is a cause, it refuses
-pub each-cause : (chosen : Edition) (r : Report) (b : List ℕ) (f : Refusal) → Cause chosen r b f → written_in chosen r (length b) ≡ answer.Refused f
+pub each-cause : (chosen : Edition) (r : Report) (b : List ℕ) (f : Refusal) → Cause chosen r b f → written_in chosen r (length b) ≡ Err f
 unfolding written_in judge_in canonical_of
 each-cause chosen r b _ (listed c x) = rw (first-refuses (report-judged chosen r) x)
 each-cause chosen r b _ (short-buffer j h) = rw (j, lt-leb (length (canonical_of r)) (length b) h)
 
 -- so for these causes and for nothing else
-pub listed-exactly : (chosen : Edition) (r : Report) (b : List ℕ) (f : Refusal) → Exactly (written_in chosen r (length b) ≡ answer.Refused f) (Cause chosen r b f)
+pub listed-exactly : (chosen : Edition) (r : Report) (b : List ℕ) (f : Refusal) → Exactly (written_in chosen r (length b) ≡ Err f) (Cause chosen r b f)
 listed-exactly chosen r b f = record { only = only-causes chosen r b f; all = each-cause chosen r b f }
 
 -- and where any of those listed holds, or the buffer is too short, it refuses
 pub any-listed : (chosen : Edition) (r : Report) (b : List ℕ) (c : ListedCause Field) → Holds (causes_in chosen r) c
-    → (f : Refusal) × (written_in chosen r (length b) ≡ answer.Refused f)
+    → (f : Refusal) × (written_in chosen r (length b) ≡ Err f)
 any-listed chosen r b c x = let (d, y) = some_first x in (refused_by d, each-cause chosen r b (refused_by d) (listed d y))
 
-pub any-short : (chosen : Edition) (r : Report) (b : List ℕ) → length b < length (canonical_of r) → (f : Refusal) × (written_in chosen r (length b) ≡ answer.Refused f)
+pub any-short : (chosen : Edition) (r : Report) (b : List ℕ) → length b < length (canonical_of r) → (f : Refusal) × (written_in chosen r (length b) ≡ Err f)
 unfolding written_in judge_in canonical_of
 any-short chosen r b h = go (judge_in chosen r) refl
   where
-    go : (j : Judged) → judge_in chosen r ≡ j → (f : Refusal) × (written_in chosen r (length b) ≡ answer.Refused f)
-    go judged.Fine j = (refusal.Room, each-cause chosen r b refusal.Room (short-buffer j h))
-    go (judged.Refused f) j = (f, rw j)
+    go : (j : Result ⊤ Refusal) → judge_in chosen r ≡ j → (f : Refusal) × (written_in chosen r (length b) ≡ Err f)
+    go (Ok tt) j = (refusal.Room, each-cause chosen r b refusal.Room (short-buffer j h))
+    go (Err f) j = (f, rw j)
 
 -- In the paper's numbers: a record is written (0), with no more bytes than the buffer has, or refused by 7, 10 or 11.
 pub record InBuffer (n : ℕ) (x : AnswerNumbers) : Type 0 where
@@ -248,59 +241,59 @@ pub record InBuffer (n : ℕ) (x : AnswerNumbers) : Type 0 where
 pub record-numbers : (chosen : Edition) (r : Report) (b : List ℕ) → InBuffer (length b) (written_numbers (written_in chosen r (length b)))
 record-numbers chosen r b = go (written_in chosen r (length b)) refl (buffer_in chosen r b) (every-record chosen r b)
   where
-    cause : {f : Refusal} → Cause chosen r b f → InBuffer (length b) (written_numbers (answer.Refused f))
+    cause : {f : Refusal} → Cause chosen r b f → InBuffer (length b) (written_numbers (Err f))
     cause (listed c x) =
-        seven-or-eleven (λ (f : Refusal). InBuffer (length b) (written_numbers (answer.Refused f)))
+        seven-or-eleven (λ (f : Refusal). InBuffer (length b) (written_numbers (Err f)))
         (record { number = refl; count = omega arith }) (record { number = refl; count = omega arith }) c
     cause (short-buffer j h) = record { number = refl; count = omega arith }
 
-    go : (w : Written) → written_in chosen r (length b) ≡ w → (l : List ℕ) → Settled chosen r b w l → InBuffer (length b) (written_numbers w)
+    go : (w : Result ℕ Refusal) → written_in chosen r (length b) ≡ w → (l : List ℕ) → Settled chosen r b w l → InBuffer (length b) (written_numbers w)
     go _ e _ (done j h) = record { number = refl; count = h }
     go _ e _ (unchanged f) = cause (only-causes chosen r b f e)
 
 -- the one canonical text is written wherever it has room
-pub one-text : (chosen : Edition) (r : Report) (b : List ℕ) → judge_in chosen r ≡ judged.Fine → length (canonical_of r) ≤ length b
-    → (written_in chosen r (length b) ≡ answer.Count (length (canonical_of r))) × (buffer_in chosen r b ≡ splice b 0 (canonical_of r))
+pub one-text : (chosen : Edition) (r : Report) (b : List ℕ) → judge_in chosen r ≡ Ok tt → length (canonical_of r) ≤ length b
+    → (written_in chosen r (length b) ≡ Ok (length (canonical_of r))) × (buffer_in chosen r b ≡ splice b 0 (canonical_of r))
 unfolding written_in buffer_in judge_in canonical_of
 one-text chosen r b e h = (rw (e, le-leb (length (canonical_of r)) (length b) h), rw (e, le-leb (length (canonical_of r)) (length b) h))
 
 -- so that the bytes counted are that text, and those past it are as they were
-left : (chosen : Edition) (r : Report) (b : List ℕ) → judge_in chosen r ≡ judged.Fine → length (canonical_of r) ≤ length b → buffer_in chosen r b ≡ canonical_of r ++ drop (length (canonical_of r)) b
+left : (chosen : Edition) (r : Report) (b : List ℕ) → judge_in chosen r ≡ Ok tt → length (canonical_of r) ≤ length b → buffer_in chosen r b ≡ canonical_of r ++ drop (length (canonical_of r)) b
 left chosen r b e h =
     let none : 0 + length (canonical_of r) ≡ length (canonical_of r) = omega arith in
     (one-text chosen r b e h).1 ∙ rw none at (splice-eq b 0 (canonical_of r) (omega arith))
 
-pub text-left : (chosen : Edition) (r : Report) (b : List ℕ) → judge_in chosen r ≡ judged.Fine → length (canonical_of r) ≤ length b → take (length (canonical_of r)) (buffer_in chosen r b) ≡ canonical_of r
+pub text-left : (chosen : Edition) (r : Report) (b : List ℕ) → judge_in chosen r ≡ Ok tt → length (canonical_of r) ≤ length b → take (length (canonical_of r)) (buffer_in chosen r b) ≡ canonical_of r
 text-left chosen r b e h = ap (take (length (canonical_of r))) (left chosen r b e h) ∙ take_at (canonical_of r) (drop (length (canonical_of r)) b) (length (canonical_of r)) refl
 
 -- The same of what `write` answered: where it is a count, the record is judged fine, its text has room, and the count is the text's length.
 pub record Counted (chosen : Edition) (r : Report) (b : List ℕ) (n : ℕ) : Type 0 where
-  pub fine : judge_in chosen r ≡ judged.Fine
+  pub fine : judge_in chosen r ≡ Ok tt
   pub room : length (canonical_of r) ≤ length b
   pub count : n ≡ length (canonical_of r)
 
-pub counted : (chosen : Edition) (r : Report) (b : List ℕ) (n : ℕ) → written_in chosen r (length b) ≡ answer.Count n → Counted chosen r b n
+pub counted : (chosen : Edition) (r : Report) (b : List ℕ) (n : ℕ) → written_in chosen r (length b) ≡ Ok n → Counted chosen r b n
 counted chosen r b n e = go (written_in chosen r (length b)) e (buffer_in chosen r b) (every-record chosen r b)
   where
-    go : (w : Written) → w ≡ answer.Count n → (l : List ℕ) → Settled chosen r b w l → Counted chosen r b n
+    go : (w : Result ℕ Refusal) → w ≡ Ok n → (l : List ℕ) → Settled chosen r b w l → Counted chosen r b n
     go _ e _ (done j h) = record { fine = j; room = h; count = cc }
     go _ e _ (unchanged f) = impossible (cc)
 
-pub counted-text : (chosen : Edition) (r : Report) (b : List ℕ) (n : ℕ) → written_in chosen r (length b) ≡ answer.Count n → take n (buffer_in chosen r b) ≡ canonical_of r
+pub counted-text : (chosen : Edition) (r : Report) (b : List ℕ) (n : ℕ) → written_in chosen r (length b) ≡ Ok n → take n (buffer_in chosen r b) ≡ canonical_of r
 counted-text chosen r b n e = let k = counted chosen r b n e in rw k.count (text-left chosen r b k.fine k.room)
 
 -- "success leaves the bytes past the text as they were"
-pub past-text : (chosen : Edition) (r : Report) (b : List ℕ) (n : ℕ) → written_in chosen r (length b) ≡ answer.Count n → drop n (buffer_in chosen r b) ≡ drop n b
+pub past-text : (chosen : Edition) (r : Report) (b : List ℕ) (n : ℕ) → written_in chosen r (length b) ≡ Ok n → drop n (buffer_in chosen r b) ≡ drop n b
 past-text chosen r b n e =
     let k = counted chosen r b n e in
     let text = canonical_of r in
     rw k.count (ap (drop (length text)) (left chosen r b k.fine k.room) ∙ drop_at text (drop (length text) b) (length text) refl)
 
 -- "A refusal writes nothing"
-pub refused-unchanged : (chosen : Edition) (r : Report) (b : List ℕ) (f : Refusal) → written_in chosen r (length b) ≡ answer.Refused f → buffer_in chosen r b ≡ b
+pub refused-unchanged : (chosen : Edition) (r : Report) (b : List ℕ) (f : Refusal) → written_in chosen r (length b) ≡ Err f → buffer_in chosen r b ≡ b
 refused-unchanged chosen r b f e = go (written_in chosen r (length b)) e (buffer_in chosen r b) (every-record chosen r b)
   where
-    go : (w : Written) → w ≡ answer.Refused f → (l : List ℕ) → Settled chosen r b w l → l ≡ b
+    go : (w : Result ℕ Refusal) → w ≡ Err f → (l : List ℕ) → Settled chosen r b w l → l ≡ b
     go _ e _ (done j h) = impossible (cc)
     go _ e _ (unchanged g) = refl
 
@@ -308,7 +301,7 @@ refused-unchanged chosen r b f e = go (written_in chosen r (length b)) e (buffer
 pub same_length : (chosen : Edition) (r : Report) (b : List ℕ) → length (buffer_in chosen r b) ≡ length b
 same_length chosen r b = go (written_in chosen r (length b)) (buffer_in chosen r b) (every-record chosen r b)
   where
-    go : (w : Written) (l : List ℕ) → Settled chosen r b w l → length l ≡ length b
+    go : (w : Result ℕ Refusal) (l : List ℕ) → Settled chosen r b w l → length l ≡ length b
     go _ _ (done j h) = length-splice b 0 (canonical_of r)
     go _ _ (unchanged f) = refl
 
@@ -334,10 +327,10 @@ pub record ComesBack (chosen : Edition) (r q : Report) : Type 0 where
   pub directions-near : EachRead DirectionNear (directions_of r) (directions_of q)
   -- written once more into any buffer that has room for those bytes, the same bytes; and read once more, the same record
   pub bytes : (b : List ℕ) → length (canonical_of r) ≤ length b
-      → (written_in chosen q (length b) ≡ answer.Count (length (canonical_of r))) × (buffer_in chosen q b ≡ splice b 0 (canonical_of r))
+      → (written_in chosen q (length b) ≡ Ok (length (canonical_of r))) × (buffer_in chosen q b ≡ splice b 0 (canonical_of r))
   pub again : back chosen q ≡ q
 
-module _ (chosen : Edition) (r : Report) (arrays : Arrays r) (fine : judge_in chosen r ≡ judged.Fine) where
+module _ (chosen : Edition) (r : Report) (arrays : Arrays r) (fine : judge_in chosen r ≡ Ok tt) where
   whole : read_in chosen (canonical_of r) ≡ accepted (length (canonical_of r)) (classed_of r)
   whole = comes_back (fair chosen r arrays fine)
 
@@ -345,7 +338,7 @@ module _ (chosen : Edition) (r : Report) (arrays : Arrays r) (fine : judge_in ch
   back_is = ap (λ (a : Reading). a.report) whole
 
   -- accepted, with no unread rest
-  pub accepted-whole : ((read_in chosen (canonical_of r)).verdict ≡ verdict.Accepted (length (canonical_of r))) × (rest_in chosen (canonical_of r) ≡ [])
+  pub accepted-whole : ((read_in chosen (canonical_of r)).verdict ≡ Ok (length (canonical_of r))) × (rest_in chosen (canonical_of r) ≡ [])
   unfolding rest_in rest_place_in
   accepted-whole = (rw whole, rw (whole, part-nothing (canonical_of r) (length (canonical_of r))))
 
@@ -380,12 +373,12 @@ module _ (chosen : Edition) (r : Report) (arrays : Arrays r) (fine : judge_in ch
 
   -- written once more into any buffer that has room for those bytes, the same bytes
   pub same_bytes : (b : List ℕ) → length (canonical_of r) ≤ length b
-      → (written_in chosen (back chosen r) (length b) ≡ answer.Count (length (canonical_of r))) × (buffer_in chosen (back chosen r) b ≡ splice b 0 (canonical_of r))
+      → (written_in chosen (back chosen r) (length b) ≡ Ok (length (canonical_of r))) × (buffer_in chosen (back chosen r) b ≡ splice b 0 (canonical_of r))
   same_bytes b h =
       let g = fair chosen r arrays fine in
       let again = text-again g in
       let (count, bytes) = one-text chosen (classed_of r) b (fine-again g) (rw again h) in (
-        ap (λ (q : Report). written_in chosen q (length b)) back_is ∙ count ∙ ap (λ (t : List ℕ). answer.Count (length t)) again,
+        ap (λ (q : Report). written_in chosen q (length b)) back_is ∙ count ∙ ap (λ (t : List ℕ). Ok (length t)) again,
         ap (λ (q : Report). buffer_in chosen q b) back_is ∙ bytes ∙ ap (splice b 0) again,
       )
 
@@ -418,7 +411,7 @@ pub record ReadWhole (chosen : Edition) (r : Report) (n : ℕ) (t : List ℕ) : 
   pub comes_back : ComesBack chosen r (read_in chosen t).report
 
 -- Where `write` answered the count n, the first n bytes of the buffer are such a text.
-module _ (chosen : Edition) (r : Report) (b : List ℕ) (n : ℕ) (arrays : Arrays r) (wrote : written_in chosen r (length b) ≡ answer.Count n) where
+module _ (chosen : Edition) (r : Report) (b : List ℕ) (n : ℕ) (arrays : Arrays r) (wrote : written_in chosen r (length b) ≡ Ok n) where
   pub written_read : read_in chosen (take n (buffer_in chosen r b)) ≡ accepted n (classed_of r)
   written_read =
       let k = counted chosen r b n wrote in
@@ -466,33 +459,33 @@ speed-above = speeds.speed-above
 -- Of any two values in one scale, from one accepted record or from two, the greater never comes back smaller: of records r and q, and r' and q' that come
 -- back of them.
 pub record OrderKept (r q r' q' : Report) : Type 0 where
-  pub numbers : (t : Table) → InOrder NumberOrder number.Missing (numbers_of t r) (numbers_of t q) (numbers_of t r') (numbers_of t q')
-  pub temperatures : InOrder TenthsOrder tenths.Missing (temperatures_of r) (temperatures_of q) (temperatures_of r') (temperatures_of q')
-  pub pressures : InOrder NumberOrder number.Missing (pressures_of r) (pressures_of q) (pressures_of r') (pressures_of q')
+  pub numbers : (t : Table) → InOrder NumberOrder None (numbers_of t r) (numbers_of t q) (numbers_of t r') (numbers_of t q')
+  pub temperatures : InOrder TenthsOrder None (temperatures_of r) (temperatures_of q) (temperatures_of r') (temperatures_of q')
+  pub pressures : InOrder NumberOrder None (pressures_of r) (pressures_of q) (pressures_of r') (pressures_of q')
   pub speeds : InOrder SpeedOrder no_unit_speed (speeds_of r) (speeds_of q) (speeds_of r') (speeds_of q')
   pub rains : InOrder RainOrder rain.Trace (rains_of r) (rains_of q) (rains_of r') (rains_of q')
 
 pub order-kept : {chosen : Edition} {r q r' q' : Report} → ComesBack chosen r r' → ComesBack chosen q q' → OrderKept r q r' q'
 order-kept {r = r} {q} a b =
     record {
-      numbers = λ t. rw (a.numbers t, b.numbers t) (in_order NumberOrder number.Missing (class_on t) refl (class-order t) (numbers_of t r) (numbers_of t q));
-      temperatures = rw (a.temperatures, b.temperatures) (in_order TenthsOrder tenths.Missing class_tenths refl temperature-order (temperatures_of r) (temperatures_of q));
-      pressures = rw (a.pressures, b.pressures) (in_order NumberOrder number.Missing class_pressure refl qnh-order (pressures_of r) (pressures_of q));
+      numbers = λ t. rw (a.numbers t, b.numbers t) (in_order NumberOrder None (class_on t) refl (class-order t) (numbers_of t r) (numbers_of t q));
+      temperatures = rw (a.temperatures, b.temperatures) (in_order TenthsOrder None class_tenths refl temperature-order (temperatures_of r) (temperatures_of q));
+      pressures = rw (a.pressures, b.pressures) (in_order NumberOrder None class_pressure refl qnh-order (pressures_of r) (pressures_of q));
       speeds = rw (a.speeds, b.speeds) (in_order SpeedOrder no_unit_speed class_unit_speed refl class-speed-order (speeds_of r) (speeds_of q));
       rains = rw (a.rains, b.rains) (in_order RainOrder rain.Trace rounded_rain trace-exact rain-order (rains_of r) (rains_of q));
     }
 
-module _ (chosen : Edition) (r q : Report) (arrays : Arrays r) (arrays' : Arrays q) (fine : judge_in chosen r ≡ judged.Fine) (fine' : judge_in chosen q ≡ judged.Fine) where
+module _ (chosen : Edition) (r q : Report) (arrays : Arrays r) (arrays' : Arrays q) (fine : judge_in chosen r ≡ Ok tt) (fine' : judge_in chosen q ≡ Ok tt) where
   orders : OrderKept r q (back chosen r) (back chosen q)
   orders = order-kept (all_back chosen r arrays fine) (all_back chosen q arrays' fine')
 
-  pub order : (t : Table) → InOrder NumberOrder number.Missing (numbers_of t r) (numbers_of t q) (numbers_of t (back chosen r)) (numbers_of t (back chosen q))
+  pub order : (t : Table) → InOrder NumberOrder None (numbers_of t r) (numbers_of t q) (numbers_of t (back chosen r)) (numbers_of t (back chosen q))
   order = orders.numbers
 
-  pub temperatures-order : InOrder TenthsOrder tenths.Missing (temperatures_of r) (temperatures_of q) (temperatures_of (back chosen r)) (temperatures_of (back chosen q))
+  pub temperatures-order : InOrder TenthsOrder None (temperatures_of r) (temperatures_of q) (temperatures_of (back chosen r)) (temperatures_of (back chosen q))
   temperatures-order = orders.temperatures
 
-  pub pressures-order : InOrder NumberOrder number.Missing (pressures_of r) (pressures_of q) (pressures_of (back chosen r)) (pressures_of (back chosen q))
+  pub pressures-order : InOrder NumberOrder None (pressures_of r) (pressures_of q) (pressures_of (back chosen r)) (pressures_of (back chosen q))
   pressures-order = orders.pressures
 
   pub speeds-order : InOrder SpeedOrder no_unit_speed (speeds_of r) (speeds_of q) (speeds_of (back chosen r)) (speeds_of (back chosen q))

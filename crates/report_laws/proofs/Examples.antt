@@ -1,6 +1,8 @@
 -- Worked examples: what some texts are read as, and what the records are written as. Each text gives its canonical text, or the refusal's number and
 -- place. And what is judged of some winds that stand in a record alone.
 -- Assumes nothing.
+use Rattle.std.specs.Prelude.{⊤, Err, None, Ok, Result}
+use Rattle.text.specs.declared.kinds.Refusal.{Refusal}
 use Prim.Native.Nat.{ℕ}
 use mathlib.Core.Path.{◌≡◌, refl}
 use mathlib.Core.Bool.{false}
@@ -8,9 +10,6 @@ use mathlib.Core.List.{List, [], ◌∷◌, ◌++◌, map}
 use Rattle.text.specs.Numbers.{verdict_numbers, written_numbers}
 use Rattle.text.specs.Example.{Example, reads, refuses, answer_to}
 use Rattle.text.specs.declared.kinds.Refusal.TheVariants as refusal
-use Rattle.text.specs.declared.kinds.Judged.{Judged}
-use Rattle.text.specs.declared.kinds.Judged.TheVariants as judged
-use Rattle.record.specs.declared.values.Number.TheVariants as number
 use Rattle.record.specs.declared.values.Direction.{Direction}
 use Rattle.record.specs.declared.values.Direction.TheVariants as direction
 use Rattle.record.specs.declared.values.Speed.{Speed}
@@ -220,25 +219,25 @@ worked = refl
 
 pub record WindExample : Type 0 where
   pub wind : Wind
-  pub answer : Judged
+  pub answer : Result ⊤ Refusal
 
-abbrev blows : Direction → Speed → Speed → Unit → Judged → WindExample
+abbrev blows : Direction → Speed → Speed → Unit → Result ⊤ Refusal → WindExample
 blows d s g u a = record { wind = record { direction = d; speed = s; gust = g; unit = u }; answer = a }
 
 -- as rulings 8.3 to 8.8 have them: "agreement being judged on the figures it would write", "a km/h number in a record may now be 0 to 999, else 11, as is
 -- "above" another figure"
 abbrev pub winds : List WindExample
 winds =
-    blows (direction.Degrees 270) (speed.Is 150) (speed.Is 120) unit.Knots judged.Fine
-    ∷ blows (direction.Degrees 270) (speed.Is 150) (speed.Is 99) unit.Knots (judged.Refused refusal.Disagreement)
-    ∷ blows (direction.Degrees 270) (speed.Above 99) (speed.Is 150) unit.Knots judged.Fine
-    ∷ blows (direction.Degrees 270) (speed.Above 99) (speed.Is 99) unit.Knots (judged.Refused refusal.Disagreement)
-    ∷ blows (direction.Degrees 270) (speed.Above 99) speed.Missing unit.MetresPerSecond (judged.Refused refusal.Value)
-    ∷ blows direction.Calm (speed.Above 99) speed.Missing unit.Knots (judged.Refused refusal.Disagreement)
-    ∷ blows direction.Calm (speed.Above 49) speed.Missing unit.Knots (judged.Refused refusal.Value)
-    ∷ blows direction.Missing (speed.Above 99) speed.Missing unit.Knots (judged.Refused refusal.Value)
-    ∷ blows (direction.Degrees 270) (speed.Is 999) speed.Missing unit.KilometresPerHour judged.Fine
-    ∷ blows (direction.Degrees 270) (speed.Is 200) speed.Missing unit.Knots (judged.Refused refusal.Value)
+    blows (direction.Degrees 270) (speed.Is 150) (speed.Is 120) unit.Knots (Ok tt)
+    ∷ blows (direction.Degrees 270) (speed.Is 150) (speed.Is 99) unit.Knots (Err refusal.Disagreement)
+    ∷ blows (direction.Degrees 270) (speed.Above 99) (speed.Is 150) unit.Knots (Ok tt)
+    ∷ blows (direction.Degrees 270) (speed.Above 99) (speed.Is 99) unit.Knots (Err refusal.Disagreement)
+    ∷ blows (direction.Degrees 270) (speed.Above 99) speed.Missing unit.MetresPerSecond (Err refusal.Value)
+    ∷ blows direction.Calm (speed.Above 99) speed.Missing unit.Knots (Err refusal.Disagreement)
+    ∷ blows direction.Calm (speed.Above 49) speed.Missing unit.Knots (Err refusal.Value)
+    ∷ blows direction.Missing (speed.Above 99) speed.Missing unit.Knots (Err refusal.Value)
+    ∷ blows (direction.Degrees 270) (speed.Is 999) speed.Missing unit.KilometresPerHour (Ok tt)
+    ∷ blows (direction.Degrees 270) (speed.Is 200) speed.Missing unit.Knots (Err refusal.Value)
     ∷ []
 
 pub worked-winds : map (λ (e : WindExample). wind.judge_wind false e.wind) winds ≡ map (λ (e : WindExample). e.answer) winds
@@ -246,6 +245,6 @@ unfolding wind.judge_wind
 worked-winds = refl
 
 -- "any "above" in a SYNOP or SHIP"
-pub no_above : surface-judge.judge_wind (record { cover = number.Missing; direction = direction.Calm; speed = speed.Above 99 }) ≡ judged.Refused refusal.Value
+pub no_above : surface-judge.judge_wind (record { cover = None; direction = direction.Calm; speed = speed.Above 99 }) ≡ Err refusal.Value
 unfolding surface-judge.judge_wind
 no_above = refl

@@ -1,6 +1,8 @@
 -- Why each kind's reader refuses a text, and where: the refusal is one of 1 to 9 and its place is within the text or at its end. What a group says is put
 -- together of fields that have to be numbers, of figures that have to be used and of agreements: each is the value, 5 or 7.
 -- Assumes nothing.
+use Rattle.std.specs.Prelude.{Err, None, Option, Result, Some}
+use Rattle.text.specs.declared.kinds.Refusal.{Refusal}
 use Prim.Native.Nat.{ℕ, ◌+◌, ◌≤◌}
 use mathlib.Core.Path.{refl}
 use mathlib.Core.Bool.{Bool, true, false, cond, ◌&&◌}
@@ -13,24 +15,15 @@ use Rattle.figures.specs.Quote.{bytes}
 use Rattle.figures.specs.declared.kinds.Field.{Field}
 use Rattle.figures.specs.declared.kinds.Field.TheVariants as field
 use Rattle.text.specs.declared.kinds.Refusal.TheVariants as refusal
-use Rattle.text.specs.declared.kinds.Tail.{Tail}
-use Rattle.text.specs.declared.kinds.Tail.TheVariants.{Clear, Junk}
 use Rattle.text.specs.declared.kinds.Bytes.{Bytes}
 use Rattle.text.specs.declared.kinds.Bytes.TheVariants as judgement
 use Rattle.text.specs.Groups.{Piece, groups_from}
 use Rattle.text.specs.Text.{bytes_of}
-use Rattle.scales.specs.declared.kinds.Reading.{Reading}
-use Rattle.scales.specs.declared.kinds.Reading.TheVariants as reading
-use Rattle.scales.specs.declared.kinds.Tenths.{Tenths}
-use Rattle.scales.specs.declared.kinds.Tenths.TheVariants as tenths
 use Rattle.scales.specs.declared.kinds.Rain.{Rain}
-use Rattle.scales.specs.declared.kinds.RainReading.{RainReading}
-use Rattle.scales.specs.declared.kinds.RainReading.TheVariants as amount
 use Rattle.shapes.specs.declared.kinds.Value.{Value}
 use Rattle.shapes.specs.Pattern.{has_pattern}
-use Rattle.places.specs.Engine.{Group, Read, Bad, then, Outcome}
+use Rattle.places.specs.Engine.{Group, then, Outcome}
 use Rattle.places.specs.Parts.{Word, Bars}
-use Rattle.record.specs.declared.values.Number.{Number}
 use Rattle.record.specs.declared.aerodrome.Unit as speed-unit
 use Rattle.record.specs.declared.aerodrome.Weather.{Weather}
 use Rattle.record.specs.declared.aerodrome.Sky.{Sky}
@@ -89,36 +82,36 @@ use Rattle.report_laws.proofs.Placed.{Each, ◌&◌, Fair, Fairly, good, bad, Pl
 
 -- ---- what a group says, put together
 module _ {A : Type 0} where
-  five : Fairly {R = A} (Bad refusal.Figure)
+  five : Fairly {R = A} (Err refusal.Figure)
   five = bad refusal.Figure refl
 
-  six : Fairly {R = A} (Bad refusal.Order)
+  six : Fairly {R = A} (Err refusal.Order)
   six = bad refusal.Order refl
 
-  seven : Fairly {R = A} (Bad refusal.Disagreement)
+  seven : Fairly {R = A} (Err refusal.Disagreement)
   seven = bad refusal.Disagreement refl
 
-  either : (b : Bool) {x y : Read A} → Fairly x → Fairly y → Fairly (cond b x y)
+  either : (b : Bool) {x y : Result A Refusal} → Fairly x → Fairly y → Fairly (cond b x y)
   either true p q = p
   either false p q = q
 
-  number : (f : Field) (k : ℕ → Read A) → ((n : ℕ) → Fairly (k n)) → Fairly (figured f k)
+  number : (f : Field) (k : ℕ → Result A Refusal) → ((n : ℕ) → Fairly (k n)) → Fairly (figured f k)
   number (field.Number n) k p = p n
   number field.Missing k p = five
   number field.Mixed k p = five
   number field.Other k p = five
 
-  number-or : (f : Field) (x : Read A) (k : ℕ → Read A) → Fairly x → ((n : ℕ) → Fairly (k n)) → Fairly (may_miss f x k)
+  number-or : (f : Field) (x : Result A Refusal) (k : ℕ → Result A Refusal) → Fairly x → ((n : ℕ) → Fairly (k n)) → Fairly (may_miss f x k)
   number-or (field.Number n) x k q p = p n
   number-or field.Missing x k q p = q
   number-or field.Mixed x k q p = five
   number-or field.Other x k q p = five
 
-  figure : (x : Reading) (k : ℕ → Read A) → ((n : ℕ) → Fairly (k n)) → Fairly (used x k)
-  figure (reading.Is n) k p = p n
-  figure reading.Unused k p = five
+  figure : (x : Option ℕ) (k : ℕ → Result A Refusal) → ((n : ℕ) → Fairly (k n)) → Fairly (used x k)
+  figure (Some n) k p = p n
+  figure None k p = five
 
-  after : {B : Type 0} {x : Read B} (k : B → Read A) → Fairly x → ((b : B) → Fairly (k b)) → Fairly (then x k)
+  after : {B : Type 0} {x : Result B Refusal} (k : B → Result A Refusal) → Fairly x → ((b : B) → Fairly (k b)) → Fairly (then x k)
   after k (good b) p = p b
   after k (bad f h) p = bad f h
 
@@ -158,11 +151,11 @@ unfolding weather.said_weather
 said-fair [] = five
 said-fair (b ∷ g) = search (told, unsigned-fair)
 
-unknown-fair : (automatic : Bool) (x : Read Weather) → Fairly x → Fairly (weather.unless_unknown automatic x)
+unknown-fair : (automatic : Bool) (x : Result Weather Refusal) → Fairly x → Fairly (weather.unless_unknown automatic x)
 unknown-fair automatic _ (good w) = search told
 unknown-fair automatic _ (bad f h) = bad f h
 
-plain-fair : (x : Read Weather) → Fairly x → Fairly (weather.only_plain x)
+plain-fair : (x : Result Weather Refusal) → Fairly x → Fairly (weather.only_plain x)
 plain-fair _ (good w) = search told
 plain-fair _ (bad f h) = bad f h
 
@@ -190,7 +183,7 @@ module _ (t : body.Terms) where
   visibility-place : FairPlace (body.visibility_place t)
   visibility-place k g b = let x = visibility-fair t.forecast g in search told
 
-  beside-fair : (b : Body) (x : Read Weather) → Fairly x → Fairly (body.beside_others b x)
+  beside-fair : (b : Body) (x : Result Weather Refusal) → Fairly x → Fairly (body.beside_others b x)
   beside-fair b _ (good w) = search told
   beside-fair b _ (bad f h) = bad f h
 
@@ -214,9 +207,9 @@ runway-fair : (g : Group) → Fairly (runway.read_runway g)
 unfolding runway.read_runway
 runway-fair g = search told depth 10
 
-degrees-fair : (x : Tenths) → Fairly (temperatures.degrees_is x)
-degrees-fair (tenths.Is t) = good _
-degrees-fair tenths.Unused = five
+degrees-fair : (x : Option ℤ) → Fairly (temperatures.degrees_is x)
+degrees-fair (Some t) = good _
+degrees-fair None = five
 
 temperatures-fair : (g : Group) → Fairly (temperatures.read_temperatures g)
 unfolding temperatures.read_temperatures
@@ -289,7 +282,7 @@ comes-fair : (t : Trend) (g : Group) → FairWord (trend.comes_to t g)
 unfolding trend.comes_to
 comes-fair t g = search (ends, opens, good, out_of_order, beside, word-either) depth 8
 
-module _ (n : ℕ) (tail : Tail) (end : ℕ) (w : TailWithin n tail) (h : end ≤ n) (gs : List Piece) (v : Within n gs) where
+module _ (n : ℕ) (tail : Option ℕ) (end : ℕ) (w : TailWithin n tail) (h : end ≤ n) (gs : List Piece) (v : Within n gs) where
   pub observed-placed : Placed n (metar.groups_read tail end gs)
   unfolding metar.groups_read
   observed-placed =
@@ -331,7 +324,7 @@ opened-fair edition.Of2005 g = search told depth 10
 leg-fair : (e : Edition) (p : Part) (takes : Leg → Taf) → FairPart (taf.part_in e p takes)
 leg-fair e p takes = record { row = part-row-fair e p; word = λ t g. opens (taf.opened_by e g) (opened-fair e g) }
 
-module _ (n : ℕ) (tail : Tail) (end : ℕ) (w : TailWithin n tail) (h : end ≤ n) (gs : List Piece) (v : Within n gs) where
+module _ (n : ℕ) (tail : Option ℕ) (end : ℕ) (w : TailWithin n tail) (h : end ≤ n) (gs : List Piece) (v : Within n gs) where
   pub forecast-placed : (e : Edition) → Placed n (taf.groups_read e tail end gs)
   unfolding taf.groups_read
   forecast-placed e = report-placed n tail end w h (taf.changes e) (λ t o. leg-fair e (taf.part_of o) _) 16 (taf.main_part e) (leg-fair e part.Main _) blank_leg gs v
@@ -376,17 +369,17 @@ module _ (s : Surface) where
   adds-missing field.Mixed x p = adds-wrong
   adds-missing field.Other x p = adds-wrong
 
-  adds-figure : (x : Reading) (k : ℕ → Said) → ((n : ℕ) → Adds (k n)) → Adds (surface.used x k)
-  adds-figure (reading.Is n) k p = p n
-  adds-figure reading.Unused k p = adds-wrong
+  adds-figure : (x : Option ℕ) (k : ℕ → Said) → ((n : ℕ) → Adds (k n)) → Adds (surface.used x k)
+  adds-figure (Some n) k p = p n
+  adds-figure None k p = adds-wrong
 
-  adds-tenths : (x : Tenths) (k : ℤ → Said) → ((n : ℤ) → Adds (k n)) → Adds (surface.used_tenths x k)
-  adds-tenths (tenths.Is n) k p = p n
-  adds-tenths tenths.Unused k p = adds-wrong
+  adds-tenths : (x : Option ℤ) (k : ℤ → Said) → ((n : ℤ) → Adds (k n)) → Adds (surface.used_tenths x k)
+  adds-tenths (Some n) k p = p n
+  adds-tenths None k p = adds-wrong
 
-  adds-rain : (x : RainReading) (k : Rain → Said) → ((r : Rain) → Adds (k r)) → Adds (surface.used_rain x k)
-  adds-rain (amount.Is r) k p = p r
-  adds-rain amount.Unused k p = adds-wrong
+  adds-rain : (x : Option Rain) (k : Rain → Said) → ((r : Rain) → Adds (k r)) → Adds (surface.used_rain x k)
+  adds-rain (Some r) k p = p r
+  adds-rain None k p = adds-wrong
 
 ruleset added = (good, adds-wrong, adds-disagrees, adds-either, adds-unless, adds-number, adds-number-or, adds-missing, adds-figure, adds-tenths, adds-rain)
 
@@ -446,7 +439,7 @@ told-fair : (s : Surface) (b : Bool) (x : Said) → Adds s x → FairTold (secti
 unfolding with_said
 told-fair s b (said.Refused f) p = refused p
   where
-    refused : Fairly {R = Surface} (Bad f) → Fair f
+    refused : Fairly {R = Surface} (Err f) → Fair f
     refused (bad _ h) = h
 told-fair s b (said.Time t) p = tt
 told-fair s b (said.Station n) p = tt
@@ -525,7 +518,7 @@ head-fair : (x : Said) (r : Synop) → Adds r.surface x → Fairly (synop.with_h
 unfolding synop.with_head
 head-fair x r p = go (with_said x r.surface) p
   where
-    go : (y : Read Surface) → Fairly y → Fairly (synop.onto_surface (set_site (synop.site_onto x r.site) r) y)
+    go : (y : Result Surface Refusal) → Fairly y → Fairly (synop.onto_surface (set_site (synop.site_onto x r.site) r) y)
     go _ (good a) = good _
     go _ (bad f h) = bad f h
 
@@ -546,22 +539,22 @@ posts-fair true =
     & (λ g r. head-fair _ r (wind-adds r.surface g))
     & tt
 
-module _ (n : ℕ) (tail : Tail) (end : ℕ) (w : TailWithin n tail) (h : end ≤ n) where
+module _ (n : ℕ) (tail : Option ℕ) (end : ℕ) (w : TailWithin n tail) (h : end ≤ n) where
   section-placed : (r : Synop) (gs : List Piece) → Within n gs → Placed n (section.section r tail end gs)
   unfolding section.section
   section-placed r gs v =
       report-placed n tail end w h section.parts (λ t o. record { row = third-row; word = λ u g. ends }) 1 _
       (record { row = section-row (synop-row.needs_of r.surface); word = λ u g. word-fair g }) r.surface gs v
 
-  short-placed : (u : Tail) → TailWithin n u → Placed n (synop.cut_short u end)
-  short-placed (Junk at) v = fault refusal.Shape at refl v
-  short-placed Clear v = fault refusal.Absence end refl h
+  short-placed : (u : Option ℕ) → TailWithin n u → Placed n (synop.cut_short u end)
+  short-placed (Some at) v = fault refusal.Shape at refl v
+  short-placed None v = fault refusal.Absence end refl h
 
-  nil-placed : (u : Tail) → TailWithin n u → (r : Synop) (gs : List Piece) → Within n gs → Placed n (synop.after_nil u end r gs)
-  nil-placed (Junk at) v r [] x = fault refusal.Shape at refl v
-  nil-placed Clear v r [] x = done end _ h
-  nil-placed (Junk at) v r (g ∷ gs) x = fault refusal.Shape g.start refl x.0
-  nil-placed Clear v r (g ∷ gs) x = fault refusal.Shape g.start refl x.0
+  nil-placed : (u : Option ℕ) → TailWithin n u → (r : Synop) (gs : List Piece) → Within n gs → Placed n (synop.after_nil u end r gs)
+  nil-placed (Some at) v r [] x = fault refusal.Shape at refl v
+  nil-placed None v r [] x = done end _ h
+  nil-placed (Some at) v r (g ∷ gs) x = fault refusal.Shape g.start refl x.0
+  nil-placed None v r (g ∷ gs) x = fault refusal.Shape g.start refl x.0
 
   placed-either : (b : Bool) {x y : Outcome Synop} → Placed n x → Placed n y → Placed n (cond b x y)
   placed-either true p q = p
@@ -575,7 +568,7 @@ module _ (n : ℕ) (tail : Tail) (end : ℕ) (w : TailWithin n tail) (h : end �
       placed-either (p.nil && synop.is_nil g.bytes) (nil-placed tail w r gs v.1)
       (placed-either (p.has g.bytes) (go (p.read g.bytes r) (fair.0 g.bytes r) (λ r'. walk-placed ps fair.1 r' gs v.1)) (fault refusal.Shape g.start refl v.0))
     where
-      go : (x : Read Synop) → Fairly x → ((r : Synop) → Placed n (synop.walk ps r tail end gs)) → Placed n (synop.onward x g.start (λ r'. synop.walk ps r' tail end gs))
+      go : (x : Result Synop Refusal) → Fairly x → ((r : Synop) → Placed n (synop.walk ps r tail end gs)) → Placed n (synop.onward x g.start (λ r'. synop.walk ps r' tail end gs))
       go _ (good a) k = k a
       go _ (bad f a) k = fault f g.start a v.0
 

@@ -1,6 +1,7 @@
 -- TAF, in either edition: THE CAUSES for which the writer refuses a record, in the order of judging, "foreign fields first, then the others in written order, 11
 -- before 7 at each".
 -- Assumes nothing.
+use Rattle.std.specs.Prelude.{Option}
 use Prim.Native.Nat.{ℕ, ◌+◌}
 use mathlib.Core.Bool.{Bool, true, false, cond, ◌&&◌, ◌||◌}
 use mathlib.Core.List.{List, [], ◌∷◌, ◌++◌}
@@ -9,7 +10,6 @@ use lib.Dec.{leb}
 use Rattle.figures.specs.Figures.{every}
 use Rattle.text.specs.declared.kinds.Refusal.TheVariants as refusal
 use Rattle.text.specs.Judge.{judge}
-use Rattle.record.specs.declared.values.Number.{Number}
 use Rattle.record.specs.declared.aerodrome.Instant.{Instant}
 use Rattle.record.specs.declared.aerodrome.Period.{Period}
 use Rattle.record.specs.declared.aerodrome.Opening.{Opening}
@@ -63,15 +63,15 @@ Causes = List (Asked Field)
 
 module _ (at : PartField → Field) where
   -- a day, where the form has one; where it has none, one that is there is out of place
-  abbrev day_fits : Bool → Number → Bool
+  abbrev day_fits : Bool → Option ℕ → Bool
   day_fits true n = present is_day n
   day_fits false n = is_missing n
 
-  abbrev day_causes : Bool → PartField → Number → Causes
+  abbrev day_causes : Bool → PartField → Option ℕ → Causes
   day_causes true f n = needed (at f) is_day n
   day_causes false f n = unless (is_missing n) (foreign (at f))
 
-  day-clear : (dated : Bool) (f : PartField) (n : Number) → Clears refusal.Value (day_fits dated n) (day_causes dated f n)
+  day-clear : (dated : Bool) (f : PartField) (n : Option ℕ) → Clears refusal.Value (day_fits dated n) (day_causes dated f n)
   day-clear true f n = clear-needed is_day n
   day-clear false f n = clear-unless (is_missing n)
 

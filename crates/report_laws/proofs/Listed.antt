@@ -1,6 +1,7 @@
 -- THE CAUSES for which the writer refuses a record, in the words of document 01's table of refusals, each with the field or the group that it is about; and
 -- what a list of them in the order of judging comes to.
 -- Assumes nothing.
+use Rattle.std.specs.Prelude.{⊤, Err, None, Ok, Option, Result, Some}
 use mathlib.Core.Path.{◌≡◌, refl, sym, ap, ◌∙◌}
 use mathlib.Core.Bool.{Bool, true, false, cond, not, ◌&&◌, ◌||◌}
 use mathlib.Core.List.{List, [], ◌∷◌, ◌++◌}
@@ -8,11 +9,7 @@ use Prim.Native.Nat.{ℕ, ◌+◌}
 use Rattle.figures.proofs.Impossible.{impossible}
 use Rattle.text.specs.declared.kinds.Refusal.{Refusal}
 use Rattle.text.specs.declared.kinds.Refusal.TheVariants as refusal
-use Rattle.text.specs.declared.kinds.Judged.{Judged}
-use Rattle.text.specs.declared.kinds.Judged.TheVariants as judged
 use Rattle.text.specs.Judge.{judge, and_then}
-use Rattle.record.specs.declared.values.Number.{Number}
-use Rattle.record.specs.declared.values.Number.TheVariants as number
 use Rattle.record.specs.Missing.{is_missing, present, optional}
 
 -- "writer: a value outside its range, a bad name, a required one missing, half of a pair, a count over its limit, a slot past its count or a field foreign to
@@ -32,9 +29,9 @@ pub data Asked (F : Type 0) : Type 0 where
   asked : ListedCause F → Bool → Asked F
 
 -- where a number is there and is not what it has to be
-abbrev pub strays : (ℕ → Bool) → Number → Bool
-strays ok number.Missing = false
-strays ok (number.Is n) = not (ok n)
+abbrev pub strays : (ℕ → Bool) → Option ℕ → Bool
+strays ok None = false
+strays ok (Some n) = not (ok n)
 
 -- a test, and that it does not fail
 pub twice : (b : Bool) → b ≡ (not (not b) && true)
@@ -64,19 +61,19 @@ module _ {F : Type 0} where
   seven-or-eleven P seven eleven (disagreeing f) = seven
 
   -- what the first cause that holds is refused by
-  abbrev pub first_of : List (Asked F) → Judged
-  first_of [] = judged.Fine
-  first_of (asked c h ∷ qs) = cond h (judged.Refused (refused_by c)) (first_of qs)
+  abbrev pub first_of : List (Asked F) → Result ⊤ Refusal
+  first_of [] = Ok tt
+  first_of (asked c h ∷ qs) = cond h (Err (refused_by c)) (first_of qs)
 
   -- the cause holds, where the test fails
   abbrev pub unless : Bool → ListedCause F → List (Asked F)
   unless test c = asked c (not test) ∷ []
 
   -- a number of a field that has to be there, and one that may be missing
-  abbrev pub needed : F → (ℕ → Bool) → Number → List (Asked F)
+  abbrev pub needed : F → (ℕ → Bool) → Option ℕ → List (Asked F)
   needed f ok n = asked (required-missing f) (is_missing n) ∷ asked (outside-its-range f) (strays ok n) ∷ []
 
-  abbrev pub free : F → (ℕ → Bool) → Number → List (Asked F)
+  abbrev pub free : F → (ℕ → Bool) → Option ℕ → List (Asked F)
   free f ok n = asked (outside-its-range f) (strays ok n) ∷ []
 
   -- a name, which has to be there and to be right
@@ -99,11 +96,11 @@ module _ {F : Type 0} where
   first_holds here = at
   first_holds (later x) = further (first_holds x)
 
-  pub first-refused : {qs : List (Asked F)} {c : ListedCause F} → First qs c → first_of qs ≡ judged.Refused (refused_by c)
+  pub first-refused : {qs : List (Asked F)} {c : ListedCause F} → First qs c → first_of qs ≡ Err (refused_by c)
   first-refused here = refl
   first-refused (later x) = first-refused x
 
-  pub refused-first : (qs : List (Asked F)) (f : Refusal) → first_of qs ≡ judged.Refused f → (c : ListedCause F) × First qs c × (refused_by c ≡ f)
+  pub refused-first : (qs : List (Asked F)) (f : Refusal) → first_of qs ≡ Err f → (c : ListedCause F) × First qs c × (refused_by c ≡ f)
   refused-first [] f e = impossible (cc)
   refused-first (asked c true ∷ qs) f e = (c, here, (cc))
   refused-first (asked c false ∷ qs) f e = let (d, x, is) = refused-first qs f e in (d, later x, is)
@@ -130,9 +127,9 @@ module _ {F : Type 0} where
     none : Alike f []
     one_more : {c : ListedCause F} {h : Bool} {qs : List (Asked F)} → refused_by c ≡ f → Alike f qs → Alike f (asked c h ∷ qs)
 
-  pub alike-first : {f : Refusal} {qs : List (Asked F)} → Alike f qs → first_of qs ≡ cond (clear qs) judged.Fine (judged.Refused f)
+  pub alike-first : {f : Refusal} {qs : List (Asked F)} → Alike f qs → first_of qs ≡ cond (clear qs) (Ok tt) (Err f)
   alike-first none = refl
-  alike-first (one_more {h = true} is x) = ap judged.Refused is
+  alike-first (one_more {h = true} is x) = ap Err is
   alike-first (one_more {h = false} is x) = alike-first x
 
   pub alike_both : {f : Refusal} {qs bs : List (Asked F)} → Alike f qs → Alike f bs → Alike f (qs ++ bs)
@@ -142,7 +139,7 @@ module _ {F : Type 0} where
   -- ---- a judgement and its list
 
   -- A judgement by a list of causes: it is what the first of them that holds is refused by.
-  pub record Judges (j : Judged) (qs : List (Asked F)) : Type 0 where
+  pub record Judges (j : Result ⊤ Refusal) (qs : List (Asked F)) : Type 0 where
     pub is : j ≡ first_of qs
 
   -- A test by a list of causes that are refused alike: it succeeds where none of them holds.
@@ -155,7 +152,7 @@ module _ {F : Type 0} where
   group-judges {qs} {bs} w a =
       record { is = rw (first_then qs bs, alike-first w.alike, alike-first a.alike, w.is, a.is) (go (clear qs) (clear bs)) }
     where
-      go : (v u : Bool) → judge v u ≡ and_then (cond v judged.Fine (judged.Refused refusal.Value)) (cond u judged.Fine (judged.Refused refusal.Disagreement))
+      go : (v u : Bool) → judge v u ≡ and_then (cond v (Ok tt) (Err refusal.Value)) (cond u (Ok tt) (Err refusal.Disagreement))
       go true u = refl
       go false u = refl
 
@@ -164,26 +161,26 @@ module _ {F : Type 0} where
   value-judges w = record { is = rw (alike-first w.alike, w.is) }
 
   -- EXACTLY: what is so judged is refused for the first cause of the list that holds, by its number, and for nothing else; where any of them holds, it is refused
-  module _ {j : Judged} {qs : List (Asked F)} (by : Judges j qs) where
-    pub refused-for : (f : Refusal) → j ≡ judged.Refused f → (c : ListedCause F) × First qs c × (refused_by c ≡ f)
+  module _ {j : Result ⊤ Refusal} {qs : List (Asked F)} (by : Judges j qs) where
+    pub refused-for : (f : Refusal) → j ≡ Err f → (c : ListedCause F) × First qs c × (refused_by c ≡ f)
     refused-for f e = refused-first qs f (sym by.is ∙ e)
 
-    pub first-refuses : {c : ListedCause F} → First qs c → j ≡ judged.Refused (refused_by c)
+    pub first-refuses : {c : ListedCause F} → First qs c → j ≡ Err (refused_by c)
     first-refuses x = by.is ∙ first-refused x
 
-    pub each-refuses : {c : ListedCause F} → Holds qs c → (d : ListedCause F) × First qs d × (j ≡ judged.Refused (refused_by d))
+    pub each-refuses : {c : ListedCause F} → Holds qs c → (d : ListedCause F) × First qs d × (j ≡ Err (refused_by d))
     each-refuses x = let (d, y) = some_first x in (d, y, first-refuses y)
 
   -- one judgement after another
-  pub in-turn : {qs bs : List (Asked F)} {x y : Judged} → Judges x qs → Judges y bs → Judges (and_then x y) (qs ++ bs)
+  pub in-turn : {qs bs : List (Asked F)} {x y : Result ⊤ Refusal} → Judges x qs → Judges y bs → Judges (and_then x y) (qs ++ bs)
   in-turn {qs} {bs} e g = record { is = rw (e.is, g.is) (sym (first_then qs bs)) }
 
   -- one or the other
-  pub chosen : (b : Bool) {qs bs : List (Asked F)} {x y : Judged} → Judges x qs → Judges y bs → Judges (cond b x y) (cond b qs bs)
+  pub chosen : (b : Bool) {qs bs : List (Asked F)} {x y : Result ⊤ Refusal} → Judges x qs → Judges y bs → Judges (cond b x y) (cond b qs bs)
   chosen true e g = e
   chosen false e g = g
 
-  pub no-cause : Judges judged.Fine []
+  pub no-cause : Judges (Ok tt) []
   no-cause = record { is = refl }
 
   -- ---- a test and its list
@@ -207,13 +204,13 @@ module _ {F : Type 0} where
   clear-asked true = record { alike = one_more refl none; is = refl }
   clear-asked false = record { alike = one_more refl none; is = refl }
 
-  pub clear-needed : {f : F} (ok : ℕ → Bool) (n : Number) → Clears refusal.Value (present ok n) (needed f ok n)
-  clear-needed ok number.Missing = record { alike = one_more refl (one_more refl none); is = refl }
-  clear-needed ok (number.Is n) = record { alike = one_more refl (one_more refl none); is = twice (ok n) }
+  pub clear-needed : {f : F} (ok : ℕ → Bool) (n : Option ℕ) → Clears refusal.Value (present ok n) (needed f ok n)
+  clear-needed ok None = record { alike = one_more refl (one_more refl none); is = refl }
+  clear-needed ok (Some n) = record { alike = one_more refl (one_more refl none); is = twice (ok n) }
 
-  pub clear-free : {f : F} (ok : ℕ → Bool) (n : Number) → Clears refusal.Value (optional ok n) (free f ok n)
-  clear-free ok number.Missing = record { alike = one_more refl none; is = refl }
-  clear-free ok (number.Is n) = record { alike = one_more refl none; is = twice (ok n) }
+  pub clear-free : {f : F} (ok : ℕ → Bool) (n : Option ℕ) → Clears refusal.Value (optional ok n) (free f ok n)
+  clear-free ok None = record { alike = one_more refl none; is = refl }
+  clear-free ok (Some n) = record { alike = one_more refl none; is = twice (ok n) }
 
   pub clear-named : {f : F} (missing right : Bool) → (missing ≡ true → right ≡ false) → Clears refusal.Value right (named f missing right)
   clear-named true right none-there = record { alike = one_more refl (one_more refl none); is = none-there refl }
@@ -264,10 +261,10 @@ module _ {F G : Type 0} (at : F → G) where
   same-refusal (foreign f) = refl
   same-refusal (disagreeing f) = refl
 
-  pub judges-within : {j : Judged} {qs : List (Asked F)} → Judges j qs → Judges j (within qs)
+  pub judges-within : {j : Result ⊤ Refusal} {qs : List (Asked F)} → Judges j qs → Judges j (within qs)
   judges-within {qs = qs} x = record { is = x.is ∙ go qs }
     where
       go : (qs : List (Asked F)) → first_of qs ≡ first_of (within qs)
       go [] = refl
-      go (asked c true ∷ qs) = ap judged.Refused (sym (same-refusal c))
+      go (asked c true ∷ qs) = ap Err (sym (same-refusal c))
       go (asked c false ∷ qs) = go qs

@@ -1,6 +1,7 @@
 -- The rounded numbers of a record, scale by scale in the order in which they are written, and what each is read back as.
 -- "The numbers scaled here are the rounded ones; all else in a record, missing, calm, variable and trace too, is carried exactly."
 -- Assumes nothing.
+use Rattle.std.specs.Prelude.{None, Option, Some}
 use Prim.Native.Nat.{ℕ, ◌≤◌}
 use mathlib.Core.Path.{◌≡◌, refl, sym, ap, ◌∙◌}
 use mathlib.Core.Bool.{Bool, true, false}
@@ -23,10 +24,6 @@ use Rattle.scales.proofs.DepthLaws.{depth-laws}
 use Rattle.scales.proofs.LayersLaws.{steps-laws, bands-laws}
 use Rattle.scales.proofs.DegreesLaws.{degrees-order}
 use Rattle.scales.proofs.PressureLaws.{pressure-order}
-use Rattle.record.specs.declared.values.Number.{Number}
-use Rattle.record.specs.declared.values.Number.TheVariants as number
-use Rattle.record.specs.declared.values.Tenths.{Tenths}
-use Rattle.record.specs.declared.values.Tenths.TheVariants as tenths
 use Rattle.record.specs.declared.values.Direction.{Direction}
 use Rattle.record.specs.declared.values.Direction.TheVariants as direction
 use Rattle.record.specs.declared.values.Speed.{Speed}
@@ -34,14 +31,12 @@ use Rattle.record.specs.declared.values.Speed.TheVariants as speed
 use Rattle.record.specs.declared.surface.Sight.{Sight}
 use Rattle.record.specs.declared.surface.Sight.TheVariants as sight
 use Rattle.record.specs.declared.surface.Fall.{Fall}
-use Rattle.record.specs.declared.surface.Fall.TheVariants as fall
 use Rattle.record.specs.declared.surface.BaseHeight.{BaseHeight}
 use Rattle.record.specs.declared.surface.BaseHeight.TheVariants as height
 use Rattle.record.specs.declared.surface.CloudLayer.{CloudLayer}
 use Rattle.record.specs.declared.surface.Surface.{Surface}
 use Rattle.record.specs.declared.surface.Synop.{Synop}
 use Rattle.record.specs.declared.aerodrome.Extremes.{Extremes}
-use Rattle.record.specs.declared.aerodrome.Extremes.TheVariants as extremes
 use Rattle.record.specs.declared.aerodrome.Unit.{Unit}
 use Rattle.record.specs.declared.aerodrome.Unit.TheVariants as unit
 use Rattle.record.specs.declared.aerodrome.View.{View}
@@ -145,27 +140,27 @@ laws_of bands = bands-laws
 abbrev pub foot_on : Table → ℕ → ℕ
 foot_on t m = foot_of (scale_of t) m
 
-abbrev pub class_on : Table → Number → Number
+abbrev pub class_on : Table → Option ℕ → Option ℕ
 class_on t = classes.class_on (scale_of t)
 
 -- ---- a record's numbers on each
 
-abbrev pub land_metres : Sight → Number
-land_metres sight.Missing = number.Missing
-land_metres (sight.Land m) = number.Is m
-land_metres (sight.Sea m) = number.Missing
+abbrev pub land_metres : Sight → Option ℕ
+land_metres sight.Missing = None
+land_metres (sight.Land m) = Some m
+land_metres (sight.Sea m) = None
 
-abbrev pub sea_metres : Sight → Number
-sea_metres sight.Missing = number.Missing
-sea_metres (sight.Land m) = number.Missing
-sea_metres (sight.Sea m) = number.Is m
+abbrev pub sea_metres : Sight → Option ℕ
+sea_metres sight.Missing = None
+sea_metres (sight.Land m) = None
+sea_metres (sight.Sea m) = Some m
 
-abbrev pub view_metres : View → Number
-view_metres view.Missing = number.Missing
-view_metres view.Cavok = number.Missing
-view_metres (view.Metres m) = number.Is m
+abbrev pub view_metres : View → Option ℕ
+view_metres view.Missing = None
+view_metres view.Cavok = None
+view_metres (view.Metres m) = Some m
 
-abbrev pub surface_numbers : Table → Surface → List Number
+abbrev pub surface_numbers : Table → Surface → List (Option ℕ)
 surface_numbers land s = land_metres s.indicators.sight ∷ []
 surface_numbers sea s = sea_metres s.indicators.sight ∷ []
 surface_numbers base s = s.indicators.base ∷ []
@@ -176,18 +171,18 @@ surface_numbers depth s = []
 surface_numbers steps s = []
 surface_numbers bands s = []
 
-abbrev pub steps_metres : BaseHeight → Number
-steps_metres height.Missing = number.Missing
-steps_metres (height.Steps m) = number.Is m
-steps_metres (height.Bands m) = number.Missing
+abbrev pub steps_metres : BaseHeight → Option ℕ
+steps_metres height.Missing = None
+steps_metres (height.Steps m) = Some m
+steps_metres (height.Bands m) = None
 
-abbrev pub bands_metres : BaseHeight → Number
-bands_metres height.Missing = number.Missing
-bands_metres (height.Steps m) = number.Missing
-bands_metres (height.Bands m) = number.Is m
+abbrev pub bands_metres : BaseHeight → Option ℕ
+bands_metres height.Missing = None
+bands_metres (height.Steps m) = None
+bands_metres (height.Bands m) = Some m
 
 -- of section 3: the heights of the layers that count
-abbrev pub section3_numbers : Table → List CloudLayer → List Number
+abbrev pub section3_numbers : Table → List CloudLayer → List (Option ℕ)
 section3_numbers land ls = []
 section3_numbers sea ls = []
 section3_numbers base ls = []
@@ -198,22 +193,22 @@ section3_numbers depth ls = []
 section3_numbers steps ls = map (λ (l : CloudLayer). steps_metres l.height) ls
 section3_numbers bands ls = map (λ (l : CloudLayer). bands_metres l.height) ls
 
-abbrev pub synop_numbers : Table → Synop → List Number
+abbrev pub synop_numbers : Table → Synop → List (Option ℕ)
 synop_numbers t r = surface_numbers t r.surface ++ section3_numbers t (take r.section3.layers.count r.section3.layers.items)
 
-abbrev pub vertical_of : Cover → Number
-vertical_of cover.Layers = number.Missing
-vertical_of cover.Clear = number.Missing
-vertical_of cover.NoneSignificant = number.Missing
-vertical_of cover.NoneDetected = number.Missing
+abbrev pub vertical_of : Cover → Option ℕ
+vertical_of cover.Layers = None
+vertical_of cover.Clear = None
+vertical_of cover.NoneSignificant = None
+vertical_of cover.NoneDetected = None
 vertical_of (cover.Vertical h) = h
 
 -- the vertical visibility and the layers stand on one scale
-abbrev pub sky_heights : Sky → List Number
+abbrev pub sky_heights : Sky → List (Option ℕ)
 sky_heights s = vertical_of s.cover ∷ map (λ (l : Layer). l.height) s.layers
 
 -- of a body: its visibility, its heights
-abbrev pub body_numbers : Table → Body → List Number
+abbrev pub body_numbers : Table → Body → List (Option ℕ)
 body_numbers land b = []
 body_numbers sea b = []
 body_numbers base b = []
@@ -225,21 +220,21 @@ body_numbers steps b = []
 body_numbers bands b = []
 
 -- of one body after the other
-abbrev pub bodies_numbers : Table → List Body → List Number
+abbrev pub bodies_numbers : Table → List Body → List (Option ℕ)
 bodies_numbers t [] = []
 bodies_numbers t (b ∷ bs) = body_numbers t b ++ bodies_numbers t bs
 
-abbrev pub millimetres : Depth → Number
-millimetres deep.Missing = number.Missing
-millimetres deep.Closed = number.Missing
-millimetres (deep.Millimetres m) = number.Is m
+abbrev pub millimetres : Depth → Option ℕ
+millimetres deep.Missing = None
+millimetres deep.Closed = None
+millimetres (deep.Millimetres m) = Some m
 
-abbrev pub depth_of : Condition → Number
-depth_of condition.Cleared = number.Missing
+abbrev pub depth_of : Condition → Option ℕ
+depth_of condition.Cleared = None
 depth_of (condition.Covered d e h b) = millimetres h
 
 -- of the runways: their visual ranges, the depths of their deposits
-abbrev pub runway_numbers : Table → Observation → List Number
+abbrev pub runway_numbers : Table → Observation → List (Option ℕ)
 runway_numbers land o = []
 runway_numbers sea o = []
 runway_numbers base o = []
@@ -254,42 +249,42 @@ runway_numbers bands o = []
 abbrev pub observed_bodies : Metar → List Body
 observed_bodies r = r.observation.body ∷ map (λ (c : TrendChange). c.body) r.trend.items
 
-abbrev pub observed_numbers : Table → Metar → List Number
+abbrev pub observed_numbers : Table → Metar → List (Option ℕ)
 observed_numbers t r = runway_numbers t r.observation ++ bodies_numbers t (observed_bodies r)
 
 -- the main part's body, then those of the changes
 abbrev pub forecast_bodies : Taf → List Body
 forecast_bodies t = t.leg.body ∷ map (λ (c : Change). c.body) t.changes.items
 
-abbrev pub forecast_numbers : Table → Taf → List Number
+abbrev pub forecast_numbers : Table → Taf → List (Option ℕ)
 forecast_numbers t r = bodies_numbers t (forecast_bodies r)
 
-abbrev pub numbers_by : Kind → Table → Report → List Number
+abbrev pub numbers_by : Kind → Table → Report → List (Option ℕ)
 numbers_by kind.Missing t r = []
 numbers_by kind.Surface t r = synop_numbers t r.surface
 numbers_by kind.Observed t r = observed_numbers t r.observed
 numbers_by kind.Forecast t r = forecast_numbers t r.forecast
 
-abbrev pub numbers_of : Table → Report → List Number
+abbrev pub numbers_of : Table → Report → List (Option ℕ)
 numbers_of t r = numbers_by r.kind t r
 
 -- aerodrome temperatures and dew points; Q; amounts of rain
-abbrev pub temperatures_by : Kind → Report → List Tenths
+abbrev pub temperatures_by : Kind → Report → List (Option ℤ)
 temperatures_by kind.Missing r = []
 temperatures_by kind.Surface r = []
 temperatures_by kind.Observed r = r.observed.observation.temperatures.air ∷ r.observed.observation.temperatures.dew ∷ []
 temperatures_by kind.Forecast r = []
 
-abbrev pub temperatures_of : Report → List Tenths
+abbrev pub temperatures_of : Report → List (Option ℤ)
 temperatures_of r = temperatures_by r.kind r
 
-abbrev pub pressures_by : Kind → Report → List Number
+abbrev pub pressures_by : Kind → Report → List (Option ℕ)
 pressures_by kind.Missing r = []
 pressures_by kind.Surface r = []
 pressures_by kind.Observed r = r.observed.observation.qnh.is ∷ []
 pressures_by kind.Forecast r = []
 
-abbrev pub pressures_of : Report → List Number
+abbrev pub pressures_of : Report → List (Option ℕ)
 pressures_of r = pressures_by r.kind r
 
 -- a speed with its unit, and its class; the mean and the gust of each body. In a SYNOP or SHIP speeds are carried exactly
@@ -316,9 +311,9 @@ speeds_of r = speeds_by r.kind r
 
 -- the directions: of a SYNOP or SHIP dd; of METAR, SPECI and TAF that of each body's wind, with the extremes between which an observed one varies. On a circle
 -- none is greater than another, so that no order is claimed of them.
-abbrev pub extreme_directions : Extremes → List Direction
-extreme_directions extremes.Missing = []
-extreme_directions (extremes.Between a b) = direction.Degrees a ∷ direction.Degrees b ∷ []
+abbrev pub extreme_directions : Option Extremes → List Direction
+extreme_directions None = []
+extreme_directions (Some x) = direction.Degrees x.from ∷ direction.Degrees x.to ∷ []
 
 abbrev pub trend_direction : TrendChange → Direction
 trend_direction c = c.body.wind.direction
@@ -341,9 +336,9 @@ directions_by kind.Forecast r = forecast_directions r.forecast
 abbrev pub directions_of : Report → List Direction
 directions_of r = directions_by r.kind r
 
-abbrev pub amount_of : Fall → List Rain
-amount_of fall.Missing = []
-amount_of (fall.Is a t) = a ∷ []
+abbrev pub amount_of : Option Fall → List Rain
+amount_of None = []
+amount_of (Some x) = x.amount ∷ []
 
 abbrev pub rains_by : Kind → Report → List Rain
 rains_by kind.Missing r = []
@@ -465,8 +460,8 @@ pub synop-numbers : (t : Table) (r q : Synop) → q.surface.indicators.sight ≡
     → synop_numbers t q ≡ map (class_on t) (synop_numbers t r)
 synop-numbers t r q e f layers =
     let counted = take r.section3.layers.count r.section3.layers.items in
-    ap (λ (l : List Number). l ++ section3_numbers t (take q.section3.layers.count q.section3.layers.items)) (surface-numbers t r.surface q.surface e f)
-    ∙ ap (λ (l : List Number). map (class_on t) (surface_numbers t r.surface) ++ l) (ap (section3_numbers t) layers ∙ section3-is t counted)
+    ap (λ (l : List (Option ℕ)). l ++ section3_numbers t (take q.section3.layers.count q.section3.layers.items)) (surface-numbers t r.surface q.surface e f)
+    ∙ ap (λ (l : List (Option ℕ)). map (class_on t) (surface_numbers t r.surface) ++ l) (ap (section3_numbers t) layers ∙ section3-is t counted)
     ∙ sym (map-append (class_on t) (surface_numbers t r.surface) (section3_numbers t counted))
 
 -- a body and those of the changes, each read back as its class
@@ -492,8 +487,8 @@ pub observed-numbers : (t : Table) (r q : Metar) → q.observation.runways.items
     → observed_bodies q ≡ map class_body (observed_bodies r) → observed_numbers t q ≡ map (class_on t) (observed_numbers t r)
 observed-numbers t r q e f bodies =
     let runways = runway_numbers t r.observation in
-    ap (λ (l : List Number). l ++ bodies_numbers t (observed_bodies q)) (runway-is t r.observation q.observation e f)
-    ∙ ap (λ (l : List Number). map (class_on t) runways ++ l) (ap (bodies_numbers t) bodies ∙ bodies-is t (observed_bodies r))
+    ap (λ (l : List (Option ℕ)). l ++ bodies_numbers t (observed_bodies q)) (runway-is t r.observation q.observation e f)
+    ∙ ap (λ (l : List (Option ℕ)). map (class_on t) runways ++ l) (ap (bodies_numbers t) bodies ∙ bodies-is t (observed_bodies r))
     ∙ sym (map-append (class_on t) runways (bodies_numbers t (observed_bodies r)))
 
 pub forecast-numbers : (t : Table) (r q : Taf) → forecast_bodies q ≡ map class_body (forecast_bodies r) → forecast_numbers t q ≡ map (class_on t) (forecast_numbers t r)
@@ -506,9 +501,9 @@ each-speed (b ∷ bs) = rw (each-speed bs)
 pub bodies-speeds : (bs cs : List Body) → cs ≡ map class_body bs → bodies_speeds cs ≡ map class_unit_speed (bodies_speeds bs)
 bodies-speeds bs cs e = ap bodies_speeds e ∙ each-speed bs
 
-extremes-is : (x : Extremes) → extreme_directions (class_extremes x) ≡ map classes.class_direction (extreme_directions x)
-extremes-is extremes.Missing = refl
-extremes-is (extremes.Between a b) = refl
+extremes-is : (x : Option Extremes) → extreme_directions (class_extremes x) ≡ map classes.class_direction (extreme_directions x)
+extremes-is None = refl
+extremes-is (Some x) = refl
 
 -- the direction of a change's wind is read back as its class
 pub trend-direction : (c : TrendChange) → trend_direction (trend.class_change c) ≡ classes.class_direction (trend_direction c)
@@ -532,9 +527,9 @@ pub forecast-directions : (r q : Taf) → q.leg.body.wind.direction ≡ classes.
 forecast-directions r q e g =
     rw (e, g, map-square change_direction (class_change r.edition) classes.class_direction (change-direction r.edition) r.changes.items)
 
-pub amount-is : (f : Fall) → amount_of (class_fall f) ≡ map rounded_rain (amount_of f)
-amount-is fall.Missing = refl
-amount-is (fall.Is a t) = refl
+pub amount-is : (f : Option Fall) → amount_of (class_fall f) ≡ map rounded_rain (amount_of f)
+amount-is None = refl
+amount-is (Some x) = refl
 
 -- ---- how far off, on each scale
 
@@ -550,11 +545,11 @@ pub order-on : (t : Table) (v w : ℕ) → v ≤ w → foot_on t v ≤ foot_on t
 order-on t v w h = (laws_of t).order v w h
 
 -- the one is not above the other; both are there
-pub data NumberOrder : Number → Number → Type 0 where
-  numbers : {m n : ℕ} → m ≤ n → NumberOrder (number.Is m) (number.Is n)
+pub data NumberOrder : Option ℕ → Option ℕ → Type 0 where
+  numbers : {m n : ℕ} → m ≤ n → NumberOrder (Some m) (Some n)
 
-pub data TenthsOrder : Tenths → Tenths → Type 0 where
-  in-tenths : {t u : ℤ} → le_z t u ≡ true → TenthsOrder (tenths.Is t) (tenths.Is u)
+pub data TenthsOrder : Option ℤ → Option ℤ → Type 0 where
+  in-tenths : {t u : ℤ} → le_z t u ≡ true → TenthsOrder (Some t) (Some u)
 
 -- "the comparison is made within a unit": "above" a number is "greater than each number up to it"
 pub data SpeedOrder : UnitSpeed → UnitSpeed → Type 0 where
@@ -565,13 +560,13 @@ pub data SpeedOrder : UnitSpeed → UnitSpeed → Type 0 where
 abbrev pub RainOrder : Rain → Rain → Type 0
 RainOrder a b = rain_rank a ≤ rain_rank b
 
-pub class-order : (t : Table) (a b : Number) → NumberOrder a b → NumberOrder (class_on t a) (class_on t b)
+pub class-order : (t : Table) (a b : Option ℕ) → NumberOrder a b → NumberOrder (class_on t a) (class_on t b)
 class-order t _ _ (numbers {m} {n} h) = numbers (order-on t m n h)
 
-pub temperature-order : (a b : Tenths) → TenthsOrder a b → TenthsOrder (class_tenths a) (class_tenths b)
+pub temperature-order : (a b : Option ℤ) → TenthsOrder a b → TenthsOrder (class_tenths a) (class_tenths b)
 temperature-order _ _ (in-tenths {t} {u} h) = in-tenths (degrees-order t u h)
 
-pub qnh-order : (a b : Number) → NumberOrder a b → NumberOrder (class_pressure a) (class_pressure b)
+pub qnh-order : (a b : Option ℕ) → NumberOrder a b → NumberOrder (class_pressure a) (class_pressure b)
 qnh-order _ _ (numbers {m} {n} h) = numbers (pressure-order m n h)
 
 pub class-speed-order : (a b : UnitSpeed) → SpeedOrder a b → SpeedOrder (class_unit_speed a) (class_unit_speed b)

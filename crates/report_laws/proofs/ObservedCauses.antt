@@ -1,6 +1,7 @@
 -- METAR and SPECI: THE CAUSES for which the writer refuses a record, in the order of judging, "foreign fields first, then the others in written order, 11 before
 -- 7 at each".
 -- Assumes nothing.
+use Rattle.std.specs.Prelude.{None, Option, Some}
 use Prim.Native.Nat.{ℕ, ◌+◌}
 use mathlib.Core.Path.{refl}
 use mathlib.Core.Bool.{Bool, true, false, cond, not, ◌&&◌, ◌||◌}
@@ -10,17 +11,13 @@ use lib.Dec.{leb, eqb}
 use Rattle.figures.specs.Figures.{every}
 use Rattle.text.specs.declared.kinds.Refusal.TheVariants as refusal
 use Rattle.text.specs.Judge.{judge}
-use Rattle.record.specs.declared.values.Number.{Number}
-use Rattle.record.specs.declared.values.Number.TheVariants as number
 use Rattle.record.specs.declared.aerodrome.Extremes.{Extremes}
-use Rattle.record.specs.declared.aerodrome.Extremes.TheVariants as extremes
 use Rattle.record.specs.declared.aerodrome.Variation.{Variation}
 use Rattle.record.specs.declared.aerodrome.Runway.{Runway}
 use Rattle.record.specs.declared.aerodrome.Runways.{Runways}
 use Rattle.record.specs.declared.aerodrome.Temperatures.{Temperatures}
 use Rattle.record.specs.declared.aerodrome.Qnh.{Qnh}
 use Rattle.record.specs.declared.aerodrome.Phenomena.{Phenomena}
-use Rattle.record.specs.declared.aerodrome.Phenomena.TheVariants as phenomena
 use Rattle.record.specs.declared.aerodrome.Weather.{Weather}
 use Rattle.record.specs.declared.aerodrome.Weathers.{Weathers}
 use Rattle.record.specs.declared.aerodrome.Condition.{Condition}
@@ -87,19 +84,19 @@ Causes = List (Asked Field)
 
 -- ---- the observation, beside its body
 
-abbrev variation_causes : Extremes → Causes
-variation_causes extremes.Missing = []
-variation_causes (extremes.Between a b) =
-    (unless (leb a 359) (outside-its-range variation) ++ unless (leb b 359) (outside-its-range variation)) ++ unless (not (eqb (ddd_figure a) (ddd_figure b))) (disagreeing variation)
+abbrev variation_causes : Option Extremes → Causes
+variation_causes None = []
+variation_causes (Some x) =
+    (unless (leb x.from 359) (outside-its-range variation) ++ unless (leb x.to 359) (outside-its-range variation)) ++ unless (not (eqb (ddd_figure x.from) (ddd_figure x.to))) (disagreeing variation)
 
 variation-judged : (v : Variation) → Judges (judge_variation v) (variation_causes v.is)
 unfolding judge_variation
 variation-judged v = go v.is
   where
-    go : (x : Extremes) → Judges (judge (extremes_fit x) (extremes_agree x)) (variation_causes x)
-    go extremes.Missing = no-cause
-    go (extremes.Between a b) =
-        group-judges (both-clear (clear-unless (leb a 359)) (clear-unless (leb b 359))) (clear-unless {c = disagreeing variation} (not (eqb (ddd_figure a) (ddd_figure b))))
+    go : (x : Option Extremes) → Judges (judge (extremes_fit x) (extremes_agree x)) (variation_causes x)
+    go None = no-cause
+    go (Some x) =
+        group-judges (both-clear (clear-unless (leb x.from 359)) (clear-unless (leb x.to 359))) (clear-unless {c = disagreeing variation} (not (eqb (ddd_figure x.from) (ddd_figure x.to))))
 
 abbrev range_right : ℕ → Bool
 range_right m = leb m 99999
@@ -107,9 +104,9 @@ range_right m = leb m 99999
 abbrev runway_causes : ℕ → Runway → Causes
 runway_causes n w = needed (runway-of-range n) (between 1 36) w.number ++ free (runway-range n) range_right w.range
 
-range-fits : (n : Number) {f : Field} → Clears refusal.Value (metres_fit false n) (free f range_right n)
-range-fits number.Missing = record { alike = one_more refl none; is = refl }
-range-fits (number.Is m) = record { alike = one_more refl none; is = twice (leb m 99999) }
+range-fits : (n : Option ℕ) {f : Field} → Clears refusal.Value (metres_fit false n) (free f range_right n)
+range-fits None = record { alike = one_more refl none; is = refl }
+range-fits (Some m) = record { alike = one_more refl none; is = twice (leb m 99999) }
 
 each-runway : (n : ℕ) (ws : List Runway) → Judges (judge_each_runway ws) (each_from runway_causes n ws)
 each-runway n [] = no-cause
@@ -137,10 +134,10 @@ unfolding judge_qnh
 qnh-judged q = value-judges (clear-free is_pressure q.is)
 
 -- "RE groups carry no sign and no VC (5)", and a missing one says nothing; UP without AUTO is 7
-abbrev recent_right : ℕ → Phenomena → Causes
-recent_right n phenomena.Missing = asked (required-missing (recent-weather n)) true ∷ []
-recent_right n (phenomena.Is i d a b c) =
-    unless (weathers.phenomena_fit (phenomena.Is i d a b c)) (outside-its-range (recent-weather n)) ++ unless (weathers.is_plain (phenomena.Is i d a b c)) (outside-its-range (recent-weather n))
+abbrev recent_right : ℕ → Option Phenomena → Causes
+recent_right n None = asked (required-missing (recent-weather n)) true ∷ []
+recent_right n (Some x) =
+    unless (weathers.phenomena_fit (Some x)) (outside-its-range (recent-weather n)) ++ unless (weathers.is_plain (Some x)) (outside-its-range (recent-weather n))
 
 abbrev recent_causes : Bool → ℕ → Weather → Causes
 recent_causes automatic n w = recent_right n w.is ++ unless (automatic || not (weathers.has_unknown w.is)) (disagreeing (recent-weather n))
@@ -149,9 +146,9 @@ recent-judged : (automatic : Bool) (n : ℕ) (w : Weather) → Judges (weathers.
 unfolding weathers.judge_recent
 recent-judged automatic n w = group-judges (go w.is) (clear-unless {c = disagreeing (recent-weather n)} (automatic || not (weathers.has_unknown w.is)))
   where
-    go : (x : Phenomena) → Clears refusal.Value (weathers.phenomena_fit x && weathers.is_plain x) (recent_right n x)
-    go phenomena.Missing = clear-asked true
-    go (phenomena.Is i d a b c) = both-clear (clear-unless (weathers.phenomena_fit (phenomena.Is i d a b c))) (clear-unless (weathers.is_plain (phenomena.Is i d a b c)))
+    go : (x : Option Phenomena) → Clears refusal.Value (weathers.phenomena_fit x && weathers.is_plain x) (recent_right n x)
+    go None = clear-asked true
+    go (Some x) = both-clear (clear-unless (weathers.phenomena_fit (Some x))) (clear-unless (weathers.is_plain (Some x)))
 
 each-recent : (automatic : Bool) (n : ℕ) (ws : List Weather) → Judges (weathers.judge_each (weathers.judge_recent automatic) ws) (each_from (recent_causes automatic) n ws)
 each-recent automatic n [] = no-cause

@@ -1,6 +1,7 @@
 -- Where a reading ends, for any row: its refusal is one of 1 to 9, and its place, or where the unread rest begins, is at most the text's length. It holds
 -- of a reading if it holds of what each place says of a group (`Fairly`), of the groups' places (`Within`) and of what follows the "=".
 -- Assumes nothing.
+use Rattle.std.specs.Prelude.{Err, None, Ok, Option, Result, Some}
 use Prim.Native.Nat.{ℕ, zero, suc, ◌+◌, ◌≤◌}
 use mathlib.Core.Path.{◌≡◌, refl}
 use mathlib.Core.Bool.{Bool, true, false, cond, ◌||◌}
@@ -11,8 +12,6 @@ use lib.Dec.{leb, ltb, eqb}
 use borrow.Author.Tests.{leb-true, leb-false, ltb-true}
 use Rattle.text.specs.declared.kinds.Refusal.{Refusal}
 use Rattle.text.specs.declared.kinds.Refusal.TheVariants as refusal
-use Rattle.text.specs.declared.kinds.Tail.{Tail}
-use Rattle.text.specs.declared.kinds.Tail.TheVariants.{Clear, Junk}
 use Rattle.text.specs.declared.kinds.Bytes.{Bytes}
 use Rattle.text.specs.declared.kinds.Bytes.TheVariants as judgement
 use Rattle.text.specs.Refusals.{number_of}
@@ -22,7 +21,7 @@ use Rattle.text.specs.Text.{equals_at, bytes_of, junk_from, tail_of}
 use Rattle.places.specs.declared.kinds.Found.{Found}
 use Rattle.places.specs.declared.kinds.Found.TheVariants.{Take, Skips, Full, Earlier, Unknown}
 use Rattle.places.specs.Seek.{find_of}
-use Rattle.places.specs.Engine.{Group, Read, Good, Bad, Place, place_at, stands_of, taken, judged, Step, On, Halt, Stop, Outcome, Done, Fault, finish}
+use Rattle.places.specs.Engine.{Group, Place, place_at, stands_of, taken, judged, Step, On, Halt, Stop, Outcome, Done, Fault, finish}
 use Rattle.places.specs.Parts.{Exits, step_by, carry_to, run_to, Begun, Word, Ends, Opens, Bars, Part, Parts, Further, turned, ended, unless, owes, part_exits, part_from, after_first, begins, further, report_of}
 
 -- something of each element of a list, in its order
@@ -54,9 +53,9 @@ one-or-more refusal.Value = omega arith
 one-or-more refusal.Times = omega arith
 
 -- what is read of a group: the value, or such a refusal
-pub data Fairly {R : Type 0} : Read R → Type 0 where
-  good : (r : R) → Fairly (Good r)
-  bad : (f : Refusal) → Fair f → Fairly (Bad f)
+pub data Fairly {R : Type 0} : Result R Refusal → Type 0 where
+  good : (r : R) → Fairly (Ok r)
+  bad : (f : Refusal) → Fair f → Fairly (Err f)
 
 -- what a reading comes to in a text of n bytes
 pub data Placed {R : Type 0} (n : ℕ) : Outcome R → Type 0 where
@@ -78,9 +77,9 @@ abbrev pub Within : ℕ → List Piece → Type 0
 Within n [] = Unit {0}
 Within n (g ∷ gs) = (g.start ≤ n) × Within n gs
 
-abbrev pub TailWithin : ℕ → Tail → Type 0
-TailWithin n Clear = Unit {0}
-TailWithin n (Junk at) = at ≤ n
+abbrev pub TailWithin : ℕ → Option ℕ → Type 0
+TailWithin n None = Unit {0}
+TailWithin n (Some at) = at ≤ n
 
 in_within : (n p s : ℕ) (xs : List ℕ) → p + length xs ≤ n → Within n (groups_in p s xs)
 unfolding groups_in
@@ -108,7 +107,7 @@ pub tail_within : (t : List ℕ) → TailWithin (length t) (tail_of t)
 unfolding tail_of junk_from
 tail_within t = go (past_parting t (equals_at t + 1)) (ltb (past_parting t (equals_at t + 1)) (length t)) refl
   where
-    go : (p : ℕ) (b : Bool) → ltb p (length t) ≡ b → TailWithin (length t) (cond b (Junk p) Clear)
+    go : (p : ℕ) (b : Bool) → ltb p (length t) ≡ b → TailWithin (length t) (cond b (Some p) None)
     go p true e = omega (arith, ltb-true p (length t) e)
     go p false e = tt
 
@@ -145,7 +144,7 @@ module _ {R : Type 0} where
   FairStep Halt = Unit {0}
   FairStep (Stop f) = Fair f
 
-  taken-fair : (i n : ℕ) (x : Read R) → Fairly x → FairStep (taken i n x)
+  taken-fair : (i n : ℕ) (x : Result R Refusal) → Fairly x → FairStep (taken i n x)
   taken-fair i n _ (good r) = tt
   taken-fair i n _ (bad f h) = h
 
@@ -187,25 +186,25 @@ module _ {T : Type 0} (n : ℕ) where
   unless-placed true at h p = fault refusal.Absence at refl h
   unless-placed false at h p = p
 
-  ended-placed : (tail : Tail) (end : ℕ) → TailWithin n tail → end ≤ n → (owes : Bool) (t : T) → Placed n (ended tail end owes t)
-  ended-placed (Junk at) end w h owes t = fault refusal.Shape at refl w
-  ended-placed Clear end w h owes t = finish-placed owes end t h
+  ended-placed : (tail : Option ℕ) (end : ℕ) → TailWithin n tail → end ≤ n → (owes : Bool) (t : T) → Placed n (ended tail end owes t)
+  ended-placed (Some at) end w h owes t = fault refusal.Shape at refl w
+  ended-placed None end w h owes t = finish-placed owes end t h
 
 -- ---- a report of parts
 
 -- what a word comes to: it ends the reading, opens a part or is refused, each by a reader's refusal
 pub data FairWord {W P : Type 0} : Word W P → Type 0 where
   ends : FairWord Ends
-  opens : (x : Read (Begun W P)) → Fairly x → FairWord (Opens x)
+  opens : (x : Result (Begun W P) Refusal) → Fairly x → FairWord (Opens x)
   bars : (f : Refusal) → Fair f → FairWord (Bars f)
 
 pub record FairPart {T P W R : Type 0} (part : Part T P W R) : Type 0 where
   pub row : FairRow part.row
   pub word : (t : T) (g : Group) → FairWord (part.word t g)
 
-module _ {T P W : Type 0} (n : ℕ) (tail : Tail) (end : ℕ) (w : TailWithin n tail) (h : end ≤ n) where
+module _ {T P W : Type 0} (n : ℕ) (tail : Option ℕ) (end : ℕ) (w : TailWithin n tail) (h : end ≤ n) where
   abbrev FairFurther : Further T P W → Type 0
-  FairFurther f = (t : T) (g : Piece) (x : Read (Begun W P)) (gs : List Piece) → g.start ≤ n → Fairly x → Within n gs → Placed n (f t g x gs)
+  FairFurther f = (t : T) (g : Piece) (x : Result (Begun W P) Refusal) (gs : List Piece) → g.start ≤ n → Fairly x → Within n gs → Placed n (f t g x gs)
 
   turned-placed : (f : Further T P W) → FairFurther f → (t : T) (g : Piece) (gs : List Piece) → g.start ≤ n → Within n gs → (x : Word W P) → FairWord x → Placed n (turned f t g gs x)
   turned-placed f fair t g gs u v _ ends = done g.start t u

@@ -2,6 +2,7 @@
 -- that is of a kind, answers it with one record or one text, writes nothing of it and says done, or goes by the first group alone. And no such function refuses
 -- more than it may, whatever the text or the record.
 -- Assumes nothing.
+use Rattle.std.specs.Prelude.{Err, Ok, Result}
 use Prim.Native.Nat.{ℕ, ◌≤◌}
 use Prim.Native.String.{String}
 use native.Mathlib.Omega.{arith}
@@ -14,11 +15,7 @@ use lib.Seq.{drop_at}
 use Rattle.figures.specs.Quote.{bytes}
 use Rattle.figures.specs.Put.{splice}
 use Rattle.text.specs.declared.kinds.Refusal.{Refusal}
-use Rattle.text.specs.declared.kinds.Judged.TheVariants as judged
-use Rattle.text.specs.declared.kinds.Verdict.{Verdict}
-use Rattle.text.specs.declared.kinds.Verdict.TheVariants as verdict
-use Rattle.text.specs.declared.kinds.Written.{Written}
-use Rattle.text.specs.declared.kinds.Written.TheVariants as answer
+use Rattle.text.specs.declared.kinds.Refused.{Refused}
 use Rattle.text.specs.Groups.{Piece, groups_from}
 use Rattle.record.specs.declared.aerodrome.Edition.{Edition}
 use Rattle.record.specs.declared.aerodrome.Edition.TheVariants as edition
@@ -86,7 +83,7 @@ text k e other = bytes (stem k e) ++ figure other
 pub record Shown (k : ReportKind) (e : Edition) (t : List ℕ) : Type 0 where
   pub named : TextOf k t
   pub first : take 1 (groups_from t 0) ≡ take 1 (groups_from (text k e false) 0)
-  pub accepts : (read_in e t).verdict ≡ verdict.Accepted (length t)
+  pub accepts : (read_in e t).verdict ≡ Ok (length t)
   pub kept : RecordOf k (read_in e t).report
   pub canonical : canonical_of (read_in e t).report ≡ t
 
@@ -127,9 +124,9 @@ apart k e is =
 
 -- ---- the reader
 
-abbrev is_accepted : Verdict → Bool
-is_accepted (verdict.Accepted rest) = true
-is_accepted (verdict.Refused f at) = false
+abbrev is_accepted : Result ℕ Refused → Bool
+is_accepted (Ok rest) = true
+is_accepted (Err x) = false
 
 module _ (chosen : Edition) (read : List ℕ → Reading) (meets : (t : List ℕ) → read t ≡ read_in chosen t) where
   -- one refusing a text that the definitions accept
@@ -169,11 +166,11 @@ module _ (chosen : Edition) (read : List ℕ → Reading) (meets : (t : List ℕ
 
 -- ---- the writer
 
-abbrev is_done : Written → Bool
-is_done (answer.Count n) = true
-is_done (answer.Refused f) = false
+abbrev is_done : Result ℕ Refusal → Bool
+is_done (Ok n) = true
+is_done (Err f) = false
 
-module _ (chosen : Edition) (write : Report → List ℕ → Written) (after : Report → List ℕ → List ℕ)
+module _ (chosen : Edition) (write : Report → List ℕ → Result ℕ Refusal) (after : Report → List ℕ → List ℕ)
     (answers : (r : Report) (b : List ℕ) → write r b ≡ written_in chosen r (length b)) (leaves : (r : Report) (b : List ℕ) → after r b ≡ buffer_in chosen r b) where
   -- one refusing a record of which none of the listed causes holds, and for which there is room
   pub no-stricter-writer : (r : Report) (b : List ℕ) → ((c : ListedCause Field) → Holds (causes_in chosen r) c → ⊥) → length (canonical_of r) ≤ length b
@@ -184,9 +181,9 @@ module _ (chosen : Edition) (write : Report → List ℕ → Written) (after : R
       caused (listed c x) = no-cause c (first_holds x)
       caused (short-buffer j h) = omega (arith, has_room, h)
 
-      go : (w : Written) → written_in chosen r (length b) ≡ w → is_done w ≡ false → ⊥
-      go (answer.Count n) is e = false≢true (sym e)
-      go (answer.Refused f) is e = caused (only-causes chosen r b f is)
+      go : (w : Result ℕ Refusal) → written_in chosen r (length b) ≡ w → is_done w ≡ false → ⊥
+      go (Ok n) is e = false≢true (sym e)
+      go (Err f) is e = caused (only-causes chosen r b f is)
 
   module _ (k : ReportKind) where
     -- the records of the two texts, written over the first of these
@@ -196,10 +193,10 @@ module _ (chosen : Edition) (write : Report → List ℕ → Written) (after : R
     abbrev lent : List ℕ
     lent = text k chosen false
 
-    fine : (other : Bool) → judge_in chosen (given other) ≡ judged.Fine
+    fine : (other : Bool) → judge_in chosen (given other) ≡ Ok tt
     fine other =
         let t = text k chosen other in
-        given-fine chosen t (length t) (given other) (ap (λ (v : Verdict). reading v (given other)) (shown k chosen other).accepts)
+        given-fine chosen t (length t) (given other) (ap (λ (v : Result ℕ Refused). reading v (given other)) (shown k chosen other).accepts)
 
     room : (other : Bool) → length (canonical_of (given other)) ≤ length lent
     room other = rw ((shown k chosen other).canonical, same_length k chosen other) (omega arith)

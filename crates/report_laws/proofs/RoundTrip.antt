@@ -1,5 +1,6 @@
 -- The round trip of a record of any kind: what is judged fine is one kind's part with the others blank, and what is written of it is read back.
 -- Assumes nothing.
+use Rattle.std.specs.Prelude.{Ok, Option}
 use Prim.Native.Nat.{ℕ, zero, suc, ◌+◌, ◌≤◌}
 use native.Mathlib.Omega.{arith}
 use mathlib.Core.Path.{◌≡◌, refl, sym, ap, ◌∙◌}
@@ -8,7 +9,6 @@ use mathlib.Core.List.{List, [], ◌∷◌, ◌++◌, map}
 use lib.ListN.{length, take, drop}
 use borrow.Author.Tests.{le-leb}
 use Rattle.figures.proofs.Impossible.{impossible}
-use Rattle.text.specs.declared.kinds.Judged.TheVariants as judged
 use Rattle.text.specs.Judge.{judge}
 use Rattle.text.specs.Groups.{join, placed}
 use Rattle.text.proofs.Joins.{round_trip, join-sound}
@@ -70,26 +70,26 @@ pub record Arrays (r : Report) : Type 0 where
 
 -- in the edition that is chosen, which a TAF's record then names
 pub data Fair (chosen : Edition) : Report → Type 0 where
-  surface : (s : Synop) → SynopArrays s → synop.judge_of s ≡ judged.Fine → Fair chosen (surface_report s)
-  observed : (m : Metar) → MetarArrays m → metar.judge_of m ≡ judged.Fine → Fair chosen (observed_report m)
-  forecast : (t : Taf) → TafArrays t → chosen ≡ t.edition → taf.judge_of t ≡ judged.Fine → Fair chosen (forecast_report t)
+  surface : (s : Synop) → SynopArrays s → synop.judge_of s ≡ Ok tt → Fair chosen (surface_report s)
+  observed : (m : Metar) → MetarArrays m → metar.judge_of m ≡ Ok tt → Fair chosen (observed_report m)
+  forecast : (t : Taf) → TafArrays t → chosen ≡ t.edition → taf.judge_of t ≡ Ok tt → Fair chosen (forecast_report t)
 
 same : {chosen : Edition} {k k' : Kind} {s s' : Synop} {m m' : Metar} {t t' : Taf} → k ≡ k' → s ≡ s' → m ≡ m' → t ≡ t'
     → Fair chosen (record { kind = k'; surface = s'; observed = m'; forecast = t' }) → Fair chosen (record { kind = k; surface = s; observed = m; forecast = t })
 same a b c d x = rw (a, b, c, d) x
 
 -- the writer of an edition takes a TAF of that edition alone
-of-edition : (chosen : Edition) (t : Taf) → taf.judge_in chosen t ≡ judged.Fine → (chosen ≡ t.edition) × (taf.judge_of t ≡ judged.Fine)
+of-edition : (chosen : Edition) (t : Taf) → taf.judge_in chosen t ≡ Ok tt → (chosen ≡ t.edition) × (taf.judge_of t ≡ Ok tt)
 unfolding taf.judge_in
 of-edition chosen t e =
     let j = and-then (judge (is_same_edition chosen t.edition) true) (taf.judge_of t) e in
     (edition-same chosen t.edition (fine (is_same_edition chosen t.edition) true j.0).0, j.1)
 
-pub fair : (chosen : Edition) (r : Report) → Arrays r → judge_in chosen r ≡ judged.Fine → Fair chosen r
+pub fair : (chosen : Edition) (r : Report) → Arrays r → judge_in chosen r ≡ Ok tt → Fair chosen r
 unfolding judge_in
 fair chosen r arrays e = go r.kind refl e
   where
-    go : (k : Kind) → r.kind ≡ k → judge_by chosen k r ≡ judged.Fine → Fair chosen r
+    go : (k : Kind) → r.kind ≡ k → judge_by chosen k r ≡ Ok tt → Fair chosen r
     go kind.Missing is e = impossible (cc)
     go kind.Surface is e =
         let j = and-then (judge (is_blank_metar r.observed && is_blank_taf r.forecast) true) (synop.judge_of r.surface) e in
@@ -129,7 +129,7 @@ unfolding has_pattern fits low high
 observed-word true = refl
 observed-word false = refl
 
-module _ (s : Synop) (arrays : SynopArrays s) (e : synop.judge_of s ≡ judged.Fine) where
+module _ (s : Synop) (arrays : SynopArrays s) (e : synop.judge_of s ≡ Ok tt) where
   surface-named : Named (synop.canonical_of s) (surface_word s.ship)
   unfolding synop.canonical_of
   surface-named =
@@ -140,7 +140,7 @@ module _ (s : Synop) (arrays : SynopArrays s) (e : synop.judge_of s ≡ judged.F
   surface-text : SurfaceText (synop.canonical_of s) (Done (length (synop.canonical_of s)) (synop.classed_of s))
   surface-text = let n = surface-named in record { ship = s.ship; named = n; comes = rw n.groups at (synop-text.read-canonical s arrays e) }
 
-module _ (m : Metar) (arrays : MetarArrays m) (e : metar.judge_of m ≡ judged.Fine) where
+module _ (m : Metar) (arrays : MetarArrays m) (e : metar.judge_of m ≡ Ok tt) where
   observed-named : Named (metar.canonical_of m) (observed_word m.observation.special)
   unfolding metar.canonical_of metar.groups_of observed-row.row
   observed-named = joined _ _ _ (observed-word m.observation.special) (metar-text.groups-sizes m arrays e) (omega (arith, metar-text.length-canonical m arrays e))
@@ -148,7 +148,7 @@ module _ (m : Metar) (arrays : MetarArrays m) (e : metar.judge_of m ≡ judged.F
   observed-text : ObservedText (metar.canonical_of m) (Done (length (metar.canonical_of m)) (metar.classed_of m))
   observed-text = record { special = m.observation.special; named = observed-named; comes = metar-text.read-canonical m arrays e }
 
-module _ (t : Taf) (arrays : TafArrays t) (e : taf.judge_of t ≡ judged.Fine) where
+module _ (t : Taf) (arrays : TafArrays t) (e : taf.judge_of t ≡ Ok tt) where
   forecast-named : Named (taf.canonical_of t) forecast_word
   unfolding taf.canonical_of taf.groups_of forecast-row.row has_pattern fits low high
   forecast-named = joined _ _ _ refl (taf-text.groups-sizes t arrays e) (omega (arith, taf-text.length-canonical t arrays e))
@@ -176,7 +176,7 @@ blank-synop : is_blank_synop blank_synop ≡ true
 unfolding is_blank_synop no_surface
 blank-synop = refl
 
-edition-fine : (chosen : Edition) (t : Taf) → chosen ≡ t.edition → taf.judge_of t ≡ judged.Fine → taf.judge_in chosen t ≡ judged.Fine
+edition-fine : (chosen : Edition) (t : Taf) → chosen ≡ t.edition → taf.judge_of t ≡ Ok tt → taf.judge_in chosen t ≡ Ok tt
 unfolding taf.judge_in
 edition-fine chosen t own e = rw (own, same-edition t.edition, e)
 
@@ -184,13 +184,13 @@ same-named : (t : Taf) → (taf.classed_of t).edition ≡ t.edition
 unfolding taf.classed_of
 same-named t = refl
 
-pub fair-fine : {chosen : Edition} {r : Report} → Fair chosen r → judge_in chosen r ≡ judged.Fine
+pub fair-fine : {chosen : Edition} {r : Report} → Fair chosen r → judge_in chosen r ≡ Ok tt
 unfolding judge_in
 fair-fine (surface s arrays e) = rw (blank-metar, blank-taf, e)
 fair-fine (observed m arrays e) = rw (blank-synop, blank-taf, e)
 fair-fine (forecast t arrays own e) = rw (blank-synop, blank-metar, edition-fine _ t own e)
 
-pub fine-again : {chosen : Edition} {r : Report} → Fair chosen r → judge_in chosen (classed_of r) ≡ judged.Fine
+pub fine-again : {chosen : Edition} {r : Report} → Fair chosen r → judge_in chosen (classed_of r) ≡ Ok tt
 unfolding judge_in classed_of
 fine-again (surface s arrays e) = rw (blank-metar, blank-taf, synop-text.classed-fine s arrays e)
 fine-again (observed m arrays e) = rw (blank-synop, blank-taf, metar-text.classed-fine m arrays e)
@@ -285,7 +285,7 @@ module _ {A : Type 0} (of : A → Direction) (f : A → A) (class : (x : A) → 
     items-near : (n : ℕ) (xs ys : List A) → ys ≡ map f xs → EachRead R (take n xs) (take n ys) → drop n ys ≡ drop n xs → EachRead DirectionNear (map of xs) (map of ys)
     items-near n xs ys is reads past = rw is (counted-near n xs (rw is at reads) (rw is at past))
 
-extremes-near : {x y : Extremes} → ExtremesNear x y → EachRead DirectionNear (extreme_directions x) (extreme_directions y)
+extremes-near : {x y : Option Extremes} → ExtremesNear x y → EachRead DirectionNear (extreme_directions x) (extreme_directions y)
 extremes-near no-extremes = none
 extremes-near (between a b) = more (degrees a) (more (degrees b) none)
 

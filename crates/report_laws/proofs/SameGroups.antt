@@ -3,6 +3,7 @@
 -- hands back, read alone, says what the text said (`trimmed-alone`, `standing-alone`). It is so because every reader goes by the bytes of a group and
 -- hands on where it stands: of any row, any parts and any record, and so of each kind.
 -- Assumes nothing.
+use Rattle.std.specs.Prelude.{Err, None, Ok, Option, Result, Some}
 use Prim.Native.Nat.{ℕ, zero, suc, ◌+◌, ◌-◌, ◌≤◌, ◌<◌}
 use native.Mathlib.Omega.{arith}
 use mathlib.Core.Path.{◌≡◌, refl, sym, ap, subst, ◌∙◌}
@@ -16,10 +17,7 @@ use denote.Ref.{Bor}
 use Rattle.figures.proofs.Impossible.{impossible}
 use Rattle.text.specs.declared.kinds.Refusal.{Refusal}
 use Rattle.text.specs.declared.kinds.Refusal.TheVariants as refusal
-use Rattle.text.specs.declared.kinds.Tail.{Tail}
-use Rattle.text.specs.declared.kinds.Tail.TheVariants.{Clear, Junk}
 use Rattle.text.specs.declared.kinds.Bytes.TheVariants as judgement
-use Rattle.text.specs.declared.kinds.Verdict.TheVariants as verdict
 use Rattle.text.specs.Numbers.{verdict_numbers}
 use Rattle.text.specs.Bytes.{parting, inner, other, allowed, lead, last_end}
 use Rattle.text.specs.Groups.{Piece, groups_in, groups_from, spaced, parted, join, Every, Everywhere, Whole, Wholes}
@@ -28,8 +26,9 @@ use Rattle.text.proofs.Leads.{lead-cons-yes, lead-cons-no, lead-le, last-le}
 use Rattle.text.proofs.Groups.{part-is, part-nothing, past_end, inner-not-parting, from-parting}
 use Rattle.text.proofs.Texts.{bytes-sound, junk-none, trimmed-start, trimmed-equals, trimmed-last}
 use Rattle.text.proofs.Joins.{round-trip-bytes, length-join, join-tail, join-sound}
+use Rattle.text.specs.Refusals.{refused_with}
 use Rattle.shapes.specs.Pattern.{Pattern}
-use Rattle.places.specs.Engine.{Group, Read, Good, Bad, Place, Step, On, Halt, Stop, Outcome, Done, Fault, finish}
+use Rattle.places.specs.Engine.{Group, Place, Step, On, Halt, Stop, Outcome, Done, Fault, finish}
 use Rattle.places.specs.Parts.{Exits, step_by, carry_to, run_to, Begun, Word, Ends, Opens, Bars, Part, Parts, Further, turned, ended, unless, owes, part_exits, part_from, after_first, begins, further, report_of}
 use Rattle.record.specs.declared.surface.Synop.{Synop}
 use Rattle.record.specs.Set.{set_surface}
@@ -57,7 +56,7 @@ use Rattle.report_record.specs.Record.{blank_report, surface_report, observed_re
 use Rattle.report.specs.Read.{word, name_by, first_name, name_of, answered, read_as, read_in, read_of}
 use Rattle.report.specs.Standing.{stands_of, PartStanding}
 use Rattle.report.proofs.Names.{behind-first}
-use Rattle.report_laws.proofs.ByName.{Named, AcceptedAs, a-surface, an-observed, a-forecast, accepted-as}
+use Rattle.report_laws.proofs.ByName.{Named, AcceptedAs, a-surface, an-observed, a-forecast, accepted-as, same-fault}
 use Rattle.report_laws.proofs.Demands.{Answered, yes, no, every-text, Exactly}
 
 -- ---- groups with the same bytes, wherever they stand
@@ -85,10 +84,10 @@ same_bytes (g ∷ gs) (h ∷ hs) e =
 -- ---- two readings of them: the same record, or the same refusal. `J` holds where something may follow the "=" of the first text and nothing follows that
 -- of the second: then the first may be refused 4 for it.
 
-data Tails (J : Type 0) : Tail → Tail → Type 0 where
-  clear : Tails J Clear Clear
-  junk : (a b : ℕ) → Tails J (Junk a) (Junk b)
-  freed : J → (a : ℕ) → Tails J (Junk a) Clear
+data Tails (J : Type 0) : Option ℕ → Option ℕ → Type 0 where
+  clear : Tails J None None
+  junk : (a b : ℕ) → Tails J (Some a) (Some b)
+  freed : J → (a : ℕ) → Tails J (Some a) None
 
 data Alike {R : Type 0} (J : Type 0) : Outcome R → Outcome R → Type 0 where
   both-done : (a b : ℕ) (r : R) → Alike J (Done a r) (Done b r)
@@ -104,7 +103,7 @@ module _ {R : Type 0} (J : Type 0) where
   unless-alike true a b s = both-fault refusal.Absence a b
   unless-alike false a b s = s
 
-  ended-alike : {u v : Tail} → Tails J u v → (m n : ℕ) (owes : Bool) (r : R) → Alike J (ended u m owes r) (ended v n owes r)
+  ended-alike : {u v : Option ℕ} → Tails J u v → (m n : ℕ) (owes : Bool) (r : R) → Alike J (ended u m owes r) (ended v n owes r)
   ended-alike clear m n owes r = finish-alike owes m n r
   ended-alike (junk a b) m n owes r = both-fault refusal.Shape a b
   ended-alike (freed j a) m n owes r = trailing j a (finish owes n r)
@@ -126,12 +125,12 @@ module _ {R X : Type 0} (Q : X → X → Type 0) (row : List (Place R)) (halts :
       go Halt ih = at-halt c k r g p q gs hs s
       go (Stop f) ih = at-fault f p q
 
-module _ (J : Type 0) {u v : Tail} (tails : Tails J u v) (m n : ℕ) where
+module _ (J : Type 0) {u v : Option ℕ} (tails : Tails J u v) (m n : ℕ) where
   -- ---- a report of parts
   module _ {T P W : Type 0} where
     abbrev AlikeFurther : Further T P W → Further T P W → Type 0
     AlikeFurther f h =
-        (t : T) (g : Group) (p q : ℕ) (x : Read (Begun W P)) (gs hs : List Piece) → Same gs hs → Alike J (f t (piece p g) x gs) (h t (piece q g) x hs)
+        (t : T) (g : Group) (p q : ℕ) (x : Result (Begun W P) Refusal) (gs hs : List Piece) → Same gs hs → Alike J (f t (piece p g) x gs) (h t (piece q g) x hs)
 
     module _ (f h : Further T P W) (after : AlikeFurther f h) where
       turned-alike : (t : T) (g : Group) (p q : ℕ) (gs hs : List Piece) → Same gs hs → (x : Word W P)
@@ -160,10 +159,10 @@ module _ (J : Type 0) {u v : Tail} (tails : Tails J u v) (m n : ℕ) where
       further-alike : (limit : ℕ) → AlikeFurther (further u m parts limit) (further v n parts limit)
       unfolding further
       further-alike zero t g p q x gs hs s = both-fault refusal.Limit p q
-      further-alike (suc limit) t g p q (Good b) gs hs s =
+      further-alike (suc limit) t g p q (Ok b) gs hs s =
           begins-alike (λ t' g' x' gs'. further u m parts limit t' g' x' gs') (λ t' g' x' gs'. further v n parts limit t' g' x' gs')
           (further-alike limit) parts t b.kind b.start s
-      further-alike (suc limit) t g p q (Bad f) gs hs s = both-fault f p q
+      further-alike (suc limit) t g p q (Err f) gs hs s = both-fault f p q
 
       report-alike : {M : Type 0} (limit : ℕ) (main : Part T P W M) (r : M) {gs hs : List Piece} → Same gs hs
           → Alike J (report_of u m parts limit main r gs) (report_of v n parts limit main r hs)
@@ -184,17 +183,17 @@ module _ (J : Type 0) {u v : Tail} (tails : Tails J u v) (m n : ℕ) where
   unfolding section.section
   section-alike r s = report-alike section.parts 1 (section.first_part (synop-row.needs_of r.surface) (λ u. set_surface u r)) r.surface s
 
-  short-alike : {u v : Tail} → Tails J u v → Alike J (synop.cut_short u m) (synop.cut_short v n)
+  short-alike : {u v : Option ℕ} → Tails J u v → Alike J (synop.cut_short u m) (synop.cut_short v n)
   short-alike clear = both-fault refusal.Absence m n
   short-alike (junk a b) = both-fault refusal.Shape a b
-  short-alike (freed j a) = trailing j a (synop.cut_short Clear n)
+  short-alike (freed j a) = trailing j a (synop.cut_short None n)
 
-  nil-alike : {u v : Tail} → Tails J u v → (r : Synop) {gs hs : List Piece} → Same gs hs → Alike J (synop.after_nil u m r gs) (synop.after_nil v n r hs)
+  nil-alike : {u v : Option ℕ} → Tails J u v → (r : Synop) {gs hs : List Piece} → Same gs hs → Alike J (synop.after_nil u m r gs) (synop.after_nil v n r hs)
   nil-alike clear r none = both-done m n _
   nil-alike clear r (more g p q gs hs s) = both-fault refusal.Shape p q
   nil-alike (junk a b) r none = both-fault refusal.Shape a b
   nil-alike (junk a b) r (more g p q gs hs s) = both-fault refusal.Shape p q
-  nil-alike (freed j a) r none = trailing j a (synop.after_nil Clear n r [])
+  nil-alike (freed j a) r none = trailing j a (synop.after_nil None n r [])
   nil-alike (freed j a) r (more g p q gs hs s) = both-fault refusal.Shape p q
 
   either-alike : (b : Bool) {x y x' y' : Outcome Synop} → Alike J x x' → Alike J y y' → Alike J (cond b x y) (cond b x' y')
@@ -209,10 +208,10 @@ module _ (J : Type 0) {u v : Tail} (tails : Tails J u v) (m n : ℕ) where
       either-alike (p.nil && synop.is_nil g) (nil-alike tails r s)
       (either-alike (p.has g) (go (p.read g r) (λ r'. walk-alike ps r' s)) (both-fault refusal.Shape a b))
     where
-      go : (x : Read Synop) → ((r : Synop) → Alike J (synop.walk ps r u m gs) (synop.walk ps r v n hs))
+      go : (x : Result Synop Refusal) → ((r : Synop) → Alike J (synop.walk ps r u m gs) (synop.walk ps r v n hs))
           → Alike J (synop.onward x a (λ r'. synop.walk ps r' u m gs)) (synop.onward x b (λ r'. synop.walk ps r' v n hs))
-      go (Good r') k = k r'
-      go (Bad f) k = both-fault f a b
+      go (Ok r') k = k r'
+      go (Err f) k = both-fault f a b
 
   surface-alike : (ship : Bool) {gs hs : List Piece} → Same gs hs → Alike J (synop.groups_read ship u m gs) (synop.groups_read ship v n hs)
   unfolding synop.groups_read
@@ -284,27 +283,25 @@ turn (both-refused f at at') = both-refused f at' at
 
 accepted-too : {a b : Reading} → ReadAlike a b → (r : Report) → AcceptedWith r a → AcceptedWith r b
 accepted-too (both-accepted rest rest' q) r (at, e) = (rest', ap (accepted rest') (ap (λ (x : Reading). x.report) e))
-accepted-too (both-refused f p p') r (at, e) = let v : verdict.Refused f p ≡ verdict.Accepted at = ap (λ (x : Reading). x.verdict) e in impossible (cc)
+accepted-too (both-refused f p p') r (at, e) = let v : Err (refused_with f p) ≡ Ok at = ap (λ (x : Reading). x.verdict) e in impossible (cc)
 
 refused-too : {a b : Reading} → ReadAlike a b → (f : Refusal) → RefusedFor f a → RefusedFor f b
-refused-too (both-accepted rest rest' q) f (at, e) = let v : verdict.Accepted rest ≡ verdict.Refused f at = ap (λ (x : Reading). x.verdict) e in impossible (cc)
+refused-too (both-accepted rest rest' q) f (at, e) = let v : Ok rest ≡ Err (refused_with f at) = ap (λ (x : Reading). x.verdict) e in impossible (cc)
 refused-too (both-refused g p p') f (at, e) =
-    let v : verdict.Refused g p ≡ verdict.Refused f at = ap (λ (x : Reading). x.verdict) e in
-    let is : g ≡ f = cc in
-    (p', ap (λ (x : Refusal). refused x p') is)
+    (p', ap (λ (x : Refusal). refused x p') (same-fault (ap (λ (x : Reading). x.verdict) e)).0)
 
 -- Of both the length and the bytes are those that a text may have, so that neither is refused 1 or 2; group by group they have the same bytes; and something
 -- other than parting bytes follows the "=" of both or of neither. What stands between the groups, before them and behind them is free: space, CR, LF.
 module _ (chosen : Edition) (t u : List ℕ) (sound : bytes_of t ≡ judgement.Sound) (sound' : bytes_of u ≡ judgement.Sound)
     (same : group_bytes (groups_from t 0) ≡ group_bytes (groups_from u 0)) where
-  pub alike-anyway : Exactly (tail_of t ≡ Clear) (tail_of u ≡ Clear) → ReadAlike (read_in chosen t) (read_in chosen u)
+  pub alike-anyway : Exactly (tail_of t ≡ None) (tail_of u ≡ None) → ReadAlike (read_in chosen t) (read_in chosen u)
   alike-anyway both = go (same-answers chosen ⊥ t u (tails (tail_of t) (tail_of u) both.only both.all) sound sound' same)
     where
-      tails : (v w : Tail) → (v ≡ Clear → w ≡ Clear) → (w ≡ Clear → v ≡ Clear) → Tails ⊥ v w
-      tails Clear Clear f h = clear
-      tails Clear (Junk b) f h = let e : Junk b ≡ Clear = f refl in impossible (cc)
-      tails (Junk a) Clear f h = let e : Junk a ≡ Clear = h refl in impossible (cc)
-      tails (Junk a) (Junk b) f h = junk a b
+      tails : (v w : Option ℕ) → (v ≡ None → w ≡ None) → (w ≡ None → v ≡ None) → Tails ⊥ v w
+      tails None None f h = clear
+      tails None (Some b) f h = let e : Some b ≡ None = f refl in impossible (cc)
+      tails (Some a) None f h = let e : Some a ≡ None = h refl in impossible (cc)
+      tails (Some a) (Some b) f h = junk a b
 
       go : {a b : Reading} → Answers ⊥ a b → ReadAlike a b
       go (yes_both a b r) = both-accepted a b r
@@ -312,7 +309,7 @@ module _ (chosen : Edition) (t u : List ℕ) (sound : bytes_of t ≡ judgement.S
       go (no-first j a x) = absurd j
 
   -- nothing follows the "=" of either
-  module _ (clean : tail_of t ≡ Clear) (clean' : tail_of u ≡ Clear) where
+  module _ (clean : tail_of t ≡ None) (clean' : tail_of u ≡ None) where
     pub groups-decide : ReadAlike (read_in chosen t) (read_in chosen u)
     groups-decide = alike-anyway (record { only = λ e. clean'; all = λ e. clean })
 
@@ -526,7 +523,7 @@ bare-none p (x ∷ xs) h = go (parting x) refl (eqb x 61) refl (bare-none (suc p
 -- ---- the part from the first group through the "=" or the last group: the same groups, nothing behind its "=", and bytes that a text may hold
 record Trim (t m : List ℕ) : Type 0 where
   groups : group_bytes (groups_from m 0) ≡ group_bytes (groups_from t 0)
-  clean : tail_of m ≡ Clear
+  clean : tail_of m ≡ None
   sound : bytes_of t ≡ judgement.Sound → bytes_of m ≡ judgement.Sound
 
 sound-told : (t : List ℕ) → bytes_of t ≡ judgement.Sound → (length t ≤ 2048) × (length t ≤ lead allowed t)
@@ -623,7 +620,7 @@ module _ (t : List ℕ) where
       go false h = refl
 
 -- A text that has a group and nothing but parting bytes behind its "=", and its trimmed part, are read alike.
-pub trimmed-alike : (chosen : Edition) (t : List ℕ) → bytes_of t ≡ judgement.Sound → tail_of t ≡ Clear → is_bare t ≡ false → ReadAlike (read_in chosen t) (read_in chosen (trimmed_of t))
+pub trimmed-alike : (chosen : Edition) (t : List ℕ) → bytes_of t ≡ judgement.Sound → tail_of t ≡ None → is_bare t ≡ false → ReadAlike (read_in chosen t) (read_in chosen (trimmed_of t))
 trimmed-alike chosen t sound clean some =
     let m = trim t (not-bare t some) in
     groups-decide chosen t (trimmed_of t) sound (m.sound sound) (sym m.groups) clean m.clean
@@ -632,14 +629,14 @@ trimmed-alike chosen t sound clean some =
 pub trimmed-alone : (chosen : Edition) (t : List ℕ) (r : Report) → AcceptedWith r (read_in chosen t) → AcceptedWith r (read_in chosen (trimmed_of t))
 trimmed-alone chosen t r (rest, e) = by_kind r (accepted-as chosen t rest r e) e
   where
-    freely : (v w : Tail) → w ≡ Clear → Tails (Unit {0}) v w
-    freely Clear w e = rw e clear
-    freely (Junk a) w e = rw e (freed tt a)
+    freely : (v w : Option ℕ) → w ≡ None → Tails (Unit {0}) v w
+    freely None w e = rw e clear
+    freely (Some a) w e = rw e (freed tt a)
 
     given : {a b : Reading} → Answers (Unit {0}) a b → (q : Report) → a ≡ accepted rest q → AcceptedWith q b
     given (yes_both a b w) q e = (b, ap (accepted b) (ap (λ (x : Reading). x.report) e))
-    given (no_both f a b) q e = let v : verdict.Refused f a ≡ verdict.Accepted rest = ap (λ (x : Reading). x.verdict) e in impossible (cc)
-    given (no-first j a x) q e = let v : verdict.Refused refusal.Shape a ≡ verdict.Accepted rest = ap (λ (x : Reading). x.verdict) e in impossible (cc)
+    given (no_both f a b) q e = let v : Err (refused_with f a) ≡ Ok rest = ap (λ (x : Reading). x.verdict) e in impossible (cc)
+    given (no-first j a x) q e = let v : Err (refused_with refusal.Shape a) ≡ Ok rest = ap (λ (x : Reading). x.verdict) e in impossible (cc)
 
     by_name : {w : Pattern} → Named t w → (q : Report) → read_in chosen t ≡ accepted rest q → AcceptedWith q (read_in chosen (trimmed_of t))
     by_name n q e =
@@ -827,7 +824,7 @@ unfolding groups_from
 respaced-length t = omega (arith, length-join (group_bytes (groups_from t 0)), (parted-length 0 t).0)
 
 -- A text and its groups in canonical spacing are read alike, if those have room in a text: they have where it has less than 2,048 bytes.
-pub spacing-free : (chosen : Edition) (t : List ℕ) → bytes_of t ≡ judgement.Sound → tail_of t ≡ Clear → length (respaced t) ≤ 2048 → ReadAlike (read_in chosen t) (read_in chosen (respaced t))
+pub spacing-free : (chosen : Edition) (t : List ℕ) → bytes_of t ≡ judgement.Sound → tail_of t ≡ None → length (respaced t) ≤ 2048 → ReadAlike (read_in chosen t) (read_in chosen (respaced t))
 unfolding groups_from
 spacing-free chosen t sound clean fits =
     let gs = group_bytes (groups_from t 0) in

@@ -1,7 +1,8 @@
 -- Document 02, No. 11, of accepted records and what is read of their texts: no nearer figure was passed over. And "a table says visibility 4000 m, so what may
 -- the observer have seen?", on every scale.
 -- Assumes nothing.
-use Prim.Native.Nat.{ℕ, zero, suc, ◌-◌, ◌≤◌, ◌<◌}
+use Rattle.std.specs.Prelude.{None, Ok, Option, Some}
+use Prim.Native.Nat.{ℕ, zero, suc, ◌≤◌, ◌<◌}
 use native.Mathlib.Omega.{arith}
 use mathlib.Core.Path.{◌≡◌, refl, sym, ap, ◌∙◌}
 use mathlib.Core.Bool.{Bool, true, false, ◌&&◌, and-eq-true_iff}
@@ -13,16 +14,12 @@ use lib.Dec.{leb, eqb}
 use borrow.Author.Tests.{leb-true, le-leb, eqb-true}
 use Rattle.figures.specs.Figures.{every}
 use Rattle.figures.specs.Signed.{negative}
-use Rattle.text.specs.declared.kinds.Judged.TheVariants as judged
 use Rattle.text.proofs.Judging as judging
-use Rattle.scales.specs.Scale.{Read, Foot, run, class_in, length_in, figure_of, read_of}
+use Rattle.scales.specs.Scale.{run, class_in, length_in, figure_of, read_of}
 use Rattle.scales.specs.Metres as scale
-use Rattle.scales.specs.Degrees.{degrees_fit, whole_degrees, is_minus_zero, rounded_degrees, degrees_of}
+use Rattle.scales.specs.Degrees.{degrees_fit, whole_degrees, is_minus_zero, rounded_degrees, degrees_of, degrees_with}
 use Rattle.scales.specs.Rounded.{pressure_figure, pressure_reading, rounded_pressure, rain_fits, rounded_rain, rounded_direction}
 use Rattle.scales.specs.declared.kinds.Rain.{Rain}
-use Rattle.scales.specs.declared.kinds.Degrees.TheVariants as degrees
-use Rattle.scales.specs.declared.kinds.Figure.TheVariants as figure
-use Rattle.scales.specs.declared.kinds.Reading.TheVariants as reading
 use Rattle.scales.proofs.Nearest.{nearest-feet, pressure-nearest}
 use Rattle.scales.proofs.DegreesNearest.{far_apart, no-degree-nearer}
 use Rattle.scales.proofs.PressureLaws.{pressure-written, pressure-rounds}
@@ -32,8 +29,6 @@ use Rattle.seen_values.proofs.Exactly as metres
 use Rattle.seen_values.proofs.Rounds as rounded
 use Rattle.seen_values.proofs.DegreesLaws.{degrees-seen}
 use Rattle.record.specs.Missing.{optional}
-use Rattle.record.specs.declared.values.Number.TheVariants as number
-use Rattle.record.specs.declared.values.Tenths.TheVariants as tenths
 use Rattle.record.specs.declared.aerodrome.Edition.{Edition}
 use Rattle.record.specs.declared.aerodrome.Metar.{Metar}
 use Rattle.record.specs.Arrays.{MetarArrays}
@@ -50,7 +45,7 @@ use Rattle.report_laws.proofs.Demands.{Exactly, back, classes-read, temperatures
 abbrev pub figure_on : (t : Table) → ℕ → Figures t
 figure_on t v = figure_of (scale_of t) v
 
-abbrev pub read_on : (t : Table) → Figures t → Read
+abbrev pub read_on : (t : Table) → Figures t → Option ℕ
 read_on t f = read_of (same_of t) (scale_of t) f
 
 -- what stands at a place of a list, and what stands there once each number was read back
@@ -59,7 +54,7 @@ came-back {A} none f z xs e i p q = ap f (sym p) ∙ sym (read_at none f z xs i)
 
 -- ---- what an accepted record has may be written
 
-module _ (m : Metar) (arrays : MetarArrays m) (e : metar.judge_of m ≡ judged.Fine) where
+module _ (m : Metar) (arrays : MetarArrays m) (e : metar.judge_of m ≡ Ok tt) where
   temperatures-fit : tenths_fit m.observation.temperatures.air && tenths_fit m.observation.temperatures.dew ≡ true
   unfolding judge_temperatures
   temperatures-fit = go m.observation.nil refl
@@ -94,7 +89,7 @@ one-of ok none z (x ∷ xs) zero e = ((and-eq-true_iff (ok x) (every ok xs)).0 e
 one-of ok none z (x ∷ xs) (suc i) e = one-of ok none z xs i ((and-eq-true_iff (ok x) (every ok xs)).0 e).1
 
 -- written as M00: -0.5 to -0.1
-minus-zero-written : (t : ℤ) → degrees_fit t ≡ true → is_minus_zero t ≡ true → degrees_of t ≡ degrees.Is true 0
+minus-zero-written : (t : ℤ) → degrees_fit t ≡ true → is_minus_zero t ≡ true → degrees_of t ≡ Some (degrees_with true 0)
 unfolding degrees_of is_minus_zero
 minus-zero-written t h z =
     let p = (and-eq-true_iff (negative t) (eqb (nat_abs (whole_degrees t)) 0)).0 z in
@@ -102,15 +97,15 @@ minus-zero-written t h z =
 
 -- ==== Nothing nearer below. Of an accepted record, v is the number at one place among its numbers of a scale, and w what stands there once its text was read.
 
-module _ (chosen : Edition) (r : Report) (arrays : Arrays r) (fine : judge_in chosen r ≡ judged.Fine) (i : ℕ) where
-  module _ (t : Table) (v w : ℕ) (is : get_or (numbers_of t r) i number.Missing ≡ number.Is v) (read : get_or (numbers_of t (back chosen r)) i number.Missing ≡ number.Is w) where
+module _ (chosen : Edition) (r : Report) (arrays : Arrays r) (fine : judge_in chosen r ≡ Ok tt) (i : ℕ) where
+  module _ (t : Table) (v w : ℕ) (is : get_or (numbers_of t r) i None ≡ Some v) (read : get_or (numbers_of t (back chosen r)) i None ≡ Some w) where
     number_read : foot_on t v ≡ w
     number_read =
-        let e : number.Is (foot_on t v) ≡ number.Is w = came-back number.Missing (class_on t) refl (numbers_of t r) (classes-read chosen r arrays fine t) i is read in
+        let e : Some (foot_on t v) ≡ Some w = came-back None (class_on t) refl (numbers_of t r) (classes-read chosen r arrays fine t) i is read in
         cc
 
     -- "no figure of that same scale has a reading greater than the one written and still not above the observation"
-    pub nothing-nearer : (g : Figures t) (n : ℕ) → read_on t g ≡ Foot n → w < n → n ≤ v → ⊥
+    pub nothing-nearer : (g : Figures t) (n : ℕ) → read_on t g ≡ Some n → w < n → n ≤ v → ⊥
     nothing-nearer g n q l h =
         (nearest-feet (laws_of t)).nothing-nearer v (figure_on t v) (foot_on t v) refl ((laws_of t).reads-back v) g n q (omega (arith, number_read, l)) h
 
@@ -119,36 +114,36 @@ module _ (chosen : Edition) (r : Report) (arrays : Arrays r) (fine : judge_in ch
     number-within = (metres.seen-exactly (laws_of t) w v).0 number_read
 
   -- the same of Q, in tenths of hPa
-  module _ (v w : ℕ) (is : get_or (pressures_of r) i number.Missing ≡ number.Is v) (read : get_or (pressures_of (back chosen r)) i number.Missing ≡ number.Is w) where
+  module _ (v w : ℕ) (is : get_or (pressures_of r) i None ≡ Some v) (read : get_or (pressures_of (back chosen r)) i None ≡ Some w) where
     pressure-is : rounded_pressure v ≡ w
     pressure-is =
-        let e : number.Is (rounded_pressure v) ≡ number.Is w = came-back number.Missing class_pressure refl (pressures_of r) (pressures-read chosen r arrays fine) i is read in
+        let e : Some (rounded_pressure v) ≡ Some w = came-back None class_pressure refl (pressures_of r) (pressures-read chosen r arrays fine) i is read in
         cc
 
     pressure-fit : v ≤ 99999
     pressure-fit =
-        let o : is_pressure v ≡ true = rw is at (one-of (optional is_pressure) number.Missing refl (pressures_of r) i (all-pressures (fair chosen r arrays fine))) in
+        let o : is_pressure v ≡ true = rw is at (one-of (optional is_pressure) None refl (pressures_of r) i (all-pressures (fair chosen r arrays fine))) in
         leb-true v 99999 ((and-eq-true_iff (leb 0 v) (leb v 99999)).0 o).1
 
-    pub pressure-nothing-nearer : (g n : ℕ) → pressure_reading g ≡ reading.Is n → w < n → n ≤ v → ⊥
+    pub pressure-nothing-nearer : (g n : ℕ) → pressure_reading g ≡ Some n → w < n → n ≤ v → ⊥
     pressure-nothing-nearer g n q l h =
         let (f, e, k) = pressure-written v (le-leb v 99999 pressure-fit) in
-        pressure-nearest.nothing-nearer v f w e (pressure-rounds.back v f e ∙ ap reading.Is pressure-is) g n q l h
+        pressure-nearest.nothing-nearer v f w e (pressure-rounds.back v f e ∙ ap Some pressure-is) g n q l h
 
     pub pressure-within : Within (seen_pressure w) v
     pressure-within = (rounded.pressure-seen w v pressure-fit).0 pressure-is
 
   -- Aerodrome temperature: "no writable whole degree is nearer to the observation, M00 aside"; in tenths.
-  module _ (v w : ℤ) (is : get_or (temperatures_of r) i tenths.Missing ≡ tenths.Is v) (read : get_or (temperatures_of (back chosen r)) i tenths.Missing ≡ tenths.Is w) where
+  module _ (v w : ℤ) (is : get_or (temperatures_of r) i None ≡ Some v) (read : get_or (temperatures_of (back chosen r)) i None ≡ Some w) where
     temperature-is : rounded_degrees v ≡ w
     temperature-is =
-        let e : tenths.Is (rounded_degrees v) ≡ tenths.Is w = came-back tenths.Missing class_tenths refl (temperatures_of r) (temperatures-read chosen r arrays fine) i is read in
+        let e : Some (rounded_degrees v) ≡ Some w = came-back None class_tenths refl (temperatures_of r) (temperatures-read chosen r arrays fine) i is read in
         cc
 
     temperature-fits : degrees_fit v ≡ true
-    temperature-fits = rw is at (one-of tenths_fit tenths.Missing refl (temperatures_of r) i (all-temperatures (fair chosen r arrays fine)))
+    temperature-fits = rw is at (one-of tenths_fit None refl (temperatures_of r) i (all-temperatures (fair chosen r arrays fine)))
 
-    pub temperature-nothing-nearer : (degrees_of v ≡ degrees.Is true 0 → ⊥) → (k : ℤ) → far_apart v w ≤ far_apart v (k *ℤ pos 10)
+    pub temperature-nothing-nearer : (degrees_of v ≡ Some (degrees_with true 0) → ⊥) → (k : ℤ) → far_apart v w ≤ far_apart v (k *ℤ pos 10)
     temperature-nothing-nearer n k = rw temperature-is at (no-degree-nearer v (whole (is_minus_zero v) refl) k)
       where
         whole : (b : Bool) → is_minus_zero v ≡ b → b ≡ false
@@ -159,10 +154,10 @@ module _ (chosen : Edition) (r : Report) (arrays : Arrays r) (fine : judge_in ch
     temperature-within = (degrees-seen w v temperature-fits).0 temperature-is
 
 -- "each used figure is the one written for its own reading"
-pub own-figure : (t : Table) (f : Figures t) (m : ℕ) → read_on t f ≡ Foot m → figure_on t m ≡ f
+pub own-figure : (t : Table) (f : Figures t) (m : ℕ) → read_on t f ≡ Some m → figure_on t m ≡ f
 own-figure t = (nearest-feet (laws_of t)).own-figure
 
-pub pressure-own-figure : (f m : ℕ) → pressure_reading f ≡ reading.Is m → pressure_figure m ≡ figure.Is f
+pub pressure-own-figure : (f m : ℕ) → pressure_reading f ≡ Some m → pressure_figure m ≡ Some f
 pressure-own-figure = pressure-nearest.own-figure
 
 -- ==== What may the observer have seen where a table says m? Exactly the values that come back as m; what `seen_values` answers is that.

@@ -1,5 +1,6 @@
 -- Runway states of records that no text is read as: the rulings' examples of what the writer judges and writes.
 -- Assumes nothing.
+use Rattle.std.specs.Prelude.{Err, None, Ok, Some}
 use Prim.Native.Nat.{ℕ, ◌-◌}
 use mathlib.Core.Path.{◌≡◌, refl}
 use mathlib.Core.Bool.{Bool, true, false}
@@ -8,11 +9,9 @@ use lib.ListN.{length, replicate}
 use Rattle.figures.specs.Quote.{bytes}
 use Rattle.figures.specs.Figures.{figures, number_text, slashes, field_text}
 use Rattle.text.specs.declared.kinds.Refusal.TheVariants as refusal
-use Rattle.text.specs.declared.kinds.Judged.TheVariants as judged
 use Rattle.scales.specs.Scale.{run, class_in}
 use Rattle.scales.specs.Metres.{metres_figure}
 use Rattle.scales.specs.Depth as scale
-use Rattle.record.specs.declared.values.Number.TheVariants as number
 use Rattle.record.specs.declared.aerodrome.Depth.{Depth}
 use Rattle.record.specs.declared.aerodrome.Depth.TheVariants as deep
 use Rattle.record.specs.declared.aerodrome.Condition.TheVariants as condition
@@ -23,7 +22,7 @@ use Rattle.runway_states.specs.State.{show_state, show_states, judge_states}
 
 -- a runway with a deposit of this depth, of which no more is told
 abbrev pub under : ℕ → Depth → RunwayState
-under runway depth = record { runway = number.Is runway; condition = condition.Covered number.Missing number.Missing depth number.Missing }
+under runway depth = record { runway = Some runway; condition = condition.Covered None None depth None }
 
 -- these states, beside SNOCLO or not
 abbrev pub states_of : Bool → List RunwayState → RunwayStates
@@ -41,6 +40,6 @@ pub states-judged : map judge_states
     ∷ states_of true []
     ∷ states_of false (under 24 (deep.Millimetres 100000) ∷ [])
     ∷ record { items = replicate 4 (under 24 deep.Missing); count = 5; snoclo = true } ∷ [])
-    ≡ judged.Refused refusal.Value ∷ judged.Refused refusal.Disagreement ∷ judged.Fine ∷ judged.Refused refusal.Value ∷ judged.Refused refusal.Value ∷ []
+    ≡ Err refusal.Value ∷ Err refusal.Disagreement ∷ Ok tt ∷ Err refusal.Value ∷ Err refusal.Value ∷ []
 unfolding judge_states
 states-judged = refl

@@ -1,6 +1,7 @@
 -- SYNOP and SHIP: THE CAUSES for which the writer refuses a record, in the order of judging, "foreign fields first, then the others in written order, 11 before
 -- 7 at each".
 -- Assumes nothing.
+use Rattle.std.specs.Prelude.{None, Option, Some}
 use Prim.Native.Nat.{ℕ, ◌+◌}
 use mathlib.Core.Path.{◌≡◌, refl}
 use mathlib.Core.Bool.{Bool, true, false, cond, not, ◌&&◌, ◌||◌}
@@ -15,9 +16,6 @@ use Rattle.text.specs.declared.kinds.Refusal.TheVariants as refusal
 use Rattle.text.specs.Judge.{judge}
 use Rattle.shapes.proofs.Patterns.{both}
 use Rattle.scales.specs.Rounded.{rain_fits}
-use Rattle.record.specs.declared.values.Number.{Number}
-use Rattle.record.specs.declared.values.Tenths.{Tenths}
-use Rattle.record.specs.declared.values.Tenths.TheVariants as tenths
 use Rattle.record.specs.declared.values.Direction.{Direction}
 use Rattle.record.specs.declared.values.Direction.TheVariants as direction
 use Rattle.record.specs.declared.values.Speed.{Speed}
@@ -35,22 +33,19 @@ use Rattle.record.specs.declared.surface.Clock.{Clock}
 use Rattle.record.specs.declared.surface.AtLevel.{AtLevel}
 use Rattle.record.specs.declared.surface.AtLevel.TheVariants as at_level
 use Rattle.record.specs.declared.surface.PressureChange.{PressureChange}
-use Rattle.record.specs.declared.surface.PressureChange.TheVariants as change
 use Rattle.record.specs.declared.surface.Tendency.{Tendency}
 use Rattle.record.specs.declared.surface.Fall.{Fall}
-use Rattle.record.specs.declared.surface.Fall.TheVariants as fall
 use Rattle.record.specs.declared.surface.Rainfall.{Rainfall}
 use Rattle.record.specs.declared.surface.Weather.{Weather}
 use Rattle.record.specs.declared.surface.Clouds.{Clouds}
 use Rattle.record.specs.declared.surface.Observed.{Observed}
-use Rattle.record.specs.declared.surface.Observed.TheVariants as observed
 use Rattle.record.specs.declared.surface.Surface.{Surface}
 use Rattle.record.specs.declared.surface.CloudLayer.{CloudLayer}
 use Rattle.record.specs.declared.surface.CloudLayers.{CloudLayers}
 use Rattle.record.specs.declared.surface.Section3.{Section3}
 use Rattle.record.specs.declared.surface.Synop.{Synop}
-use Rattle.record.specs.Missing.{is_missing, no_tenths, no_speed, no_letters, between}
-use Rattle.record.specs.SilentSurface.{no_sign, no_position, no_surface, no_fall, no_weather, is_blank_layer, no_section3}
+use Rattle.record.specs.Missing.{is_missing, no_speed, no_letters, between}
+use Rattle.record.specs.SilentSurface.{no_sign, no_position, no_surface, no_weather, is_blank_layer, no_section3}
 use Rattle.synop_groups.specs.Reads.{is_unit, is_level}
 use Rattle.synop_groups.specs.Judge.{present_tenths, metres, is_station, sight_fits, speed_fits, wind_fits, wind_agrees, tenths_fit, moist_fits, level_fits, change_fits, change_suits, change_agrees, fall_fits, clock_fits, height_fits, layer_fits, judge_time, judge_station, judge_sign, judge_position, judge_indicators, judge_wind, judge_air, judge_moisture, judge_pressure, judge_level, judge_tendency, judge_rainfall, judge_weather, judge_clouds, judge_clock}
 use Rattle.section3.specs.Row.{rises}
@@ -124,10 +119,10 @@ time-judged t =
     value-judges
     (both-clear (both-clear (clear-needed (between 1 31) t.day) (clear-needed (between 0 23) t.hour)) (clear-needed is_unit t.unit))
 
-abbrev station_causes : Number → Causes
+abbrev station_causes : Option ℕ → Causes
 station_causes n = needed station is_station n
 
-station-judged : (n : Number) → Judges (judge_station n) (station_causes n)
+station-judged : (n : Option ℕ) → Judges (judge_station n) (station_causes n)
 unfolding judge_station
 station-judged n = value-judges (clear-needed is_station n)
 
@@ -146,16 +141,16 @@ sign-judged s = value-judges (both-clear (clear-named (no_sign s) (name_right s.
     go n l e = rw (eqb-true n 0 (both (eqb n 0) (no_letters l) e).0)
 
 -- tenths of a degree that have to be there
-abbrev outside_tenths : (ℤ → Bool) → Tenths → Bool
-outside_tenths ok tenths.Missing = false
-outside_tenths ok (tenths.Is t) = not (ok t)
+abbrev outside_tenths : (ℤ → Bool) → Option ℤ → Bool
+outside_tenths ok None = false
+outside_tenths ok (Some t) = not (ok t)
 
-abbrev needed_tenths : Field → (ℤ → Bool) → Tenths → Causes
-needed_tenths f ok t = asked (required-missing f) (no_tenths t) ∷ asked (outside-its-range f) (outside_tenths ok t) ∷ []
+abbrev needed_tenths : Field → (ℤ → Bool) → Option ℤ → Causes
+needed_tenths f ok t = asked (required-missing f) (is_missing t) ∷ asked (outside-its-range f) (outside_tenths ok t) ∷ []
 
-clear-tenths : {f : Field} (ok : ℤ → Bool) (t : Tenths) → Clears refusal.Value (present_tenths ok t) (needed_tenths f ok t)
-clear-tenths ok tenths.Missing = record { alike = one_more refl (one_more refl none); is = refl }
-clear-tenths ok (tenths.Is t) = record { alike = one_more refl (one_more refl none); is = twice (ok t) }
+clear-tenths : {f : Field} (ok : ℤ → Bool) (t : Option ℤ) → Clears refusal.Value (present_tenths ok t) (needed_tenths f ok t)
+clear-tenths ok None = record { alike = one_more refl (one_more refl none); is = refl }
+clear-tenths ok (Some t) = record { alike = one_more refl (one_more refl none); is = twice (ok t) }
 
 -- "Latitude 000-900"; "a record's longitude runs from -179.9 to 180.0"
 abbrev latitude_right : ℤ → Bool
@@ -278,25 +273,25 @@ level-judged l = go l.is
     go (at_level.Isobaric a h) = value-judges (both-clear (clear-unless (is_level a)) (clear-unless (leb h 999)))
 
 -- "In a record a change against a is 7."
-abbrev tendency_causes : PressureChange → Causes
-tendency_causes change.Missing = []
-tendency_causes (change.Is a c) =
-    (unless (leb a 8) (outside-its-range tendency) ++ unless (leb (nat_abs c) 999) (outside-its-range pressure-change)) ++ unless (change_suits a c) (disagreeing tendency)
+abbrev tendency_causes : Option PressureChange → Causes
+tendency_causes None = []
+tendency_causes (Some x) =
+    (unless (leb x.tendency 8) (outside-its-range tendency) ++ unless (leb (nat_abs x.change) 999) (outside-its-range pressure-change)) ++ unless (change_suits x.tendency x.change) (disagreeing tendency)
 
 tendency-judged : (t : Tendency) → Judges (judge_tendency t) (tendency_causes t.is)
 unfolding judge_tendency
 tendency-judged t = go t.is
   where
-    go : (x : PressureChange) → Judges (judge (change_fits x) (change_agrees x)) (tendency_causes x)
-    go change.Missing = no-cause
-    go (change.Is a c) =
+    go : (x : Option PressureChange) → Judges (judge (change_fits x) (change_agrees x)) (tendency_causes x)
+    go None = no-cause
+    go (Some x) =
         group-judges
-        (both-clear (clear-unless (leb a 8)) (clear-unless (leb (nat_abs c) 999))) (clear-unless {c = disagreeing tendency} (change_suits a c))
+        (both-clear (clear-unless (leb x.tendency 8)) (clear-unless (leb (nat_abs x.change) 999))) (clear-unless {c = disagreeing tendency} (change_suits x.tendency x.change))
 
 -- an amount and its period, which may be missing; and whether iR forbids the group
-abbrev rain_causes : Bool → Fall → Causes
-rain_causes forbidden fall.Missing = []
-rain_causes forbidden (fall.Is r t) = (unless (rain_fits r) (outside-its-range rain-amount) ++ free rain-period (between 0 9) t) ++ asked (disagreeing rainfall) forbidden ∷ []
+abbrev rain_causes : Bool → Option Fall → Causes
+rain_causes forbidden None = []
+rain_causes forbidden (Some x) = (unless (rain_fits x.amount) (outside-its-range rain-amount) ++ free rain-period (between 0 9) x.period) ++ asked (disagreeing rainfall) forbidden ∷ []
 
 rainfall-judged : (forbidden : Bool) (r : Rainfall) → Judges (judge_rainfall forbidden r) (rain_causes forbidden r.is)
 unfolding judge_rainfall
@@ -310,11 +305,11 @@ rainfall-judged forbidden r = go r.is
     allowed true = no-cause
     allowed false = no-cause
 
-    go : (x : Fall) → Judges (judge (fall_fits x) (not forbidden || no_fall x)) (rain_causes forbidden x)
-    go fall.Missing = allowed forbidden
-    go (fall.Is r t) =
+    go : (x : Option Fall) → Judges (judge (fall_fits x) (not forbidden || is_missing x)) (rain_causes forbidden x)
+    go None = allowed forbidden
+    go (Some x) =
         group-judges
-        (both-clear (clear-unless (rain_fits r)) (clear-free (between 0 9) t)) (forbids forbidden)
+        (both-clear (clear-unless (rain_fits x.amount)) (clear-free (between 0 9) x.period)) (forbids forbidden)
 
 -- and whether ix forbids the group
 abbrev weather_causes : Bool → Weather → Causes
@@ -339,17 +334,17 @@ clouds-judged c =
     value-judges
     (both-clear (both-clear (both-clear (clear-free (between 0 9) c.amount) (clear-free (between 0 9) c.low)) (clear-free (between 0 9) c.middle)) (clear-free (between 0 9) c.high))
 
-abbrev clock_causes : Observed → Causes
-clock_causes observed.Missing = []
-clock_causes (observed.At h m) = unless (leb h 23) (outside-its-range clock-hour) ++ unless (leb m 59) (outside-its-range clock-minute)
+abbrev clock_causes : Option Observed → Causes
+clock_causes None = []
+clock_causes (Some x) = unless (leb x.hour 23) (outside-its-range clock-hour) ++ unless (leb x.minute 59) (outside-its-range clock-minute)
 
 clock-judged : (c : Clock) → Judges (judge_clock c) (clock_causes c.is)
 unfolding judge_clock
 clock-judged c = go c.is
   where
-    go : (x : Observed) → Judges (judge (clock_fits x) true) (clock_causes x)
-    go observed.Missing = no-cause
-    go (observed.At h m) = value-judges (both-clear (clear-unless (leb h 23)) (clear-unless (leb m 59)))
+    go : (x : Option Observed) → Judges (judge (clock_fits x) true) (clock_causes x)
+    go None = no-cause
+    go (Some x) = value-judges (both-clear (clear-unless (leb x.hour 23)) (clear-unless (leb x.minute 59)))
 
 -- ---- section 3
 

@@ -2,6 +2,7 @@
 -- aerodrome wind speed that is over its unit's last figure said more openly, as "above" it (`speeds_opened`); and written again it has the same bytes. So the
 -- writer never refuses a record that was read, but for want of room, and never where it has 2,048 bytes.
 -- Assumes nothing.
+use Rattle.std.specs.Prelude.{Err, Ok}
 use Prim.Native.Nat.{ℕ, zero, suc, ◌≤◌, ◌<◌}
 use native.Mathlib.Omega.{arith}
 use mathlib.Core.Path.{◌≡◌, refl, sym, ap, ◌∙◌}
@@ -11,8 +12,6 @@ use Rattle.figures.specs.Put.{splice}
 use Rattle.figures.proofs.Impossible.{impossible}
 use Rattle.text.specs.declared.kinds.Refusal.{Refusal}
 use Rattle.text.specs.declared.kinds.Refusal.TheVariants as refusal
-use Rattle.text.specs.declared.kinds.Judged.TheVariants as judged
-use Rattle.text.specs.declared.kinds.Written.TheVariants as answer
 use Rattle.text.specs.Text.{tail_of}
 use Rattle.text.specs.Groups.{groups_from}
 use Rattle.record.specs.declared.surface.Synop.{Synop}
@@ -113,7 +112,7 @@ canonical-short (forecast t arrays own e) = omega (arith, taf-text.length-canoni
 
 module _ (chosen : Edition) (t : List ℕ) (rest : ℕ) (r : Report) (e : read_in chosen t ≡ accepted rest r) where
   -- its record is judged fine, and its arrays have the code's lengths
-  pub given-fine : judge_in chosen r ≡ judged.Fine
+  pub given-fine : judge_in chosen r ≡ Ok tt
   given-fine = fair-fine (given chosen t rest r e).fair
 
   pub given-arrays : Arrays r
@@ -146,11 +145,11 @@ module _ (chosen : Edition) (t : List ℕ) (rest : ℕ) (r : Report) (e : read_i
   given-short = canonical-short (given chosen t rest r e).fair
 
   pub given-written : (b : List ℕ) → length (canonical_of r) ≤ length b
-      → (written_in chosen r (length b) ≡ answer.Count (length (canonical_of r))) × (buffer_in chosen r b ≡ splice b 0 (canonical_of r))
+      → (written_in chosen r (length b) ≡ Ok (length (canonical_of r))) × (buffer_in chosen r b ≡ splice b 0 (canonical_of r))
   given-written b h = one-text chosen r b given-fine h
 
   -- so 10 is the one refusal that it can get, for want of room
-  pub given-refused : (b : List ℕ) (f : Refusal) → written_in chosen r (length b) ≡ answer.Refused f → (f ≡ refusal.Room) × (length b < length (canonical_of r))
+  pub given-refused : (b : List ℕ) (f : Refusal) → written_in chosen r (length b) ≡ Err f → (f ≡ refusal.Room) × (length b < length (canonical_of r))
   given-refused b f w = go (only-causes chosen r b f w)
     where
       go : {g : Refusal} → Cause chosen r b g → (g ≡ refusal.Room) × (length b < length (canonical_of r))

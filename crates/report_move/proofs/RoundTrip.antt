@@ -1,13 +1,13 @@
 -- The two round trips of a record of any kind: "With one month length, old to new to old gives the same text, and new to old to new the same moments, hour 00
 -- at an end becoming 24 of the day before."
 -- Assumes nothing.
+use Rattle.std.specs.Prelude.{⊤, Err, Ok, Result}
+use Rattle.text.specs.declared.kinds.Refusal.{Refusal}
 use Prim.Native.Nat.{ℕ}
 use mathlib.Core.Path.{◌≡◌, refl, sym, ap, ◌∙◌}
 use mathlib.Core.Bool.{true}
 use lib.ListN.{length}
 use Rattle.figures.proofs.Impossible.{impossible}
-use Rattle.text.specs.declared.kinds.Judged.{Judged}
-use Rattle.text.specs.declared.kinds.Judged.TheVariants as judged
 use Rattle.record.specs.declared.aerodrome.Edition.{Edition}
 use Rattle.record.specs.declared.aerodrome.Edition.TheVariants as edition
 use Rattle.record.specs.declared.aerodrome.Taf.{Taf}
@@ -26,37 +26,37 @@ use Rattle.report_move.proofs.Moving.{others_blank, fine-kind, taf-judged}
 
 -- a report that is moved, and what comes
 abbrev pub moved : Report → Moved
-moved s = record { judged = judged.Fine; report = s }
+moved s = record { judged = Ok tt; report = s }
 
-moved-fine : (j : Judged) (x s : Report) → moved_by j x ≡ moved s → (j ≡ judged.Fine) × (x ≡ s)
-moved-fine judged.Fine x s e = (refl, ap (λ (m : Moved). m.report) e)
-moved-fine (judged.Refused f) x s e = let b : judged.Refused f ≡ judged.Fine = ap (λ (m : Moved). m.judged) e in impossible (cc)
+moved-fine : (j : Result ⊤ Refusal) (x s : Report) → moved_by j x ≡ moved s → (j ≡ Ok tt) × (x ≡ s)
+moved-fine (Ok tt) x s e = (refl, ap (λ (m : Moved). m.report) e)
+moved-fine (Err f) x s e = let b : Err f ≡ Ok tt = ap (λ (m : Moved). m.judged) e in impossible (cc)
 
 module _ (to : Edition) (days : ℕ) (r s : Report) (m : moved_of to days r ≡ moved s) where
-  comes : (judge_move to days r ≡ judged.Fine) × (with_forecast (times_in to days r.forecast) r ≡ s)
+  comes : (judge_move to days r ≡ Ok tt) × (with_forecast (times_in to days r.forecast) r ≡ s)
   unfolding moved_of
   comes = moved-fine (judge_move to days r) (with_forecast (times_in to days r.forecast) r) s m
 
   is-taf : (r.kind ≡ kind.Forecast) × (others_blank r ≡ true)
   is-taf = fine-kind to days r comes.0
 
-  own-moved : taf_moved to days r.forecast ≡ record { judged = judged.Fine; forecast = times_in to days r.forecast }
+  own-moved : taf_moved to days r.forecast ≡ record { judged = Ok tt; forecast = times_in to days r.forecast }
   unfolding taf_moved
   own-moved = rw (sym (taf-judged to days r is-taf.0 is-taf.1) ∙ comes.0)
 
   -- WHAT IS MOVED IS A TAF, AND ITS OWN RECORD IS MOVED,
-  pub forecast-moved : taf_moved to days r.forecast ≡ record { judged = judged.Fine; forecast = s.forecast }
-  forecast-moved = own-moved ∙ ap (λ (q : Report). record { judged = judged.Fine; forecast = q.forecast }) comes.1
+  pub forecast-moved : taf_moved to days r.forecast ≡ record { judged = Ok tt; forecast = s.forecast }
+  forecast-moved = own-moved ∙ ap (λ (q : Report). record { judged = Ok tt; forecast = q.forecast }) comes.1
 
-  taf-parts : (j : Judged) (x y : Taf) → times.moved_by j x ≡ record { judged = judged.Fine; forecast = y } → (j ≡ judged.Fine) × (x ≡ y)
-  taf-parts judged.Fine x y e = (refl, ap (λ (q : MovedTaf). q.forecast) e)
-  taf-parts (judged.Refused f) x y e = let b : judged.Refused f ≡ judged.Fine = ap (λ (q : MovedTaf). q.judged) e in impossible (cc)
+  taf-parts : (j : Result ⊤ Refusal) (x y : Taf) → times.moved_by j x ≡ record { judged = Ok tt; forecast = y } → (j ≡ Ok tt) × (x ≡ y)
+  taf-parts (Ok tt) x y e = (refl, ap (λ (q : MovedTaf). q.forecast) e)
+  taf-parts (Err f) x y e = let b : Err f ≡ Ok tt = ap (λ (q : MovedTaf). q.judged) e in impossible (cc)
 
   module _ (all : length r.forecast.changes.items ≡ 16) where
     abbrev came : Taf
     came = times_in to days r.forecast
 
-    back-parts : (forecast.judge_move (other to) days came ≡ judged.Fine) × (times_in (other to) days came ≡ midnights_before days r.forecast)
+    back-parts : (forecast.judge_move (other to) days came ≡ Ok tt) × (times_in (other to) days came ≡ midnights_before days r.forecast)
     unfolding taf_moved
     back-parts = taf-parts (forecast.judge_move (other to) days came) (times_in (other to) days came) (midnights_before days r.forecast) (moved-there-and-back to days r.forecast came all own-moved)
 

@@ -1,8 +1,7 @@
 -- Document 02, No. 9: "move records over and back, the caller naming the days in the starting month", for a record of any kind.
 -- Assumes nothing: these are definitions.
-use Rattle.std.specs.Prelude.{ℕ, Bool, true, false, ◌&&◌}
-use Rattle.text.specs.declared.kinds.Judged.{Judged}
-use Rattle.text.specs.declared.kinds.Judged.TheVariants as judged
+use Rattle.std.specs.Prelude.{⊤, ℕ, Bool, true, false, ◌&&◌, Err, Ok, Result}
+use Rattle.text.specs.declared.kinds.Refusal.{Refusal}
 use Rattle.text.specs.Judge.{judge, and_then}
 use Rattle.record.specs.declared.aerodrome.Edition.{Edition}
 use Rattle.record.specs.declared.aerodrome.Taf.{Taf}
@@ -27,7 +26,7 @@ is_taf_of e r = is_taf r.kind && is_same_edition e r.forecast.edition
 
 -- "11 for a record that is no TAF of the edition left, the writer's 11 or 7, then 11 for a month length outside 28 to 31 or a period or change day past it";
 -- before 15 (`judge_times`)
-unfoldable pub judge_move : Edition → ℕ → Report → Judged
+unfoldable pub judge_move : Edition → ℕ → Report → Result ⊤ Refusal
 judge_move to days r = and_then (judge (is_taf_of (other to) r) true) (and_then (judge_in (other to) r) (judge_times days r.forecast))
 
 -- "All but periods and change times moves as it is."
@@ -35,9 +34,9 @@ abbrev pub with_forecast : Taf → Report → Report
 with_forecast t r = record { kind = r.kind; surface = r.surface; observed = r.observed; forecast = t }
 
 -- "A refusal gives a blank record."
-abbrev pub moved_by : Judged → Report → Moved
-moved_by judged.Fine r = record { judged = judged.Fine; report = r }
-moved_by (judged.Refused f) r = record { judged = judged.Refused f; report = blank_report }
+abbrev pub moved_by : Result ⊤ Refusal → Report → Moved
+moved_by (Ok tt) r = record { judged = Ok tt; report = r }
+moved_by (Err f) r = record { judged = Err f; report = blank_report }
 
 -- THE MOVE: a report in this edition, with so many days in the starting month.
 unfoldable pub moved_of : Edition → ℕ → Report → Moved

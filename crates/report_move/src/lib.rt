@@ -3,8 +3,7 @@
 
 pub mod kinds;
 
-ghost use Rattle.std.specs.Prelude.{◌≡◌};
-ghost use Rattle.text.specs.declared.kinds.Judged.TheVariants as judged;
+ghost use Rattle.std.specs.Prelude.{◌≡◌, Err};
 ghost use Rattle.report_record.specs.Record.{blank_report};
 ghost use Rattle.report_move.specs.Move.{is_taf, moved_by, moved_of};
 
@@ -13,26 +12,20 @@ use record::aerodrome::Edition;
 use report_record::answer::blank_report;
 use report_record::kinds::{Kind, Report};
 use taf_move::move_taf;
-use text::kinds::{Judged, Refusal};
+use text::kinds::Refusal;
 
 fn is_taf(kind: Kind) -> bool
     ensures { result ≡ is_taf kind }
 {
-    match kind {
-        Kind::Missing => false,
-        Kind::Surface => false,
-        Kind::Observed => false,
-        Kind::Forecast => true,
-    }
+    matches!(kind, Kind::Forecast)
 }
 
 fn refuse(refusal: Refusal) -> Moved
-    ensures { result ≡ moved_by (judged.Refused refusal) blank_report }
+    ensures { result ≡ moved_by (Err refusal) blank_report }
 {
-    let report = blank_report(Kind::Missing);
     Moved {
-        judged: Judged::Refused(refusal),
-        report,
+        judged: Err(refusal),
+        report: blank_report(Kind::Missing),
     }
 }
 
@@ -41,20 +34,18 @@ fn refuse(refusal: Refusal) -> Moved
 pub fn move_report(to: Edition, days: u32, report: Report) -> Moved
     ensures { result ≡ moved_of to days report }
 {
-    let kind = report.kind;
-    if is_taf(kind) & report.surface.is_blank() & report.observed.is_blank() {
-        let moved = move_taf(to, days, report.forecast);
-        let judged = moved.judged;
-        match judged {
-            Judged::Refused(refusal) => refuse(refusal),
-            Judged::Fine => {
-                let forecast = moved.forecast;
-                let mut report = report;
-                report.forecast = forecast;
-                Moved { judged, report }
-            }
-        }
-    } else {
-        refuse(Refusal::Value)
+    if !(is_taf(report.kind) & report.surface.is_blank() & report.observed.is_blank()) {
+        return refuse(Refusal::Value);
+    }
+    let moved = move_taf(to, days, report.forecast);
+    match moved.judged {
+        Err(refusal) => refuse(refusal),
+        Ok(()) => Moved {
+            judged: Ok(()),
+            report: Report {
+                forecast: moved.forecast,
+                ..report
+            },
+        },
     }
 }

@@ -1,9 +1,7 @@
 -- Whether a report corrects another: "Given a first METAR, SPECI or TAF and a second: if the second is accepted, carries COR and has the same kind, CCCC and time as an
 -- accepted first, the answer is the second; else the first if it is accepted and of these kinds; else an empty part of the first."
 -- Assumes nothing: these are definitions.
-use Rattle.std.specs.Prelude.{ℕ, Bool, true, false, cond, not, ◌&&◌, ◌||◌, get_or, eqb}
-use Rattle.record.specs.declared.values.Number.{Number}
-use Rattle.record.specs.declared.values.Number.TheVariants as number
+use Rattle.std.specs.Prelude.{ℕ, Bool, true, false, cond, not, ◌&&◌, ◌||◌, get_or, eqb, None, Option, Some}
 use Rattle.record.specs.declared.aerodrome.Correction.{Correction}
 use Rattle.record.specs.declared.aerodrome.Correction.TheVariants as correction
 use Rattle.record.specs.declared.aerodrome.Instant.{Instant}
@@ -17,11 +15,11 @@ use Rattle.report_record.specs.declared.kinds.Report.{Report}
 use Rattle.report_record.specs.declared.kinds.Stands.{Stands}
 use Rattle.report_record.specs.declared.kinds.Stands.TheVariants as stands
 
-abbrev pub same_number : Number → Number → Bool
-same_number number.Missing number.Missing = true
-same_number number.Missing (number.Is n) = false
-same_number (number.Is m) number.Missing = false
-same_number (number.Is m) (number.Is n) = eqb m n
+abbrev pub same_number : Option ℕ → Option ℕ → Bool
+same_number None None = true
+same_number None (Some n) = false
+same_number (Some m) None = false
+same_number (Some m) (Some n) = eqb m n
 
 -- "time": the report's own, day, hour and minute
 abbrev pub same_instant : Instant → Instant → Bool

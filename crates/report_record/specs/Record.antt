@@ -1,10 +1,9 @@
 -- The record of a report of any kind: a part for each kind, those of the other kinds blank. "A refused reading returns a blank record (all fields
 -- missing)."
 -- Assumes nothing: these are definitions.
-use Rattle.std.specs.Prelude.{ℕ}
+use Rattle.std.specs.Prelude.{ℕ, Err, Ok, Result}
 use Rattle.text.specs.declared.kinds.Refusal.{Refusal}
-use Rattle.text.specs.declared.kinds.Verdict.{Verdict}
-use Rattle.text.specs.declared.kinds.Verdict.TheVariants as verdict
+use Rattle.text.specs.declared.kinds.Refused.{Refused}
 use Rattle.places.specs.Answer.{accepted_as, refused_as}
 use Rattle.record.specs.declared.surface.Synop.{Synop}
 use Rattle.record.specs.declared.aerodrome.Metar.{Metar}
@@ -33,22 +32,22 @@ abbrev pub forecast_report : Taf → Report
 forecast_report r = report_of kind.Forecast blank_synop blank_metar r
 
 -- the report of an accepted text has its kind, that of a refused one none
-abbrev pub kind_by : Verdict → Kind → Kind
-kind_by (verdict.Accepted rest) k = k
-kind_by (verdict.Refused f at) k = kind.Missing
+abbrev pub kind_by : Result ℕ Refused → Kind → Kind
+kind_by (Ok rest) k = k
+kind_by (Err x) k = kind.Missing
 
 -- a reading with its verdict; the record is blank where the text is refused
-abbrev pub reading : Verdict → Report → Reading
+abbrev pub reading : Result ℕ Refused → Report → Reading
 reading v r = record { verdict = v; report = r }
 
 -- what the reader of a kind answers, as the reading of a report
-abbrev pub of_surface : Verdict → Synop → Reading
+abbrev pub of_surface : Result ℕ Refused → Synop → Reading
 of_surface v r = reading v (report_of (kind_by v kind.Surface) r blank_metar blank_taf)
 
-abbrev pub of_observed : Verdict → Metar → Reading
+abbrev pub of_observed : Result ℕ Refused → Metar → Reading
 of_observed v r = reading v (report_of (kind_by v kind.Observed) blank_synop r blank_taf)
 
-abbrev pub of_forecast : Verdict → Taf → Reading
+abbrev pub of_forecast : Result ℕ Refused → Taf → Reading
 of_forecast v r = reading v (report_of (kind_by v kind.Forecast) blank_synop blank_metar r)
 
 abbrev pub accepted : ℕ → Report → Reading

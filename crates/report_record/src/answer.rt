@@ -10,18 +10,15 @@ use record::aerodrome::{Metar, Taf};
 use record::blank_aerodrome::{blank_metar, blank_taf};
 use record::blank_surface::blank_synop;
 use record::surface::Synop;
-use text::kinds::{Refusal, Verdict};
+use text::kinds::{Refusal, Refused};
 
 // The report of an accepted text has its kind, that of a refused one none.
-fn kind_by(verdict: Verdict, kind: Kind) -> Kind
+fn kind_by(verdict: Result<usize, Refused>, kind: Kind) -> Kind
     ensures { result ≡ kind_by verdict kind }
 {
     match verdict {
-        Verdict::Accepted { rest: _ } => kind,
-        Verdict::Refused {
-            refusal: _,
-            place: _,
-        } => Kind::Missing,
+        Ok(_) => kind,
+        Err(_) => Kind::Missing,
     }
 }
 
@@ -29,41 +26,44 @@ fn kind_by(verdict: Verdict, kind: Kind) -> Kind
 pub fn blank_report(kind: Kind) -> Report
     ensures { result ≡ report_of kind blank_synop blank_metar blank_taf }
 {
-    let surface = blank_synop();
-    let observed = blank_metar();
-    let forecast = blank_taf();
     Report {
         kind,
-        surface,
-        observed,
-        forecast,
+        surface: blank_synop(),
+        observed: blank_metar(),
+        forecast: blank_taf(),
     }
 }
 
 // What the reader of SYNOP and SHIP answers; where it refuses the text, its record is blank.
-pub fn of_surface(verdict: Verdict, surface: Synop) -> Reading
+pub fn of_surface(verdict: Result<usize, Refused>, surface: Synop) -> Reading
     ensures { result ≡ of_surface verdict surface }
 {
-    let mut report = blank_report(kind_by(verdict, Kind::Surface));
-    report.surface = surface;
+    let report = Report {
+        surface,
+        ..blank_report(kind_by(verdict, Kind::Surface))
+    };
     Reading { verdict, report }
 }
 
 // The same of METAR and SPECI.
-pub fn of_observed(verdict: Verdict, observed: Metar) -> Reading
+pub fn of_observed(verdict: Result<usize, Refused>, observed: Metar) -> Reading
     ensures { result ≡ of_observed verdict observed }
 {
-    let mut report = blank_report(kind_by(verdict, Kind::Observed));
-    report.observed = observed;
+    let report = Report {
+        observed,
+        ..blank_report(kind_by(verdict, Kind::Observed))
+    };
     Reading { verdict, report }
 }
 
 // The same of TAF.
-pub fn of_forecast(verdict: Verdict, forecast: Taf) -> Reading
+pub fn of_forecast(verdict: Result<usize, Refused>, forecast: Taf) -> Reading
     ensures { result ≡ of_forecast verdict forecast }
 {
-    let mut report = blank_report(kind_by(verdict, Kind::Forecast));
-    report.forecast = forecast;
+    let report = Report {
+        forecast,
+        ..blank_report(kind_by(verdict, Kind::Forecast))
+    };
     Reading { verdict, report }
 }
 
@@ -71,9 +71,8 @@ pub fn of_forecast(verdict: Verdict, forecast: Taf) -> Reading
 pub fn refuse(refusal: Refusal, place: usize) -> Reading
     ensures { result ≡ refused refusal place }
 {
-    let report = blank_report(Kind::Missing);
     Reading {
-        verdict: Verdict::Refused { refusal, place },
-        report,
+        verdict: Err(Refused { refusal, place }),
+        report: blank_report(Kind::Missing),
     }
 }

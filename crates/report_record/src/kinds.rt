@@ -1,7 +1,10 @@
 // The record of a report of any kind, what reading a text answers, and which of two texts stands.
+ghost use Rattle.std.specs.Prelude.{◌≡◌};
+ghost use Rattle.report_record.specs.Kinship.{is_observed, is_forecast};
+
 use record::aerodrome::{Metar, Taf};
 use record::surface::Synop;
-use text::kinds::{Refusal, Verdict};
+use text::kinds::{Refusal, Refused};
 
 // What a report is: SYNOP or SHIP, METAR or SPECI, TAF.
 #[derive(Clone, Copy)]
@@ -10,6 +13,22 @@ pub enum Kind {
     Surface,
     Observed,
     Forecast,
+}
+
+impl Kind {
+    // METAR or SPECI.
+    pub fn is_observed(self) -> bool
+        ensures { result ≡ is_observed self }
+    {
+        matches!(self, Kind::Observed)
+    }
+
+    // TAF.
+    pub fn is_forecast(self) -> bool
+        ensures { result ≡ is_forecast self }
+    {
+        matches!(self, Kind::Forecast)
+    }
 }
 
 // What a report says, a part for each kind; the parts that its kind does not have are blank.
@@ -32,7 +51,7 @@ pub enum Name {
 
 #[derive(Clone, Copy)]
 pub struct Reading {
-    pub verdict: Verdict,
+    pub verdict: Result<usize, Refused>,
     pub report: Report,
 }
 

@@ -1,64 +1,41 @@
 // Whether a second report is a correction of a first, by their records.
 ghost use Rattle.std.specs.Prelude.{◌≡◌};
-ghost use Rattle.report_record.specs.Kinship.{same_number, same_instant, same_station, alike, is_corrected, metar_corrects, taf_corrects, is_observed, is_forecast, corrects, judge_standing};
+ghost use Rattle.report_record.specs.Kinship.{same_number, same_instant, same_station, alike, is_corrected, metar_corrects, taf_corrects, corrects, judge_standing};
 
-use crate::kinds::{Kind, Report, Stands};
+use crate::kinds::{Report, Stands};
 use record::aerodrome::{Correction, Instant, Metar, Station, Taf};
-use record::values::Number;
 
-fn same_number(a: Number, b: Number) -> bool
+fn same_number(a: Option<u32>, b: Option<u32>) -> bool
     ensures { result ≡ same_number a b }
 {
-    match a {
-        Number::Missing => match b {
-            Number::Missing => true,
-            Number::Is(_) => false,
-        },
-        Number::Is(m) => match b {
-            Number::Missing => false,
-            Number::Is(n) => m == n,
-        },
-    }
+    a == b
 }
 
 // Day, hour and minute.
 fn same_instant(a: Instant, b: Instant) -> bool
     ensures { result ≡ same_instant a b }
 {
-    let day = a.day;
-    let hour = a.hour;
-    let minute = a.minute;
-    let other_day = b.day;
-    let other_hour = b.hour;
-    let other_minute = b.minute;
-    same_number(day, other_day) & same_number(hour, other_hour) & same_number(minute, other_minute)
+    same_number(a.day, b.day) & same_number(a.hour, b.hour) & same_number(a.minute, b.minute)
 }
 
 fn same_station(a: Station, b: Station) -> bool
     ensures { result ≡ same_station a b }
 {
-    (a.letters[0] == b.letters[0])
-        & (a.letters[1] == b.letters[1])
-        & (a.letters[2] == b.letters[2])
-        & (a.letters[3] == b.letters[3])
+    a.letters == b.letters
 }
 
 // COR, and not AMD.
 fn is_corrected(c: Correction) -> bool
     ensures { result ≡ is_corrected c }
 {
-    match c {
-        Correction::None => false,
-        Correction::Amended => false,
-        Correction::Corrected => true,
-    }
+    matches!(c, Correction::Corrected)
 }
 
 // Both or neither.
 fn is_alike(a: bool, b: bool) -> bool
     ensures { result ≡ alike a b }
 {
-    (a & b) | (!a & !b)
+    a == b
 }
 
 // METAR for METAR, SPECI for SPECI.
@@ -78,56 +55,29 @@ fn taf_corrects(first: Taf, second: Taf) -> bool
 {
     let before = first.leg;
     let after = second.leg;
-    let correction = after.correction;
-    is_corrected(correction)
+    is_corrected(after.correction)
         & same_station(before.station, after.station)
         & same_instant(before.time, after.time)
 }
 
-// METAR or SPECI.
-fn is_observed(k: Kind) -> bool
-    ensures { result ≡ is_observed k }
-{
-    match k {
-        Kind::Missing => false,
-        Kind::Surface => false,
-        Kind::Observed => true,
-        Kind::Forecast => false,
-    }
-}
-
-// TAF.
-fn is_forecast(k: Kind) -> bool
-    ensures { result ≡ is_forecast k }
-{
-    match k {
-        Kind::Missing => false,
-        Kind::Surface => false,
-        Kind::Observed => false,
-        Kind::Forecast => true,
-    }
-}
-
+#[tactic(auto, unfolding(crate::specs::Kinship::corrects))]
 fn corrects(first: Report, second: Report) -> bool
     ensures { result ≡ corrects first second }
 {
-    let kind = first.kind;
-    let other_kind = second.kind;
-    let observed = is_observed(kind) & is_observed(other_kind);
-    let forecast = is_forecast(kind) & is_forecast(other_kind);
+    let observed = first.kind.is_observed() & second.kind.is_observed();
+    let forecast = first.kind.is_forecast() & second.kind.is_forecast();
     (observed & metar_corrects(first.observed, second.observed))
         | (forecast & taf_corrects(first.forecast, second.forecast))
 }
 
 // The kind of a refused text's record is missing, so that a report of these kinds was accepted.
+#[tactic(auto, unfolding(crate::specs::Kinship::judge_standing))]
 pub fn judge_standing(first: Report, second: Report) -> Stands
     ensures { result ≡ judge_standing first second }
 {
-    let kind = first.kind;
     if corrects(first, second) {
-        return Stands::Second;
-    }
-    if is_observed(kind) | is_forecast(kind) {
+        Stands::Second
+    } else if first.kind.is_observed() | first.kind.is_forecast() {
         Stands::First
     } else {
         Stands::Neither

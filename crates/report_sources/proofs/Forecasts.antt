@@ -2,15 +2,16 @@
 -- The contracts of `report_sources::forecast::item`, `changed`, `opened` and `joined` are equations with `forecast_at`: the part that each hands back is the source
 -- that these theorems speak of.
 -- Assumes nothing.
+use Rattle.std.specs.Prelude.{Err, None}
 use Prim.Native.Nat.{ℕ, ◌<◌}
 use mathlib.Core.Path.{◌≡◌, sym, ap, subst, ◌∙◌}
 use mathlib.Core.Bool.{false}
 use mathlib.Core.List.{List}
 use lib.ListN.{length}
 use Rattle.text.specs.declared.kinds.Refusal.{Refusal}
-use Rattle.text.specs.declared.kinds.Verdict.TheVariants as verdict
 use Rattle.text.specs.Groups.{groups_from}
 use Rattle.text.specs.Text.{tail_of}
+use Rattle.text.specs.Refusals.{refused_with}
 use Rattle.places.specs.Engine.{Done}
 use Rattle.record.specs.declared.aerodrome.Edition.{Edition}
 use Rattle.record.specs.declared.aerodrome.Taf.{Taf}
@@ -21,7 +22,6 @@ use Rattle.report.specs.Read.{read_in}
 use Rattle.report_laws.proofs.Demands.{forecast-exactly, refused-blank}
 use Rattle.sources.specs.declared.kinds.Spot.{Spot}
 use Rattle.sources.specs.declared.kinds.Spot.TheVariants as spot
-use Rattle.sources.specs.declared.kinds.Source.TheVariants as source
 use Rattle.sources.specs.Trail.{group, origin_in, source_of}
 use Rattle.sources.proofs.Items.{Covers}
 use Rattle.sources.proofs.Own.{EachTaken, each_map}
@@ -36,7 +36,7 @@ use Rattle.taf_sources.proofs.Changes as changes
 use Rattle.report_sources.specs.Forecasts.{forecast_at}
 
 -- A REFUSED TEXT HAS NO ITEMS.
-pub refused_none : (e : Edition) (t : List ℕ) (f : Refusal) (at : ℕ) → (read_in e t).verdict ≡ verdict.Refused f at → (part : ℕ) (s : Spot) → forecast_at e t part s ≡ source.None
+pub refused_none : (e : Edition) (t : List ℕ) (f : Refusal) (at : ℕ) → (read_in e t).verdict ≡ Err (refused_with f at) → (part : ℕ) (s : Spot) → forecast_at e t part s ≡ None
 unfolding forecast_at
 refused_none e t f at is part s = rw (refused-blank e t f at is).0
 

@@ -1,26 +1,23 @@
 -- PROVENANCE: for every accepted METAR and SPECI and every figure of its record, the part of the text that it was read from. The contracts of
 -- `report_sources::observed`, `changed` and `opened` are equations with `observed_at`: the part that each hands back is the source that these theorems speak of.
 -- Assumes nothing.
+use Rattle.std.specs.Prelude.{Err, None}
 use Prim.Native.Nat.{ℕ, ◌<◌}
-use mathlib.Core.Path.{◌≡◌, refl, sym, ap, subst, ◌∙◌}
+use mathlib.Core.Path.{◌≡◌, sym, ap, subst, ◌∙◌}
 use mathlib.Core.List.{List}
 use lib.ListN.{length}
 use Rattle.text.specs.declared.kinds.Refusal.{Refusal}
-use Rattle.text.specs.declared.kinds.Verdict.TheVariants as verdict
 use Rattle.text.specs.Groups.{groups_from}
+use Rattle.text.specs.Refusals.{refused_with}
 use Rattle.record.specs.declared.aerodrome.Edition.TheVariants as edition
 use Rattle.record.specs.declared.aerodrome.Metar.{Metar}
 use Rattle.record.specs.Observation.{blank_observation}
 use Rattle.record.specs.Trend.{blank_trend_change}
-use Rattle.report_record.specs.declared.kinds.Report.{Report}
-use Rattle.report_record.specs.declared.kinds.Reading.{Reading}
 use Rattle.report_record.specs.Record.{observed_report, accepted}
 use Rattle.report.specs.Read.{read_of}
 use Rattle.report_laws.proofs.Demands.{observed-exactly, refused-blank}
 use Rattle.sources.specs.declared.kinds.Spot.{Spot}
 use Rattle.sources.specs.declared.kinds.Spot.TheVariants as spot
-use Rattle.sources.specs.declared.kinds.Source.{Source}
-use Rattle.sources.specs.declared.kinds.Source.TheVariants as source
 use Rattle.sources.specs.Trail.{group, origin_in, source_of}
 use Rattle.sources.proofs.Items.{Covers}
 use Rattle.sources.proofs.Texts.{ReadFrom}
@@ -32,10 +29,10 @@ use Rattle.metar_sources.specs.declared.kinds.ChangeElement.{ChangeElement}
 use Rattle.sources.proofs.Own.{EachTaken, each_map}
 use Rattle.metar_sources.proofs.Sources.{observed-source, trail-covers, trail-own}
 use Rattle.metar_sources.proofs.Trends.{change-source, opening-source}
-use Rattle.report_sources.specs.Source.{if_observed, observed_at}
+use Rattle.report_sources.specs.Source.{observed_at}
 
 -- A REFUSED TEXT HAS NO ITEMS.
-pub refused_none : (t : List ℕ) (f : Refusal) (at : ℕ) → (read_of t).verdict ≡ verdict.Refused f at → (part : ℕ) (s : Spot) → observed_at t part s ≡ source.None
+pub refused_none : (t : List ℕ) (f : Refusal) (at : ℕ) → (read_of t).verdict ≡ Err (refused_with f at) → (part : ℕ) (s : Spot) → observed_at t part s ≡ None
 unfolding observed_at
 refused_none t f at e part s = rw (refused-blank edition.Present t f at e).0
 

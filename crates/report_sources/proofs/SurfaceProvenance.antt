@@ -2,14 +2,15 @@
 -- `report_sources::surface::item`, `layer` and `opened` are equations with `surface_at` and `surface_layer`: the part that each hands back is the source that these
 -- theorems speak of.
 -- Assumes nothing.
+use Rattle.std.specs.Prelude.{Err, None}
 use Prim.Native.Nat.{ℕ, ◌<◌}
 use mathlib.Core.Path.{◌≡◌, sym, ap, subst, ◌∙◌}
 use mathlib.Core.Bool.{true}
 use mathlib.Core.List.{List}
 use lib.ListN.{length}
 use Rattle.text.specs.declared.kinds.Refusal.{Refusal}
-use Rattle.text.specs.declared.kinds.Verdict.TheVariants as verdict
 use Rattle.text.specs.Groups.{groups_from}
+use Rattle.text.specs.Refusals.{refused_with}
 use Rattle.shapes.specs.Pattern.{has_pattern}
 use Rattle.places.specs.Engine.{Done}
 use Rattle.record.specs.declared.aerodrome.Edition.TheVariants as edition
@@ -22,7 +23,6 @@ use Rattle.report_laws.proofs.ByName.{SurfaceText}
 use Rattle.report_laws.proofs.Demands.{surface-exactly, refused-blank}
 use Rattle.sources.specs.declared.kinds.Spot.{Spot}
 use Rattle.sources.specs.declared.kinds.Spot.TheVariants as spot
-use Rattle.sources.specs.declared.kinds.Source.TheVariants as source
 use Rattle.sources.specs.Trail.{group, origin_in, source_of}
 use Rattle.sources.proofs.Items.{Covers}
 use Rattle.sources.proofs.Own.{EachTaken, each_map}
@@ -34,11 +34,11 @@ use Rattle.synop_sources.proofs.Sources.{surface-source, layer-source, opening-s
 use Rattle.report_sources.specs.Surface.{surface_at, surface_layer}
 
 -- A REFUSED TEXT HAS NO ITEMS.
-pub refused_none : (t : List ℕ) (f : Refusal) (at : ℕ) → (read_of t).verdict ≡ verdict.Refused f at → (part : ℕ) (s : Spot) → surface_at t part s ≡ source.None
+pub refused_none : (t : List ℕ) (f : Refusal) (at : ℕ) → (read_of t).verdict ≡ Err (refused_with f at) → (part : ℕ) (s : Spot) → surface_at t part s ≡ None
 unfolding surface_at
 refused_none t f at e part s = rw (refused-blank edition.Present t f at e).0
 
-pub refused-layer : (t : List ℕ) (f : Refusal) (at : ℕ) → (read_of t).verdict ≡ verdict.Refused f at → (k : ℕ) → surface_layer t k ≡ source.None
+pub refused-layer : (t : List ℕ) (f : Refusal) (at : ℕ) → (read_of t).verdict ≡ Err (refused_with f at) → (k : ℕ) → surface_layer t k ≡ None
 unfolding surface_layer
 refused-layer t f at e k = rw (refused-blank edition.Present t f at e).0
 

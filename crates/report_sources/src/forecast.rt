@@ -12,17 +12,13 @@ use sources::kinds::{Source, Spot};
 use taf_sources::kinds::{ChangeElement, Element};
 
 // The group that was taken at a spot of a part.
-fn find(edition: Edition, text: &[u8], part: usize, spot: Spot) -> Source
+#[tactic(auto, unfolding(crate::specs::Forecasts::forecast_at))]
+fn find(edition: Edition, text: &[u8], part: usize, spot: Spot) -> Option<Source>
     ensures { result ≡ forecast_at edition text.now part spot }
 {
-    let reading = report::read_in(edition, text);
-    let report = reading.report;
-    let kind = report.kind;
-    match kind {
-        Kind::Missing => Source::None,
-        Kind::Surface => Source::None,
-        Kind::Observed => Source::None,
+    match report::read_in(edition, text).report.kind {
         Kind::Forecast => taf_sources::find(edition, text, part, spot),
+        Kind::Missing | Kind::Surface | Kind::Observed => None,
     }
 }
 
@@ -31,8 +27,7 @@ pub fn item(edition: Edition, text: &[u8], element: Element, count: usize) -> &[
     ensures { SourcePart text.entry result (forecast_at edition text.now 0 (spot.At (leg.place_of element) count)) }
 {
     let place = taf_sources::place_of(element);
-    let source = find(edition, text, 0, Spot::At { place, count });
-    sources::part_of(text, source)
+    sources::part_of(text, find(edition, text, 0, Spot::At { place, count }))
 }
 
 // An item of a change group, the first being part 1.
@@ -46,22 +41,19 @@ pub fn changed(
     ensures { SourcePart text.entry result (forecast_at edition text.now part (spot.At (change.place_of element) count)) }
 {
     let place = taf_sources::change_place_of(element);
-    let source = find(edition, text, part, Spot::At { place, count });
-    sources::part_of(text, source)
+    sources::part_of(text, find(edition, text, part, Spot::At { place, count }))
 }
 
 // The word that opened a change group: BECMG, TEMPO, PROB30 or PROB40, or FM with its time.
 pub fn opened(edition: Edition, text: &[u8], part: usize) -> &[u8]
     ensures { SourcePart text.entry result (forecast_at edition text.now part spot.Opening) }
 {
-    let source = find(edition, text, part, Spot::Opening);
-    sources::part_of(text, source)
+    sources::part_of(text, find(edition, text, part, Spot::Opening))
 }
 
 // TEMPO where it belongs to that word, PROB30 TEMPO or PROB40 TEMPO.
 pub fn joined(edition: Edition, text: &[u8], part: usize) -> &[u8]
     ensures { SourcePart text.entry result (forecast_at edition text.now part spot.Joined) }
 {
-    let source = find(edition, text, part, Spot::Joined);
-    sources::part_of(text, source)
+    sources::part_of(text, find(edition, text, part, Spot::Joined))
 }

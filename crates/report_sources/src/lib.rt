@@ -17,17 +17,13 @@ use report_record::kinds::Kind;
 use sources::kinds::{Source, Spot};
 
 // The group that was taken at a spot of a part.
-fn find(text: &[u8], part: usize, spot: Spot) -> Source
+#[tactic(auto, unfolding(crate::specs::Source::observed_at))]
+fn find(text: &[u8], part: usize, spot: Spot) -> Option<Source>
     ensures { result ≡ observed_at text.now part spot }
 {
-    let reading = report::read(text);
-    let report = reading.report;
-    let kind = report.kind;
-    match kind {
-        Kind::Missing => Source::None,
-        Kind::Surface => Source::None,
+    match report::read(text).report.kind {
         Kind::Observed => metar_sources::find(text, part, spot),
-        Kind::Forecast => Source::None,
+        Kind::Missing | Kind::Surface | Kind::Forecast => None,
     }
 }
 
@@ -36,8 +32,7 @@ pub fn observed(text: &[u8], element: Element, count: usize) -> &[u8]
     ensures { SourcePart text.entry result (observed_at text.now 0 (spot.At (observed.place_of element) count)) }
 {
     let place = metar_sources::place_of(element);
-    let source = find(text, 0, Spot::At { place, count });
-    sources::part_of(text, source)
+    sources::part_of(text, find(text, 0, Spot::At { place, count }))
 }
 
 // An item of a part of the trend, the first being part 1.
@@ -45,14 +40,12 @@ pub fn changed(text: &[u8], part: usize, element: ChangeElement, count: usize) -
     ensures { SourcePart text.entry result (observed_at text.now part (spot.At (changed.place_of element) count)) }
 {
     let place = metar_sources::change_place_of(element);
-    let source = find(text, part, Spot::At { place, count });
-    sources::part_of(text, source)
+    sources::part_of(text, find(text, part, Spot::At { place, count }))
 }
 
 // The word that opened a part of the trend: NOSIG, BECMG or TEMPO.
 pub fn opened(text: &[u8], part: usize) -> &[u8]
     ensures { SourcePart text.entry result (observed_at text.now part spot.Opening) }
 {
-    let source = find(text, part, Spot::Opening);
-    sources::part_of(text, source)
+    sources::part_of(text, find(text, part, Spot::Opening))
 }

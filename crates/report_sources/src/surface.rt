@@ -10,32 +10,24 @@ use sources::kinds::{Source, Spot};
 use synop_sources::kinds::Element;
 
 // The group that was taken at a spot of a part.
-fn find(text: &[u8], part: usize, spot: Spot) -> Source
+#[tactic(auto, unfolding(crate::specs::Surface::surface_at))]
+fn find(text: &[u8], part: usize, spot: Spot) -> Option<Source>
     ensures { result ≡ surface_at text.now part spot }
 {
-    let reading = report::read(text);
-    let report = reading.report;
-    let kind = report.kind;
-    match kind {
-        Kind::Missing => Source::None,
+    match report::read(text).report.kind {
         Kind::Surface => synop_sources::find(text, part, spot),
-        Kind::Observed => Source::None,
-        Kind::Forecast => Source::None,
+        Kind::Missing | Kind::Observed | Kind::Forecast => None,
     }
 }
 
 // The group that says a layer of section 3.
-fn find_layer(text: &[u8], number: usize) -> Source
+#[tactic(auto, unfolding(crate::specs::Surface::surface_layer))]
+fn find_layer(text: &[u8], number: usize) -> Option<Source>
     ensures { result ≡ surface_layer text.now number }
 {
-    let reading = report::read(text);
-    let report = reading.report;
-    let kind = report.kind;
-    match kind {
-        Kind::Missing => Source::None,
+    match report::read(text).report.kind {
         Kind::Surface => synop_sources::find_layer(text, number),
-        Kind::Observed => Source::None,
-        Kind::Forecast => Source::None,
+        Kind::Missing | Kind::Observed | Kind::Forecast => None,
     }
 }
 
@@ -45,22 +37,19 @@ pub fn item(text: &[u8], element: Element) -> &[u8]
 {
     let part = synop_sources::part_of(element);
     let place = synop_sources::place_of(element);
-    let source = find(text, part, Spot::At { place, count: 0 });
-    sources::part_of(text, source)
+    sources::part_of(text, find(text, part, Spot::At { place, count: 0 }))
 }
 
 // A layer of section 3, the one with so many before it.
 pub fn layer(text: &[u8], number: usize) -> &[u8]
     ensures { SourcePart text.entry result (surface_layer text.now number) }
 {
-    let source = find_layer(text, number);
-    sources::part_of(text, source)
+    sources::part_of(text, find_layer(text, number))
 }
 
 // The word that opened section 3, 333.
 pub fn opened(text: &[u8]) -> &[u8]
     ensures { SourcePart text.entry result (surface_at text.now 1 spot.Opening) }
 {
-    let source = find(text, 1, Spot::Opening);
-    sources::part_of(text, source)
+    sources::part_of(text, find(text, 1, Spot::Opening))
 }

@@ -1,17 +1,15 @@
 -- The laws of the tables: a figure that a table lists is not above its last entry, so that it can be written; and a number that is listed is read back.
 -- Assumes nothing.
+use Rattle.std.specs.Prelude.{None, Option, Some}
 use Prim.Native.Nat.{ℕ, ◌≤◌}
 use native.Mathlib.Omega.{arith}
 use mathlib.Core.Path.{◌≡◌, refl}
-use mathlib.Core.Bool.{Bool, true, ◌&&◌, ◌||◌, false≢true}
+use mathlib.Core.Bool.{Bool, true, false≢true}
 use mathlib.Core.List.{List, [], ◌∷◌}
-use lib.Dec.{leb, eqb}
+use lib.Dec.{leb}
 use borrow.Author.Tests.{leb-true, eqb-true}
-use Rattle.figures.specs.declared.kinds.Field.TheVariants as field
 use Rattle.figures.specs.Figures.{every, Fits}
 use Rattle.shapes.proofs.Patterns.{both, or_cases}
-use Rattle.record.specs.declared.values.Number.{Number}
-use Rattle.record.specs.declared.values.Number.TheVariants as number
 use Rattle.record.specs.Missing.{optional}
 use Rattle.aerodrome_groups.specs.Head.{field_of}
 use Rattle.runway_states.specs.declared.tables.Table.{Table}
@@ -48,26 +46,26 @@ listed_below most (e ∷ (d ∷ es)) n u h =
 -- ---- numbers in a group
 
 -- a number that is listed, or missing, as a field
-pub holds-field : (t : Table) (n : Number) → optional (has (table_of t)) n ≡ true → holds t true (field_of n) ≡ true
-holds-field t number.Missing h = refl
-holds-field t (number.Is n) h = h
+pub holds-field : (t : Table) (n : Option ℕ) → optional (has (table_of t)) n ≡ true → holds t true (field_of n) ≡ true
+holds-field t None h = refl
+holds-field t (Some n) h = h
 
-pub number-back : (n : Number) → number_in (field_of n) ≡ n
-number-back number.Missing = refl
-number-back (number.Is n) = refl
+pub number-back : (n : Option ℕ) → number_in (field_of n) ≡ n
+number-back None = refl
+number-back (Some n) = refl
 
 -- it can be written in one figure, and in two
-module _ (es : List Entry) (n : Number) (h : optional (has es) n ≡ true) where
+module _ (es : List Entry) (n : Option ℕ) (h : optional (has es) n ≡ true) where
   pub one-figure : up_to 9 es ≡ true → Fits 1 (field_of n)
   one-figure u = go n h
     where
-      go : (n : Number) → optional (has es) n ≡ true → Fits 1 (field_of n)
-      go number.Missing e = tt
-      go (number.Is n) e = let l = listed_below 9 es n u e in omega arith
+      go : (n : Option ℕ) → optional (has es) n ≡ true → Fits 1 (field_of n)
+      go None e = tt
+      go (Some n) e = let l = listed_below 9 es n u e in omega arith
 
   pub two-figures : up_to 99 es ≡ true → Fits 2 (field_of n)
   two-figures u = go n h
     where
-      go : (n : Number) → optional (has es) n ≡ true → Fits 2 (field_of n)
-      go number.Missing e = tt
-      go (number.Is n) e = let l = listed_below 99 es n u e in omega arith
+      go : (n : Option ℕ) → optional (has es) n ≡ true → Fits 2 (field_of n)
+      go None e = tt
+      go (Some n) e = let l = listed_below 99 es n u e in omega arith

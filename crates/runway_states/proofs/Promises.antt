@@ -1,15 +1,14 @@
 -- What the round trip promises of runway states, in the words of documents 01 and 02: each exact field comes back as it was, a depth as the reading of its
 -- class, within the class and never above it.
 -- Assumes nothing.
+use Rattle.std.specs.Prelude.{Option}
 use Prim.Native.Nat.{ℕ}
 use mathlib.Core.Path.{◌≡◌, refl}
-use mathlib.Core.List.{List}
-use lib.ListN.{length, take, drop}
+use lib.ListN.{take, drop}
 use lib.Dec.{eqb}
 use Rattle.scales.specs.Depth.{depth}
 use Rattle.scales.proofs.Down.{Down, down}
 use Rattle.scales.proofs.DepthLaws.{depth-laws}
-use Rattle.record.specs.declared.values.Number.{Number}
 use Rattle.record.specs.declared.aerodrome.Depth.{Depth}
 use Rattle.record.specs.declared.aerodrome.Depth.TheVariants as deep
 use Rattle.record.specs.declared.aerodrome.Condition.{Condition}
@@ -18,7 +17,7 @@ use Rattle.record.specs.declared.aerodrome.RunwayState.{RunwayState}
 use Rattle.record.specs.declared.aerodrome.RunwayStates.{RunwayStates}
 use Rattle.record.proofs.Counted.{taken, dropped, EachRead, each_read}
 use Rattle.runway_states.specs.State.{class_depth, class_condition, class_state, class_states}
-use Rattle.runway_states.proofs.StatesBack.{Fit, Counted}
+use Rattle.runway_states.proofs.StatesBack.{Counted}
 
 -- a depth and its reading
 pub data DepthKept : Depth → Depth → Type 0 where
@@ -29,7 +28,7 @@ pub data DepthKept : Depth → Depth → Type 0 where
 -- "The numbers scaled here are the rounded ones; all else in a record .. is carried exactly."
 pub data ConditionKept : Condition → Condition → Type 0 where
   cleared : ConditionKept condition.Cleared condition.Cleared
-  covered : {d e b : Number} {h q : Depth} → DepthKept h q → ConditionKept (condition.Covered d e h b) (condition.Covered d e q b)
+  covered : {d e b : Option ℕ} {h q : Depth} → DepthKept h q → ConditionKept (condition.Covered d e h b) (condition.Covered d e q b)
 
 pub record StateKept (s q : RunwayState) : Type 0 where
   pub runway : q.runway ≡ s.runway

@@ -1,10 +1,11 @@
 -- The round trip of a runway state: what the writer judges fine and writes has its shape, is read back as its class, and the class is written alike.
 -- Assumes nothing.
+use Rattle.std.specs.Prelude.{None, Ok, Option, Some}
 use Prim.Native.Nat.{ℕ}
 use native.Mathlib.Omega.{arith}
 use mathlib.Core.Path.{◌≡◌, refl, ap, ◌∙◌}
-use mathlib.Core.Bool.{Bool, true, false, not, ◌&&◌, false≢true}
-use mathlib.Core.List.{List, [], ◌∷◌, ◌++◌, append_assoc, append-nil}
+use mathlib.Core.Bool.{true, false, not, ◌&&◌, false≢true}
+use mathlib.Core.List.{List, [], ◌++◌, append_assoc, append-nil}
 use lib.ListN.{length, replicate, length-append}
 use lib.Dec.{leb, eqb}
 use borrow.Author.Tests.{leb-true, not-true}
@@ -15,15 +16,12 @@ use Rattle.figures.specs.Figures.{field_at, field_text, Fits}
 use Rattle.figures.proofs.Figures.{length-field, field_back}
 use Rattle.shapes.specs.Pattern.{low, high, fits, has_pattern, has_any, clash}
 use Rattle.shapes.proofs.Patterns.{both, or_right, excluded, pattern-append, field-pattern}
-use Rattle.places.specs.Engine.{Group, Good}
+use Rattle.places.specs.Engine.{Group}
 use Rattle.scales.specs.Scale.{run, figure_of}
-use Rattle.scales.specs.Metres.{metres_figure}
 use Rattle.scales.specs.Depth.{depth}
 use Rattle.scales.proofs.Laws.{figure-such}
 use Rattle.scales.proofs.Answers.{foot-low, metres-read, metres-again, metres-written}
 use Rattle.scales.proofs.DepthLaws.{depth-laws}
-use Rattle.record.specs.declared.values.Number.{Number}
-use Rattle.record.specs.declared.values.Number.TheVariants as number
 use Rattle.record.specs.declared.aerodrome.Depth.{Depth}
 use Rattle.record.specs.declared.aerodrome.Depth.TheVariants as deep
 use Rattle.record.specs.declared.aerodrome.Condition.{Condition}
@@ -33,7 +31,7 @@ use Rattle.record.specs.Missing.{present, optional}
 use Rattle.aerodrome_groups.specs.Head.{field_of}
 use Rattle.runway_states.specs.declared.tables.Table.TheVariants as table
 use Rattle.runway_states.specs.Tables.{has, runways, deposits, extents, brakings}
-use Rattle.runway_states.specs.State.{figures_shape, cleared_shape, state_shapes, read_depth, read_covered, read_condition, read_state, depth_field, show_condition, show_state, depth_fits, condition_fits, state_fits, class_depth, class_condition, class_state}
+use Rattle.runway_states.specs.State.{figures_shape, cleared_shape, state_shapes, read_depth, read_covered, read_state, depth_field, show_condition, show_state, depth_fits, condition_fits, state_fits, class_depth, class_condition, class_state}
 use Rattle.runway_states.proofs.Figured.{listed_below, holds-field, number-back, one-figure, two-figures}
 
 -- ---- five fields one after the other: RR, deposit, extent, depth, braking
@@ -120,7 +118,7 @@ depth-fits deep.Missing e = tt
 depth-fits deep.Closed e = omega arith
 depth-fits (deep.Millimetres m) e = rw (metres-written depth m e) (omega (arith, leb-true (figure_of depth m) 98 (depth_below m)))
 
-depth-back : (h : Depth) → depth_fits h ≡ true → read_depth (depth_field h) ≡ Good (class_depth h)
+depth-back : (h : Depth) → depth_fits h ≡ true → read_depth (depth_field h) ≡ Ok (class_depth h)
 depth-back deep.Missing e = refl
 depth-back deep.Closed e = refl
 depth-back (deep.Millimetres m) e = rw (metres-written depth m e) (rw (depth-open m, metres-read depth-laws m))
@@ -137,30 +135,30 @@ depth-classed (deep.Millimetres m) e = foot-low depth-laws m e
 
 -- ---- a covered runway that is judged fine
 
-record Covered (d e : Number) (h : Depth) (b : Number) : Type 0 where
+record Covered (d e : Option ℕ) (h : Depth) (b : Option ℕ) : Type 0 where
   deposit : optional (has deposits) d ≡ true
   extent : optional (has extents) e ≡ true
   depth : depth_fits h ≡ true
   braking : optional (has brakings) b ≡ true
 
-covered : (d e : Number) (h : Depth) (b : Number) → condition_fits (condition.Covered d e h b) ≡ true → Covered d e h b
+covered : (d e : Option ℕ) (h : Depth) (b : Option ℕ) → condition_fits (condition.Covered d e h b) ≡ true → Covered d e h b
 covered d e h b f =
     let t = both (optional (has deposits) d && optional (has extents) e && depth_fits h) (optional (has brakings) b) f in
     let u = both (optional (has deposits) d && optional (has extents) e) (depth_fits h) t.0 in
     let v = both (optional (has deposits) d) (optional (has extents) e) u.0 in
     record { deposit = v.0; extent = v.1; depth = u.1; braking = t.1 }
 
-covered-back : (d e : Number) (h : Depth) (b : Number) → Covered d e h b
-    → read_covered (field_of d) (field_of e) (depth_field h) (field_of b) ≡ Good (condition.Covered d e (class_depth h) b)
+covered-back : (d e : Option ℕ) (h : Depth) (b : Option ℕ) → Covered d e h b
+    → read_covered (field_of d) (field_of e) (depth_field h) (field_of b) ≡ Ok (condition.Covered d e (class_depth h) b)
 covered-back d e h b f =
     rw (holds-field table.Deposits d f.deposit, holds-field table.Extents e f.extent, holds-field table.Brakings b f.braking, depth-back h f.depth, number-back d, number-back e, number-back b)
 
 -- ---- the group
 
-abbrev Written : Number → Condition → Type 0
+abbrev Written : Option ℕ → Condition → Type 0
 Written r c =
     (has_any state_shapes (show_state (record { runway = r; condition = c })) ≡ true)
-    × (read_state (show_state (record { runway = r; condition = c })) ≡ Good (class_state (record { runway = r; condition = c })))
+    × (read_state (show_state (record { runway = r; condition = c })) ≡ Ok (class_state (record { runway = r; condition = c })))
 
 module _ (k : ℕ) (listed : has runways k ≡ true) where
   abbrev rr : Field
@@ -173,7 +171,7 @@ module _ (k : ℕ) (listed : has runways k ≡ true) where
   unfolding has_pattern fits low high
   cleared-shape = pattern-append (field_text 2 rr) (bytes "CLRD//") (replicate 2 35) (bytes "CLRD//") refl (length-field 2 rr (omega arith) fit-k) ∙ rw (field-pattern 2 rr (omega arith) fit-k)
 
-  cleared-written : Written (number.Is k) condition.Cleared
+  cleared-written : Written (Some k) condition.Cleared
   unfolding has_any show_state read_state
   cleared-written =
       let g = field_text 2 rr ++ bytes "CLRD//" in (
@@ -181,7 +179,7 @@ module _ (k : ℕ) (listed : has runways k ≡ true) where
         rw (field_back [] (bytes "CLRD//") 2 rr (omega arith) (omega arith) fit-k, cleared-shape, listed),
       )
 
-  module _ (d e : Number) (h : Depth) (b : Number) (f : Covered d e h b) where
+  module _ (d e : Option ℕ) (h : Depth) (b : Option ℕ) (f : Covered d e h b) where
     fit-d : Fits 1 (field_of d)
     fit-d = one-figure deposits d f.deposit refl
 
@@ -194,7 +192,7 @@ module _ (k : ℕ) (listed : has runways k ≡ true) where
     fit-b : Fits 2 (field_of b)
     fit-b = two-figures brakings b f.braking refl
 
-    covered-written : Written (number.Is k) (condition.Covered d e h b)
+    covered-written : Written (Some k) (condition.Covered d e h b)
     unfolding has_any show_state read_state
     covered-written =
         let l = laid_out rr (field_of d) (field_of e) (depth_field h) (field_of b) fit-k fit-d fit-e fit-h fit-b in
@@ -204,10 +202,10 @@ module _ (k : ℕ) (listed : has runways k ≡ true) where
           rw (l.runway, no-clearing, l.deposit, l.extent, l.depth, l.braking, listed, covered-back d e h b f),
         )
 
-state-written : (r : Number) (c : Condition) → present (has runways) r ≡ true → condition_fits c ≡ true → Written r c
-state-written number.Missing c p f = absurd (false≢true p)
-state-written (number.Is k) condition.Cleared p f = cleared-written k p
-state-written (number.Is k) (condition.Covered d e h b) p f = covered-written k p d e h b (covered d e h b f)
+state-written : (r : Option ℕ) (c : Condition) → present (has runways) r ≡ true → condition_fits c ≡ true → Written r c
+state-written None c p f = absurd (false≢true p)
+state-written (Some k) condition.Cleared p f = cleared-written k p
+state-written (Some k) (condition.Covered d e h b) p f = covered-written k p d e h b (covered d e h b f)
 
 module _ (s : RunwayState) (e : state_fits s ≡ true) where
   parts : (present (has runways) s.runway ≡ true) × (condition_fits s.condition ≡ true)
@@ -216,7 +214,7 @@ module _ (s : RunwayState) (e : state_fits s ≡ true) where
   pub state-shaped : has_any state_shapes (show_state s) ≡ true
   state-shaped = (state-written s.runway s.condition parts.0 parts.1).0
 
-  pub state-back : read_state (show_state s) ≡ Good (class_state s)
+  pub state-back : read_state (show_state s) ≡ Ok (class_state s)
   state-back = (state-written s.runway s.condition parts.0 parts.1).1
 
   pub state-again : show_state (class_state s) ≡ show_state s

@@ -1,20 +1,17 @@
 -- The round trip of up to four runway states: what is written of those that stand is read back as their classes, and the rest is blank. Where the writer
 -- judges them fine, none stands beside SNOCLO.
 -- Assumes nothing.
-use Prim.Native.Nat.{ℕ, ◌≤◌}
+use Rattle.std.specs.Prelude.{⊤, Ok, Result}
+use Rattle.text.specs.declared.kinds.Refusal.{Refusal}
+use Prim.Native.Nat.{◌≤◌}
 use native.Mathlib.Omega.{arith}
 use mathlib.Core.Path.{◌≡◌, refl, sym, ◌∙◌}
-use mathlib.Core.Bool.{Bool, true, false, not, ◌&&◌, false≢true}
-use mathlib.Core.List.{List, [], ◌∷◌, ◌++◌, map}
-use lib.ListN.{length, take, drop, length-map}
-use lib.Dec.{leb}
-use Rattle.figures.specs.Figures.{every}
-use Rattle.text.specs.declared.kinds.Judged.{Judged}
-use Rattle.text.specs.declared.kinds.Judged.TheVariants as judged
+use mathlib.Core.Bool.{Bool, true, not, false≢true}
+use mathlib.Core.List.{List, [], ◌∷◌, map}
+use lib.ListN.{length, take, length-map}
 use Rattle.text.specs.Judge.{judge}
 use Rattle.text.proofs.Judging.{fine}
 use Rattle.shapes.specs.Pattern.{has_any}
-use Rattle.places.specs.Engine.{Group}
 use Rattle.places.proofs.ReadBack.{All}
 use Rattle.record.specs.declared.aerodrome.RunwayState.{RunwayState}
 use Rattle.record.specs.declared.aerodrome.RunwayStates.{RunwayStates}
@@ -45,10 +42,10 @@ Fit snoclo s = Any s × ((state_fits s ≡ true) × (not snoclo ≡ true))
 abbrev pub Counted : RunwayStates → Type 0
 Counted ss = Listed (Fit ss.snoclo) is_blank_state blank_state 4 ss.count ss.items
 
-abbrev judge_one : Bool → RunwayState → Judged
+abbrev judge_one : Bool → RunwayState → Result ⊤ Refusal
 judge_one snoclo s = judge (state_fits s) (not snoclo)
 
-pub states-fit : (ss : RunwayStates) → length ss.items ≡ 4 → judge_states ss ≡ judged.Fine → Counted ss
+pub states-fit : (ss : RunwayStates) → length ss.items ≡ 4 → judge_states ss ≡ Ok tt → Counted ss
 unfolding judge_states
 states-fit ss four e =
     list-fair (judge_one ss.snoclo) (judge_each_state ss.snoclo) refl (λ x xs. refl) is_blank_state 4 ss.count ss.items
@@ -87,7 +84,7 @@ module _ (ss : RunwayStates) (l : Counted ss) where
   unfolding show_states
   states-again = list-again (λ (s : RunwayState). show_state s ∷ []) (map show_state) refl (λ x xs. refl) l class_state (λ s f. rw (state-again s f.1.0))
 
-  pub states-classed : judge_states (class_states ss) ≡ judged.Fine
+  pub states-classed : judge_states (class_states ss) ≡ Ok tt
   unfolding judge_states
   states-classed =
       list-judged (judge_one ss.snoclo) (judge_each_state ss.snoclo) refl (λ x xs. refl) is_blank_state 4 ss.count ss.items class_state

@@ -1,16 +1,14 @@
 -- The places of runway states: what is written at each of states that are judged fine has the place's shape, takes a known room, and is read back as what
 -- is put.
 -- Assumes nothing.
+use Rattle.std.specs.Prelude.{Ok}
 use Prim.Native.Nat.{ℕ}
 use native.Mathlib.Omega.{arith}
 use mathlib.Core.Path.{◌≡◌, refl}
 use mathlib.Core.Bool.{Bool, true, false}
 use mathlib.Core.List.{List, [], ◌∷◌}
-use lib.ListN.{length}
 use borrow.Author.Tests.{lt-ltb}
-use Rattle.text.specs.declared.kinds.Judged.TheVariants as judged
 use Rattle.shapes.specs.Pattern.{low, high, fits, has_pattern, has_any}
-use Rattle.places.specs.Engine.{Group, Good}
 use Rattle.places.proofs.ReadBack.{one-pattern, fill}
 use Rattle.places.proofs.Sizes.{measured, sized-any, sized-each}
 use Rattle.places.proofs.Kept.{Kept, keep_one, keep-none, keep-each}
@@ -31,7 +29,7 @@ abbrev holding : List RunwayState → ℕ → RunwayStates
 holding items count = record { items = items; count = count; snoclo = false }
 
 module _ (ss : RunwayStates) (l : Counted ss) where
-  states-filled : fill states_place 0 (show_states ss) blank_states ≡ Good (states_place.put ss blank_states)
+  states-filled : fill states_place 0 (show_states ss) blank_states ≡ Ok (states_place.put ss blank_states)
   unfolding show_states
   states-filled =
       fill-listed states_place holding show_state class_state blank_state 4 (Fit ss.snoclo)

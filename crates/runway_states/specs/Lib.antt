@@ -1,3 +1,2 @@
 pub mod Tables
 pub mod State
-pub mod Answers

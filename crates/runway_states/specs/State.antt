@@ -1,22 +1,19 @@
 -- Document 02, No. 13, "Runway state": "the eight-figure group of source document 003: runway RR .., deposit, extent, depth, braking, by tables 0919, 0519,
 -- 1079, 0366. Also CLRD// after RR, and SNOCLO alone. Any of the four after RR may be missing, as slashes. Up to four groups, after RE and before the trend."
 -- Assumes nothing: these are definitions.
-use Rattle.std.specs.Prelude.{ℕ, ◌+◌, Bool, true, false, cond, not, ◌&&◌, List, [], ◌∷◌, ◌++◌, map, take, drop, set, leb, ltb, eqb}
+use Rattle.std.specs.Prelude.{⊤, ℕ, ◌+◌, Bool, true, false, cond, not, ◌&&◌, List, [], ◌∷◌, ◌++◌, map, take, drop, set, leb, ltb, eqb, None, Ok, Option, Result, Some}
+use Rattle.text.specs.declared.kinds.Refusal.{Refusal}
 use Rattle.figures.specs.Quote.{bytes}
 use Rattle.figures.specs.declared.kinds.Field.{Field}
 use Rattle.figures.specs.declared.kinds.Field.TheVariants as field
 use Rattle.figures.specs.Figures.{field_at, field_text, every}
-use Rattle.text.specs.declared.kinds.Judged.{Judged}
-use Rattle.text.specs.declared.kinds.Judged.TheVariants as judged
 use Rattle.text.specs.Judge.{judge, and_then}
 use Rattle.shapes.specs.Pattern.{Pattern, has_pattern, has_any}
-use Rattle.places.specs.Engine.{Group, Read, Good, Place}
+use Rattle.places.specs.Engine.{Group, Place}
 use Rattle.scales.specs.Scale.{foot_of}
 use Rattle.scales.specs.Metres.{metres_figure, metres_reading}
 use Rattle.scales.specs.Fields.{field_by}
 use Rattle.scales.specs.Depth.{depth}
-use Rattle.record.specs.declared.values.Number.{Number}
-use Rattle.record.specs.declared.values.Number.TheVariants as number
 use Rattle.record.specs.declared.aerodrome.Depth.{Depth}
 use Rattle.record.specs.declared.aerodrome.Depth.TheVariants as deep
 use Rattle.record.specs.declared.aerodrome.Condition.{Condition}
@@ -47,34 +44,34 @@ snoclo_shape = bytes "SNOCLO"
 -- ---- reading
 
 -- a field that holds figures of its table or is missing, as a number
-abbrev pub number_in : Field → Number
-number_in (field.Number n) = number.Is n
-number_in field.Missing = number.Missing
-number_in field.Mixed = number.Missing
-number_in field.Other = number.Missing
+abbrev pub number_in : Field → Option ℕ
+number_in (field.Number n) = Some n
+number_in field.Missing = None
+number_in field.Mixed = None
+number_in field.Other = None
 
 -- "Depth is read in mm ..; 99 closed"
-abbrev pub depth_by : ℕ → Read Depth
-depth_by n = cond (eqb n 99) (Good deep.Closed) (used (metres_reading depth n) (λ m. Good (deep.Millimetres m)))
+abbrev pub depth_by : ℕ → Result Depth Refusal
+depth_by n = cond (eqb n 99) (Ok deep.Closed) (used (metres_reading depth n) (λ m. Ok (deep.Millimetres m)))
 
-abbrev pub read_depth : Field → Read Depth
-read_depth f = may_miss f (Good deep.Missing) depth_by
+abbrev pub read_depth : Field → Result Depth Refusal
+read_depth f = may_miss f (Ok deep.Missing) depth_by
 
 -- deposit, extent and braking are figures of their tables, or missing
 abbrev pub are_listed : Field → Field → Field → Bool
 are_listed d e b = holds table.Deposits true d && holds table.Extents true e && holds table.Brakings true b
 
-abbrev pub read_covered : Field → Field → Field → Field → Read Condition
-read_covered d e h b = provided (are_listed d e b) (then (read_depth h) (λ x. Good (condition.Covered (number_in d) (number_in e) x (number_in b))))
+abbrev pub read_covered : Field → Field → Field → Field → Result Condition Refusal
+read_covered d e h b = provided (are_listed d e b) (then (read_depth h) (λ x. Ok (condition.Covered (number_in d) (number_in e) x (number_in b))))
 
-abbrev pub read_condition : Group → Read Condition
+abbrev pub read_condition : Group → Result Condition Refusal
 read_condition g =
-    cond (has_pattern g cleared_shape) (Good condition.Cleared) (read_covered (field_at g 2 1) (field_at g 3 1) (field_at g 4 2) (field_at g 6 2))
+    cond (has_pattern g cleared_shape) (Ok condition.Cleared) (read_covered (field_at g 2 1) (field_at g 3 1) (field_at g 4 2) (field_at g 6 2))
 
-unfoldable pub read_state : Group → Read RunwayState
+unfoldable pub read_state : Group → Result RunwayState Refusal
 read_state g =
     provided (holds table.Runways false (field_at g 0 2))
-    (then (read_condition g) (λ c. Good (record { runway = number_in (field_at g 0 2); condition = c })))
+    (then (read_condition g) (λ c. Ok (record { runway = number_in (field_at g 0 2); condition = c })))
 
 -- one more where k stand; past the fourth there is no room
 abbrev pub with_state : ℕ → RunwayStates → RunwayState → RunwayStates
@@ -115,11 +112,11 @@ condition_fits (condition.Covered d e h b) = optional (has deposits) d && option
 abbrev pub state_fits : RunwayState → Bool
 state_fits s = present (has runways) s.runway && condition_fits s.condition
 
-abbrev pub judge_each_state : Bool → List RunwayState → Judged
-judge_each_state snoclo [] = judged.Fine
+abbrev pub judge_each_state : Bool → List RunwayState → Result ⊤ Refusal
+judge_each_state snoclo [] = Ok tt
 judge_each_state snoclo (s ∷ ss) = and_then (judge (state_fits s) (not snoclo)) (judge_each_state snoclo ss)
 
-unfoldable pub judge_states : RunwayStates → Judged
+unfoldable pub judge_states : RunwayStates → Result ⊤ Refusal
 judge_states ss =
     and_then (judge (leb ss.count 4 && every is_blank_state (drop ss.count ss.items)) true) (judge_each_state ss.snoclo (take ss.count ss.items))
 
@@ -153,7 +150,7 @@ states_place =
       most = 4;
       must = false;
       ends = false;
-      read = λ k g ss. then (read_state g) (λ x. Good (with_state k ss x));
+      read = λ k g ss. then (read_state g) (λ x. Ok (with_state k ss x));
       show = show_states;
       put = λ ss acc. with_snoclo acc.snoclo (class_states ss);
     }
@@ -167,7 +164,7 @@ snoclo_place =
       most = 1;
       must = false;
       ends = false;
-      read = λ k g ss. agreeing (eqb ss.count 0) (Good (with_snoclo true ss));
+      read = λ k g ss. agreeing (eqb ss.count 0) (Ok (with_snoclo true ss));
       show = λ ss. cond ss.snoclo (snoclo_shape ∷ []) [];
       put = λ ss acc. with_snoclo ss.snoclo acc;
     }

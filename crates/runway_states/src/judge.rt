@@ -5,8 +5,8 @@ ghost use Rattle.runway_states.specs.State.{depth_fits, condition_fits, state_fi
 
 use crate::tables::Table;
 use record::aerodrome::{Condition, Depth, RunwayState, RunwayStates};
-use text::judge::{and_then, judge};
-use text::kinds::Judged;
+use text::judge::judge;
+use text::kinds::Refusal;
 
 fn depth_fits(depth: Depth) -> bool
     ensures { result ≡ depth_fits depth }
@@ -48,29 +48,24 @@ fn state_fits(s: RunwayState) -> bool
 }
 
 // The first n states.
-fn judge_each(ss: RunwayStates, n: usize) -> Judged
+fn judge_each(ss: RunwayStates, n: usize) -> Result<(), Refusal>
     requires { n ≤ 4 }
     ensures { result ≡ judge_each_state ss.snoclo (take n ss.items) }
 {
-    let items = ss.items;
-    let mut i = 0;
-    while i < n {
-        let judged = judge(state_fits(items[i]), !ss.snoclo);
-        match judged {
-            Judged::Fine => i += 1,
-            Judged::Refused(refusal) => return Judged::Refused(refusal),
-        }
+    for s in ss.items.iter().take(n) {
+        judge(state_fits(*s), !ss.snoclo)?;
     }
-    Judged::Fine
+    Ok(())
 }
 
-pub fn judge_states(ss: RunwayStates) -> Judged
+#[tactic(auto, unfolding(crate::specs::State::judge_states))]
+pub fn judge_states(ss: RunwayStates) -> Result<(), Refusal>
     ensures { result ≡ judge_states ss }
 {
     let n = ss.count;
     if n <= 4 {
-        let listed = judge(ss.is_blank_from(n), true);
-        and_then(listed, judge_each(ss, n))
+        judge(ss.is_blank_from(n), true)?;
+        judge_each(ss, n)
     } else {
         judge(false, true)
     }

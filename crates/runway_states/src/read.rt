@@ -5,20 +5,18 @@ ghost use Rattle.text.specs.declared.kinds.Refusal.TheVariants as refusal;
 ghost use Rattle.elements.specs.declared.kinds.Said.TheVariants as said;
 ghost use Rattle.elements.specs.Answers.{as_state};
 ghost use Rattle.elements.specs.Parts.{disagrees, then};
-ghost use Rattle.runway_states.specs.Answers.{as_depth, as_read};
-ghost use Rattle.runway_states.specs.State.{state_shapes, number_in, depth_by, read_depth, are_listed, read_state, with_state, with_snoclo};
+ghost use Rattle.runway_states.specs.State.{state_shapes, number_in, depth_by, read_depth, are_listed, read_condition, read_state, with_state, with_snoclo};
 
 use crate::tables::Table;
 use elements::kinds::Said;
 use figures::field;
 use figures::kinds::Field;
 use record::aerodrome::{Condition, Depth, RunwayState, RunwayStates};
-use record::values::Number;
 use scales::depth::depth_reading;
-use scales::kinds::Reading;
 use shapes::has_pattern;
 use text::kinds::Refusal;
 
+#[tactic(auto, unfolding(shapes::specs::Pattern::has_any))]
 pub fn has_state(g: &[u8]) -> bool
     ensures { result ≡ has_any state_shapes g.now }
 {
@@ -27,45 +25,32 @@ pub fn has_state(g: &[u8]) -> bool
     figures | cleared
 }
 
-fn number_in(f: Field) -> Number
+fn number_in(f: Field) -> Option<u32>
     ensures { result ≡ number_in f }
 {
     match f {
-        Field::Number(n) => Number::Is(n),
-        Field::Missing => Number::Missing,
-        Field::Mixed => Number::Missing,
-        Field::Other => Number::Missing,
+        Field::Number(n) => Some(n),
+        Field::Missing | Field::Mixed | Field::Other => None,
     }
 }
 
-// A depth, or the group's refusal.
-#[derive(Clone, Copy)]
-enum DepthRead {
-    Good(Depth),
-    Bad(Refusal),
-}
-
-fn depth_by(n: u32) -> DepthRead
-    ensures { result ≡ as_depth (depth_by n) }
+fn depth_by(n: u32) -> Result<Depth, Refusal>
+    ensures { result ≡ depth_by n }
 {
     if n == 99 {
-        return DepthRead::Good(Depth::Closed);
+        return Ok(Depth::Closed);
     }
-    let r = depth_reading(n);
-    match r {
-        Reading::Is(m) => DepthRead::Good(Depth::Millimetres(m)),
-        Reading::Unused => DepthRead::Bad(Refusal::Figure),
-    }
+    let millimetres = depth_reading(n).ok_or(Refusal::Figure)?;
+    Ok(Depth::Millimetres(millimetres))
 }
 
-fn read_depth(f: Field) -> DepthRead
-    ensures { result ≡ as_depth (read_depth f) }
+fn read_depth(f: Field) -> Result<Depth, Refusal>
+    ensures { result ≡ read_depth f }
 {
     match f {
         Field::Number(n) => depth_by(n),
-        Field::Missing => DepthRead::Good(Depth::Missing),
-        Field::Mixed => DepthRead::Bad(Refusal::Figure),
-        Field::Other => DepthRead::Bad(Refusal::Figure),
+        Field::Missing => Ok(Depth::Missing),
+        Field::Mixed | Field::Other => Err(Refusal::Figure),
     }
 }
 
@@ -78,57 +63,52 @@ fn are_listed(deposit: Field, extent: Field, braking: Field) -> bool
     lies.holds(deposit, true) & covers.holds(extent, true) & brakes.holds(braking, true)
 }
 
-// A state, or the group's refusal.
-#[derive(Clone, Copy)]
-enum StateRead {
-    Good(RunwayState),
-    Bad(Refusal),
+// What follows RR: CLRD//, or the deposit, the extent, the depth and the braking.
+fn read_condition(g: &[u8]) -> Result<Condition, Refusal>
+    ensures { result ≡ read_condition g.now }
+{
+    if has_pattern(g, b"##CLRD//") {
+        return Ok(Condition::Cleared);
+    }
+    let deposit = field(g, 2, 1);
+    let extent = field(g, 3, 1);
+    let depth = field(g, 4, 2);
+    let braking = field(g, 6, 2);
+    if are_listed(deposit, extent, braking) {
+        Ok(Condition::Covered {
+            deposit: number_in(deposit),
+            extent: number_in(extent),
+            depth: read_depth(depth)?,
+            braking: number_in(braking),
+        })
+    } else {
+        Err(Refusal::Figure)
+    }
 }
 
-fn state_of(g: &[u8]) -> StateRead
-    ensures { result ≡ as_read (read_state g.now) }
+#[tactic(auto, unfolding(crate::specs::State::read_state))]
+fn state_of(g: &[u8]) -> Result<RunwayState, Refusal>
+    ensures { result ≡ read_state g.now }
 {
     let runways = Table::Runways;
     let runway = field(g, 0, 2);
     if runways.holds(runway, false) {
-        let runway = number_in(runway);
-        if has_pattern(g, b"##CLRD//") {
-            let condition = Condition::Cleared;
-            return StateRead::Good(RunwayState { runway, condition });
-        }
-        let deposit = field(g, 2, 1);
-        let extent = field(g, 3, 1);
-        let depth = field(g, 4, 2);
-        let braking = field(g, 6, 2);
-        if are_listed(deposit, extent, braking) {
-            let read = read_depth(depth);
-            match read {
-                DepthRead::Good(depth) => {
-                    let condition = Condition::Covered {
-                        deposit: number_in(deposit),
-                        extent: number_in(extent),
-                        depth,
-                        braking: number_in(braking),
-                    };
-                    StateRead::Good(RunwayState { runway, condition })
-                }
-                DepthRead::Bad(refusal) => StateRead::Bad(refusal),
-            }
-        } else {
-            StateRead::Bad(Refusal::Figure)
-        }
+        let condition = read_condition(g)?;
+        Ok(RunwayState {
+            runway: number_in(runway),
+            condition,
+        })
     } else {
-        StateRead::Bad(Refusal::Figure)
+        Err(Refusal::Figure)
     }
 }
 
 pub fn read_state(g: &[u8]) -> Said
     ensures { result ≡ as_state (read_state g.now) }
 {
-    let read = state_of(g);
-    match read {
-        StateRead::Good(state) => Said::State(state),
-        StateRead::Bad(refusal) => Said::Refused(refusal),
+    match state_of(g) {
+        Ok(state) => Said::State(state),
+        Err(refusal) => Said::Refused(refusal),
     }
 }
 
@@ -136,10 +116,9 @@ pub fn read_state(g: &[u8]) -> Said
 pub fn read_beside(g: &[u8]) -> Said
     ensures { result ≡ as_state (then (read_state g.now) (λ x. disagrees)) }
 {
-    let read = state_of(g);
-    match read {
-        StateRead::Good(_) => Said::Refused(Refusal::Disagreement),
-        StateRead::Bad(refusal) => Said::Refused(refusal),
+    match state_of(g) {
+        Ok(_) => Said::Refused(Refusal::Disagreement),
+        Err(refusal) => Said::Refused(refusal),
     }
 }
 

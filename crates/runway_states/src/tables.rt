@@ -4,7 +4,6 @@ ghost use Rattle.record.specs.Missing.{present, optional};
 ghost use Rattle.runway_states.specs.Tables.{has, table_of, holds};
 
 use figures::kinds::Field;
-use record::values::Number;
 
 // Its runways, and the tables 0919, 0519 and 0366.
 #[derive(Clone, Copy)]
@@ -30,22 +29,22 @@ impl Table {
     }
 
     // A number that has to be there.
-    pub fn has_present(self, n: Number) -> bool
+    pub fn has_present(self, n: Option<u32>) -> bool
         ensures { result ≡ present (has (table_of self)) n }
     {
         match n {
-            Number::Missing => false,
-            Number::Is(n) => self.has(n),
+            None => false,
+            Some(n) => self.has(n),
         }
     }
 
     // One that may be missing.
-    pub fn has_optional(self, n: Number) -> bool
+    pub fn has_optional(self, n: Option<u32>) -> bool
         ensures { result ≡ optional (has (table_of self)) n }
     {
         match n {
-            Number::Missing => true,
-            Number::Is(n) => self.has(n),
+            None => true,
+            Some(n) => self.has(n),
         }
     }
 
@@ -56,8 +55,7 @@ impl Table {
         match f {
             Field::Number(n) => self.has(n),
             Field::Missing => slashes,
-            Field::Mixed => false,
-            Field::Other => false,
+            Field::Mixed | Field::Other => false,
         }
     }
 }

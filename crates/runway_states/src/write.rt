@@ -1,6 +1,6 @@
 // How the runway states are written over a lent buffer, each with what parts it from the group before it. Every function answers the position after its
 // text. What a buffer has no room for is not written, so that a caller may judge the room afterwards.
-ghost use Rattle.std.specs.Prelude.{◌≡◌, cond, ◌∷◌, [], ◌++◌, map, min, take};
+ghost use Rattle.std.specs.Prelude.{◌≡◌, cond, ◌∷◌, [], ◌++◌, map, take};
 ghost use Rattle.figures.specs.Put.{Put};
 ghost use Rattle.text.specs.Groups.{written};
 ghost use Rattle.runway_states.specs.State.{snoclo_shape, depth_field, show_condition, show_state, show_states};
@@ -10,7 +10,6 @@ use figures::kinds::Field;
 use figures::put::{put_field, put_text};
 use record::aerodrome::{Condition, Depth, RunwayState, RunwayStates};
 use scales::depth::depth_figure;
-use scales::kinds::Figure;
 use text::write::{open_group, put_if};
 
 fn depth_field(depth: Depth) -> Field
@@ -20,10 +19,9 @@ fn depth_field(depth: Depth) -> Field
         Depth::Missing => Field::Missing,
         Depth::Closed => Field::Number(99),
         Depth::Millimetres(m) => {
-            let f = depth_figure(m);
-            match f {
-                Figure::Is(figure) => Field::Number(figure),
-                Figure::OutOfRange => Field::Other,
+            match depth_figure(m) {
+                Some(figure) => Field::Number(figure),
+                None => Field::Other,
             }
         }
     }
@@ -58,22 +56,14 @@ fn put_state(out: &mut [u8], at: usize, s: RunwayState) -> usize
     put_condition(out, named, condition)
 }
 
-fn at_most_four(count: usize) -> usize
-    ensures { result ≡ min count 4 }
-{
-    if count <= 4 { count } else { 4 }
-}
-
 // The first `count` slots; all where the count is too large.
+// A loop for each kind of item: `text` cannot have a trait that the items of `record` take up here, and what a closure writes into the buffer is not known after it.
 fn put_each(out: &mut [u8], at: usize, items: [RunwayState; 4], count: usize) -> usize
     ensures { Put out.old at (written at (map show_state (take count items))) result out.new }
 {
-    let end = at_most_four(count);
     let mut next = at;
-    let mut i = 0;
-    while i < end {
-        next = put_state(out, next, items[i]);
-        i += 1;
+    for s in items.iter().take(count) {
+        next = put_state(out, next, *s);
     }
     next
 }

@@ -1,6 +1,7 @@
 -- Document 02, No. 11: "For aerodrome temperature, prove that no writable whole degree is nearer to the observation, M00 aside." A half may have another as
 -- near (-1.5: M01 and M02), never a nearer. Of -0.5 to -0.1, which is written M00, nothing is claimed, and M00 is no whole degree.
 -- Assumes nothing.
+use Rattle.std.specs.Prelude.{Some}
 use mathlib.Core.Path.{◌≡◌, sym, ◌∙◌}
 use mathlib.Core.Bool.{Bool, false, ◌&&◌, false≢true}
 use mathlib.Core.Logic.{⊎_elim}
@@ -10,11 +11,9 @@ use lib.Dec.{eqb}
 use lib.IntN.{ℤ, pos, negsuc, nat_abs, ◌-ℤ◌, ◌*ℤ◌}
 use borrow.Author.Tests.{lt-ltb, le-ltb}
 use Rattle.figures.specs.Signed.{negative}
-use Rattle.scales.specs.Degrees.{whole_degrees, is_minus_zero, rounded_degrees, degrees_of, degrees_reading}
-use Rattle.scales.specs.declared.kinds.Degrees.TheVariants as degrees
-use Rattle.scales.specs.declared.kinds.Tenths.TheVariants as tenths
+use Rattle.scales.specs.Degrees.{whole_degrees, is_minus_zero, rounded_degrees, degrees_of, degrees_reading, degrees_with}
 use Rattle.scales.proofs.Laws.{reached}
-use Rattle.scales.proofs.DegreesLaws.{rounded-warm, rounded-cold, ten-times, cool-minus, written-fits, degrees-rounds}
+use Rattle.scales.proofs.DegreesLaws.{parts-same, rounded-warm, rounded-cold, ten-times, cool-minus, written-fits, degrees-rounds}
 
 -- how far two temperatures are apart, in tenths
 abbrev pub far_apart : ℤ → ℤ → ℕ
@@ -51,13 +50,12 @@ no-degree-nearer (negsuc n) i k =
 
 -- In the user's words: where an observation is written as whole degrees and not as M00, no whole degree, of -99 to 99 or beyond, is nearer to it than what
 -- these are read as.
-pub degrees-nearest : (t : ℤ) (minus : Bool) (n : ℕ) (w : ℤ) → degrees_of t ≡ degrees.Is minus n → (minus && eqb n 0) ≡ false → degrees_reading minus n ≡ tenths.Is w
+pub degrees-nearest : (t : ℤ) (minus : Bool) (n : ℕ) (w : ℤ) → degrees_of t ≡ Some (degrees_with minus n) → (minus && eqb n 0) ≡ false → degrees_reading minus n ≡ Some w
     → (k : ℤ) → far_apart t w ≤ far_apart t (k *ℤ pos 10)
 unfolding degrees_of is_minus_zero
 degrees-nearest t minus n w e z r k =
     let b = degrees-rounds.back t (minus, n) e in
     let c : rounded_degrees t ≡ w = cc in
-    let d : degrees.Is (negative t) (nat_abs (whole_degrees t)) ≡ degrees.Is minus n = rw (written-fits t minus n e) at e in
-    let f : negative t ≡ minus = cc in
-    let g : nat_abs (whole_degrees t) ≡ n = cc in
+    let d : Some (degrees_with (negative t) (nat_abs (whole_degrees t))) ≡ Some (degrees_with minus n) = rw (written-fits t minus n e) at e in
+    let (f, g) = parts-same d in
     rw c at (no-degree-nearer t (unfold is_minus_zero in rw (f, g) z) k)

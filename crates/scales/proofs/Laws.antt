@@ -1,5 +1,6 @@
 -- The laws of a scale, once over any list of classes whose feet rise and whose figures differ; each scale has them by `lawful`.
 -- Assumes nothing.
+use Rattle.std.specs.Prelude.{None, Some}
 use mathlib.Core.Path.{◌≡◌, refl, sym, ap, ◌∙◌}
 use mathlib.Core.Bool.{Bool, true, false, not, ◌&&◌, and-eq-true_iff, false≢true}
 use mathlib.Core.List.{List, [], ◌∷◌}
@@ -9,7 +10,7 @@ use native.Mathlib.Omega.{arith}
 use lib.Dec.{leb}
 use borrow.Author.Tests.{le-leb, lt-leb, leb-true, leb-false, not-true}
 use Rattle.figures.proofs.Impossible.{impossible}
-use Rattle.scales.specs.Scale.{Class, Of, Open, Foot, None, Scale, class_in, length_in, last_in, read_in, class_of, length_of, figure_of, foot_of, read_of, rising, unlike, distinct}
+use Rattle.scales.specs.Scale.{Class, Of, Open, Scale, class_in, length_in, last_in, read_in, class_of, length_of, figure_of, foot_of, read_of, rising, unlike, distinct}
 use Rattle.scales.proofs.Runs.{under, onto, rises}
 
 -- a test that decides whether two figures are one
@@ -31,11 +32,11 @@ pub record Lawful {F : Type 0} (same : F → F → Bool) (s : Scale F) : Type 0 
   -- the greater value never reads smaller
   pub order : (v w : ℕ) → v ≤ w → foot_of s v ≤ foot_of s w
   -- a value is read as the greatest foot not above it
-  pub greatest : (f : F) (m v : ℕ) → read_of same s f ≡ Foot m → m ≤ v → m ≤ foot_of s v
+  pub greatest : (f : F) (m v : ℕ) → read_of same s f ≡ Some m → m ≤ v → m ≤ foot_of s v
   -- what is written reads back as the class's foot
-  pub reads-back : (v : ℕ) → read_of same s (figure_of s v) ≡ Foot (foot_of s v)
+  pub reads-back : (v : ℕ) → read_of same s (figure_of s v) ≡ Some (foot_of s v)
   -- each used figure is the one written for its own reading
-  pub own : (f : F) (m : ℕ) → read_of same s f ≡ Foot m → figure_of s m ≡ f
+  pub own : (f : F) (m : ℕ) → read_of same s f ≡ Some m → figure_of s m ≡ f
   -- so writing the reading gives the same figure
   pub again : (v : ℕ) → figure_of s (foot_of s v) ≡ figure_of s v
   -- a figure without a reading is written for no value
@@ -101,22 +102,22 @@ module _ {F : Type 0} where
 
   module _ (same : F → F → Bool) (dec : Decides same) where
     -- a reading is that of the first class, whose figure it is then, or one in the rest
-    pub read_head : (c : Class F) (cs : List (Class F)) (f : F) (m : ℕ) → read_in same (c ∷ cs) f ≡ Foot m
-        → ((c.figure ≡ f) × (c.foot ≡ m)) ⊎ (read_in same cs f ≡ Foot m)
+    pub read_head : (c : Class F) (cs : List (Class F)) (f : F) (m : ℕ) → read_in same (c ∷ cs) f ≡ Some m
+        → ((c.figure ≡ f) × (c.foot ≡ m)) ⊎ (read_in same cs f ≡ Some m)
     unfolding read_in
     read_head c cs f m e =
-        elim (same c.figure f) as (λ b. same c.figure f ≡ b → ((c.figure ≡ f) × (c.foot ≡ m)) ⊎ (read_in same cs f ≡ Foot m)) [
-          | true ↦ λ t. let g : Foot c.foot ≡ Foot m = rw t at e in inl (dec.one c.figure f t, (cc))
+        elim (same c.figure f) as (λ b. same c.figure f ≡ b → ((c.figure ≡ f) × (c.foot ≡ m)) ⊎ (read_in same cs f ≡ Some m)) [
+          | true ↦ λ t. let g : Some c.foot ≡ Some m = rw t at e in inl (dec.one c.figure f t, (cc))
           | false ↦ λ t. inr (rw t at e)
         ]
         refl
 
-    pub none_left : (f : F) (m : ℕ) → read_in same [] f ≡ Foot m → ⊥
+    pub none_left : (f : F) (m : ℕ) → read_in same [] f ≡ Some m → ⊥
     unfolding read_in
     none_left f m e = impossible (cc)
 
     -- no reading is below the lowest foot
-    read_above : (c : Class F) (ds : List (Class F)) (f : F) (m : ℕ) → rising c ds ≡ true → read_in same (c ∷ ds) f ≡ Foot m → c.foot ≤ m
+    read_above : (c : Class F) (ds : List (Class F)) (f : F) (m : ℕ) → rising c ds ≡ true → read_in same (c ∷ ds) f ≡ Some m → c.foot ≤ m
     read_above c [] f m r e =
         ⊎_elim (λ p. omega (arith, p.1)) (λ g. absurd (none_left f m g)) (read_head c [] f m e)
     read_above c (d ∷ ds) f m r e =
@@ -125,7 +126,7 @@ module _ {F : Type 0} where
         (λ g. omega (arith, (rises c d ds r).0, read_above d ds f m (rises c d ds r).1 g))
         (read_head c (d ∷ ds) f m e)
 
-    greatest-in : (c : Class F) (ds : List (Class F)) (f : F) (m v : ℕ) → rising c ds ≡ true → read_in same (c ∷ ds) f ≡ Foot m → m ≤ v
+    greatest-in : (c : Class F) (ds : List (Class F)) (f : F) (m v : ℕ) → rising c ds ≡ true → read_in same (c ∷ ds) f ≡ Some m → m ≤ v
         → m ≤ (class_in c ds v).foot
     greatest-in c [] f m v r e h =
         ⊎_elim
@@ -142,7 +143,7 @@ module _ {F : Type 0} where
     at-foot c [] r = unfold class_in in refl
     at-foot c (d ∷ ds) r = under d ds c.foot (rises c d ds r).0 c
 
-    own_in : (c : Class F) (ds : List (Class F)) (f : F) (m : ℕ) → rising c ds ≡ true → read_in same (c ∷ ds) f ≡ Foot m → (class_in c ds m).figure ≡ f
+    own_in : (c : Class F) (ds : List (Class F)) (f : F) (m : ℕ) → rising c ds ≡ true → read_in same (c ∷ ds) f ≡ Some m → (class_in c ds m).figure ≡ f
     own_in c [] f m r e =
         ⊎_elim
         (λ p. rw (← p.1, at-foot c [] r) p.0)
@@ -178,7 +179,7 @@ module _ {F : Type 0} where
         (λ w. rw (under d ds v w c) (unlike-head g c (d ∷ ds) u).0)
         (reached d.foot v)
 
-    read_first : (c : Class F) (cs : List (Class F)) → read_in same (c ∷ cs) c.figure ≡ Foot c.foot
+    read_first : (c : Class F) (cs : List (Class F)) → read_in same (c ∷ cs) c.figure ≡ Some c.foot
     unfolding read_in
     read_first c cs = rw (dec.itself c.figure)
 
@@ -187,7 +188,7 @@ module _ {F : Type 0} where
     read-later c cs f e = rw (turned f c.figure e)
 
     back_in : (c : Class F) (ds : List (Class F)) (v : ℕ) → distinct same (c ∷ ds) ≡ true
-        → read_in same (c ∷ ds) (class_in c ds v).figure ≡ Foot (class_in c ds v).foot
+        → read_in same (c ∷ ds) (class_in c ds v).figure ≡ Some (class_in c ds v).foot
     unfolding distinct
     back_in c [] v u = unfold class_in in read_first c []
     back_in c (d ∷ ds) v u =
@@ -228,11 +229,11 @@ lawful {F} same s dec z r u =
       reads-back = back;
       own = mine;
       again = λ v. mine (figure_of s v) (foot_of s v) (back v);
-      unused = λ f e v g. let h : None ≡ Foot (foot_of s v) = sym e ∙ ap (read_of same s) (sym g) ∙ back v in impossible (cc);
+      unused = λ f e v g. let h : None ≡ Some (foot_of s v) = sym e ∙ ap (read_of same s) (sym g) ∙ back v in impossible (cc);
     }
   where
-    back : (v : ℕ) → read_of same s (figure_of s v) ≡ Foot (foot_of s v)
+    back : (v : ℕ) → read_of same s (figure_of s v) ≡ Some (foot_of s v)
     back v = back_in same dec s.lowest s.above v u
 
-    mine : (f : F) (m : ℕ) → read_of same s f ≡ Foot m → figure_of s m ≡ f
+    mine : (f : F) (m : ℕ) → read_of same s f ≡ Some m → figure_of s m ≡ f
     mine f m e = own_in same dec s.lowest s.above f m r e

@@ -1,6 +1,7 @@
 -- The laws of the two scales of table 1677: each passes the tests of `lawful`, and all their feet may be written. And what a scale with raised figures has of
 -- the scale that it is made of: its classes, so its figures and readings, and how long its classes are.
 -- Assumes nothing.
+use Rattle.std.specs.Prelude.{None, Some}
 use mathlib.Core.Path.{◌≡◌, refl, sym, ap, ◌∙◌}
 use mathlib.Core.Bool.{Bool, true, false, false≢true}
 use mathlib.Core.List.{List, [], ◌∷◌, map}
@@ -9,11 +10,9 @@ use Prim.Native.Nat.{ℕ, ◌+◌, ◌-◌, ◌≤◌, ◌<◌}
 use native.Mathlib.Omega.{arith}
 use lib.Dec.{eqb}
 use borrow.Author.Tests.{le-leb, lt-leb, eqb-true, eq-eqb, ne_eqb}
-use Rattle.scales.specs.Scale.{Class, Scale, None, run, class_in, length_in, read_in, class_of, length_of, figure_of, read_of, rising, unlike, distinct}
+use Rattle.scales.specs.Scale.{Class, Scale, run, class_in, length_in, read_in, class_of, length_of, read_of, rising, unlike, distinct}
 use Rattle.figures.proofs.Impossible.{impossible}
-use Rattle.scales.specs.Metres.{base, answered, metres_figure, metres_reading}
-use Rattle.scales.specs.declared.kinds.Figure.TheVariants as figure
-use Rattle.scales.specs.declared.kinds.Reading.TheVariants as reading
+use Rattle.scales.specs.Metres.{base, metres_figure, metres_reading}
 use Rattle.scales.specs.Layers.{layer_steps, raised_class, raised, layer_bands}
 use Rattle.scales.proofs.Laws.{Lawful, lawful, reached}
 use Rattle.scales.proofs.Answers.{class-is, figure-told, figure-beyond, too_far}
@@ -84,10 +83,10 @@ module _ (n : ℕ) where
 
 -- ---- what the code answers by bands
 
-out-never : (v : ℕ) {f : ℕ} → 99999 < v → metres_figure base v ≡ figure.Is f → ⊥
-out-never v h e = let o : figure.OutOfRange ≡ metres_figure base v = too_far base v h in impossible (cc)
+out-never : (v : ℕ) {f : ℕ} → 99999 < v → metres_figure base v ≡ Some f → ⊥
+out-never v h e = let o : None ≡ metres_figure base v = too_far base v h in impossible (cc)
 
-pub figure-bands : (v : ℕ) {f : ℕ} → metres_figure base v ≡ figure.Is f → figure.Is (90 + f) ≡ metres_figure layer_bands v
+pub figure-bands : (v : ℕ) {f : ℕ} → metres_figure base v ≡ Some f → Some (90 + f) ≡ metres_figure layer_bands v
 unfolding layer_bands
 figure-bands v {f} e =
     ⊎_elim
@@ -95,13 +94,13 @@ figure-bands v {f} e =
     (λ h. absurd (out-never v h e))
     (reached v 99999)
 
-pub out-bands : (v : ℕ) → metres_figure base v ≡ figure.OutOfRange → figure.OutOfRange ≡ metres_figure layer_bands v
+pub out-bands : (v : ℕ) → metres_figure base v ≡ None → None ≡ metres_figure layer_bands v
 out-bands v e = too_far layer_bands v (figure-beyond base v e)
 
 pub read-bands : (f : ℕ) → 90 ≤ f → metres_reading base (f - 90) ≡ metres_reading layer_bands f
 unfolding metres_reading layer_bands
-read-bands f h = let e : f ≡ 90 + (f - 90) = omega arith in ap answered (sym (ap (read_of eqb (raised 90 base)) e ∙ read-raised 90 base (f - 90)))
+read-bands f h = let e : f ≡ 90 + (f - 90) = omega arith in sym (ap (read_of eqb (raised 90 base)) e ∙ read-raised 90 base (f - 90))
 
-pub unused-bands : (f : ℕ) → f < 90 → reading.Unused ≡ metres_reading layer_bands f
+pub unused-bands : (f : ℕ) → f < 90 → None ≡ metres_reading layer_bands f
 unfolding metres_reading layer_bands
 unused-bands f h = rw (read_below 90 base f h)

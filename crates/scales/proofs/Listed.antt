@@ -1,5 +1,6 @@
 -- Scales whose classes are listed one by one: the class of a value by its index in the list, and figures that none of the classes has.
 -- Assumes nothing.
+use Rattle.std.specs.Prelude.{None, Some}
 use mathlib.Core.Path.{◌≡◌, refl, ◌∙◌}
 use mathlib.Core.Bool.{Bool, true, ◌&&◌, and-eq-true_iff}
 use mathlib.Core.List.{List, [], ◌∷◌}
@@ -8,9 +9,8 @@ use native.Mathlib.Nat.{add-suc, add-zero}
 use native.Mathlib.Omega.{arith}
 use lib.Dec.{leb, ltb, eqb}
 use borrow.Author.Tests.{ltb-true, leb-true, ne_eqb}
-use Rattle.scales.specs.Scale.{Class, Scale, None, class_in, read_in, rising}
+use Rattle.scales.specs.Scale.{Class, Scale, class_in, read_in, rising}
 use Rattle.scales.specs.Metres.{metres_figure}
-use Rattle.scales.specs.declared.kinds.Figure.TheVariants as figure
 use Rattle.scales.proofs.Answers.{class-is}
 use Rattle.scales.proofs.Runs.{under, onto, rises}
 
@@ -43,7 +43,7 @@ module _ {F : Type 0} where
       onto d ds v (omega (arith, nth-rises d ds i p.1)) c ∙ sits d ds v i p.1 l h
 
 pub listed : (s : Scale ℕ) (v i : ℕ) → rising s.lowest s.above ≡ true → v ≤ 99999 → (nth s.lowest s.above i).foot ≤ v
-    → Upto v s.above i → figure.Is (nth s.lowest s.above i).figure ≡ metres_figure s v
+    → Upto v s.above i → Some (nth s.lowest s.above i).figure ≡ metres_figure s v
 listed s v i r t l h = class-is s v t (sits s.lowest s.above v i r l h) refl
 
 -- x is none of the n numbers from `from` on, the last of them named last

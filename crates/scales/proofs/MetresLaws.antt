@@ -1,7 +1,7 @@
 -- The laws of the six scales in metres: each scale passes the two tests of `lawful`.
 -- Assumes nothing.
 use mathlib.Core.Path.{◌≡◌, refl, ap}
-use mathlib.Core.Bool.{true, false, false≢true}
+use mathlib.Core.Bool.{true, false≢true}
 use lib.Dec.{eqb}
 use borrow.Author.Tests.{eqb-true, eq-eqb}
 use Rattle.scales.specs.Scale.{run, rising, unlike, distinct}

@@ -1,19 +1,17 @@
 -- Document 02, No. 11, "Nothing nearer below": "no figure of that same scale has a reading greater than the one written and still not above the observation,
 -- and .. each used figure is the one written for its own reading". One statement over any list of rising feet; each scale that rounds down cites it.
 -- Assumes nothing.
+use Rattle.std.specs.Prelude.{Some}
 use mathlib.Core.Path.{◌≡◌, sym, ◌∙◌}
 use mathlib.Core.Bool.{Bool}
 use Prim.Native.Nat.{ℕ, ◌≤◌, ◌<◌}
 use native.Mathlib.Omega.{arith}
 use lib.Dec.{eqb}
-use Rattle.scales.specs.Scale.{Scale, Foot, figure_of, foot_of, read_of}
+use Rattle.scales.specs.Scale.{Scale, figure_of, foot_of, read_of}
 use Rattle.scales.specs.Metres.{land, sea, base, visibility, runway, cloud, same_range, metres_figure, metres_reading, range_figure, range_reading}
 use Rattle.scales.specs.Depth.{depth}
 use Rattle.scales.specs.Layers.{layer_steps, layer_bands}
 use Rattle.scales.specs.Rounded.{pressure_figure, pressure_reading}
-use Rattle.scales.specs.declared.kinds.Figure.TheVariants as figure
-use Rattle.scales.specs.declared.kinds.Reading.TheVariants as reading
-use Rattle.scales.specs.declared.kinds.RangeFigure.TheVariants as written
 use Rattle.scales.proofs.Laws.{Lawful}
 use Rattle.scales.proofs.Answers.{figure-told, range-told}
 use Rattle.scales.proofs.MetresLaws.{land-laws, sea-laws, base-laws, visibility-laws, runway-laws, cloud-laws}
@@ -31,12 +29,12 @@ pub record NothingNearer {F : Type 0} (Writes : ℕ → F → Type 0) (Reads : F
   pub own-figure : (f : F) (m : ℕ) → Reads f m → Writes m f
 
 -- Over any list of rising feet.
-pub nearest-feet : {F : Type 0} {same : F → F → Bool} {s : Scale F} → Lawful same s → NothingNearer (λ v f. figure_of s v ≡ f) (λ f m. read_of same s f ≡ Foot m)
+pub nearest-feet : {F : Type 0} {same : F → F → Bool} {s : Scale F} → Lawful same s → NothingNearer (λ v f. figure_of s v ≡ f) (λ f m. read_of same s f ≡ Some m)
 nearest-feet {F} {same} {s} laws =
     record {
       nothing-nearer =
           λ v f m w r g n q l h.
-          let b : read_of same s f ≡ Foot (foot_of s v) = rw w at (laws.reads-back v) in
+          let b : read_of same s f ≡ Some (foot_of s v) = rw w at (laws.reads-back v) in
           let c : foot_of s v ≡ m = cc in
           absurd (omega (arith, c, l, laws.greatest g n v q h));
       own-figure = laws.own;
@@ -53,7 +51,7 @@ likewise as-writes as-reads own near =
 
 -- the answers of the code on a scale with whole numbers for figures
 abbrev pub MetresNearest : Scale ℕ → Type 0
-MetresNearest s = NothingNearer (λ v f. metres_figure s v ≡ figure.Is f) (λ f m. metres_reading s f ≡ reading.Is m)
+MetresNearest s = NothingNearer (λ v f. metres_figure s v ≡ Some f) (λ f m. metres_reading s f ≡ Some m)
 
 by-scale : (s : Scale ℕ) → Lawful eqb s → MetresRounds s → MetresNearest s
 unfolding metres_reading
@@ -73,7 +71,7 @@ base-nearest = by-scale base base-laws base-rounds
 pub visibility-nearest : MetresNearest visibility
 visibility-nearest = by-scale visibility visibility-laws visibility-rounds
 
-pub runway-nearest : NothingNearer (λ v f. range_figure v ≡ written.Is f) (λ f m. range_reading f ≡ reading.Is m)
+pub runway-nearest : NothingNearer (λ v f. range_figure v ≡ Some f) (λ f m. range_reading f ≡ Some m)
 unfolding range_reading
 runway-nearest =
     likewise (λ v f w. sym (range-told v w)) (λ f m r. foot-of (read_of same_range runway f) m r) runway-rounds.own (nearest-feet runway-laws)
@@ -90,7 +88,7 @@ steps-nearest = by-scale layer_steps steps-laws steps-rounds
 pub bands-nearest : MetresNearest layer_bands
 bands-nearest = by-scale layer_bands bands-laws bands-rounds
 
-pub pressure-nearest : NothingNearer (λ v f. pressure_figure v ≡ figure.Is f) (λ f m. pressure_reading f ≡ reading.Is m)
+pub pressure-nearest : NothingNearer (λ v f. pressure_figure v ≡ Some f) (λ f m. pressure_reading f ≡ Some m)
 pressure-nearest =
     let q = by-scale pressures pressures-laws pressures-rounds in
     likewise

@@ -1,5 +1,6 @@
 -- Q as a scale that rounds down: its feet, 0, 10, 20 .. tenths of hPa, rise like any, and its figures are 0, 1, 2 .. .
 -- Assumes nothing.
+use Rattle.std.specs.Prelude.{None, Some}
 use mathlib.Core.Path.{◌≡◌, refl, ◌∙◌}
 use mathlib.Core.Bool.{true}
 use mathlib.Core.List.{[], ◌∷◌, append-nil}
@@ -8,7 +9,7 @@ use native.Mathlib.Nat.{suc-mul}
 use native.Mathlib.Omega.{arith}
 use lib.Dec.{eqb}
 use borrow.Author.Tests.{lt-ltb, le-leb, ne_eqb}
-use Rattle.scales.specs.Scale.{Class, Scale, Foot, None, run, steps, class_in, read_in, class_of, read_of, rising, unlike, distinct}
+use Rattle.scales.specs.Scale.{Class, Scale, run, steps, class_in, read_in, class_of, read_of, rising, unlike, distinct}
 use Rattle.scales.specs.Metres.{class}
 use Rattle.scales.proofs.Laws.{Lawful, lawful}
 use Rattle.scales.proofs.MetresLaws.{numbers}
@@ -61,7 +62,7 @@ tens-class n v h =
     let figure : 0 + v / 10 * 1 ≡ v / 10 = omega arith in
     rw (foot, figure, append-nil (steps n 10 10 1 1)) at (inside plain 10 1 n 0 0 [] v (v / 10) (λ c. unfold class_in in refl) h (omega arith) (omega arith))
 
-tens-read : (n f : ℕ) → f ≤ n → read_of eqb (tens n) f ≡ Foot (f * 10)
+tens-read : (n f : ℕ) → f ≤ n → read_of eqb (tens n) f ≡ Some (f * 10)
 tens-read n f h =
     let foot : 0 + f * 10 ≡ f * 10 = omega arith in
     rw (all n, ← append-nil (steps (suc n) 0 10 0 1), ← foot) (meet 10 1 f (suc n) 0 0 [] f (omega arith) (omega arith) (omega arith))
@@ -86,7 +87,7 @@ pub pressure-class : (v : ℕ) → v ≤ 99999 → class_of pressures v ≡ clas
 unfolding pressures tens
 pressure-class v h = tens-class 9999 v (omega arith)
 
-pub pressure-read : (f : ℕ) → f ≤ 9999 → read_of eqb pressures f ≡ Foot (f * 10)
+pub pressure-read : (f : ℕ) → f ≤ 9999 → read_of eqb pressures f ≡ Some (f * 10)
 unfolding pressures tens
 pressure-read f h = tens-read 9999 f h
 

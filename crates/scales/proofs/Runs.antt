@@ -1,6 +1,7 @@
 -- Runs of classes, for any number of them and any distances: the class of a value that is before a run, in it or past it, and the reading of a
 -- figure that a run has or has not.
 -- Assumes nothing.
+use Rattle.std.specs.Prelude.{None, Some}
 use mathlib.Core.Path.{◌≡◌, refl, sym, ap, ◌∙◌}
 use mathlib.Core.Bool.{Bool, true, false, cond, and-eq-true_iff}
 use mathlib.Core.List.{List, [], ◌∷◌, ◌++◌}
@@ -9,7 +10,7 @@ use native.Mathlib.Nat.{suc-mul, zero-mul, add-zero, add-mul, le-div_iff_mul-le,
 use native.Mathlib.Omega.{arith}
 use lib.Dec.{ltb, eqb}
 use borrow.Author.Tests.{ltb-true, le-leb, lt-leb, eq-eqb, ne_eqb, eqb-true, eqb-false}
-use Rattle.scales.specs.Scale.{Class, Foot, None, run, steps, class_in, read_in, rising}
+use Rattle.scales.specs.Scale.{Class, run, steps, class_in, read_in, rising}
 
 -- the numbers of a run by their index: the first and those after it
 shift : (a b k : ℕ) → a + b + k * b ≡ a + suc k * b
@@ -126,7 +127,7 @@ module _ {F : Type 0} (mark : ℕ → F) (apart next : ℕ) where
 
     -- a figure that it has is read as its foot
     pub hit : (n foot number : ℕ) (rest : List (Class F)) (k : ℕ) → 0 < next → k < n → number + k * next ≡ x
-        → read_in same (run mark n foot apart number next ++ rest) f ≡ Foot (foot + k * apart)
+        → read_in same (run mark n foot apart number next ++ rest) f ≡ Some (foot + k * apart)
     unfolding read_in run
     hit zero foot number rest k p l e = absurd (omega arith)
     hit (suc n) foot number rest zero p l e =
@@ -141,26 +142,26 @@ pub skip : (apart next f n foot number : ℕ) (rest : List (Class ℕ)) → ((k 
 skip apart next f = miss plain apart next eqb f f (λ a. refl)
 
 pub meet : (apart next f n foot number : ℕ) (rest : List (Class ℕ)) (k : ℕ) → 0 < next → k < n → number + k * next ≡ f
-    → read_in eqb (steps n foot apart number next ++ rest) f ≡ Foot (foot + k * apart)
+    → read_in eqb (steps n foot apart number next ++ rest) f ≡ Some (foot + k * apart)
 meet apart next f = hit plain apart next eqb f f (λ a. refl)
 
 -- ---- runs whose feet are their figures, d apart from q times d on
 module _ {F : Type 0} (mark : ℕ → F) (d : ℕ) (p : 0 < d) (same : F → F → Bool) (f : F) (x : ℕ) (is : (a : ℕ) → same (mark a) f ≡ eqb a x) where
   by-rest : (b : Bool) → eqb (x % d) 0 ≡ b → (n q : ℕ) (rest : List (Class F)) → q * d ≤ x → x < (q + n) * d → read_in same rest f ≡ None
-      → read_in same (run mark n (q * d) d (q * d) d ++ rest) f ≡ cond b (Foot x) None
+      → read_in same (run mark n (q * d) d (q * d) d ++ rest) f ≡ cond b (Some x) None
   by-rest true e n q rest l h r =
       let m : x % d ≡ 0 = eqb-true (x % d) 0 e in
       let a : q ≤ x / d = (le-div_iff_mul-le p).1 l in
       let b : x / d < q + n = (div-lt_iff_lt-mul p).1 h in
       let u : q + (x / d - q) ≡ x / d = omega arith in
       let k : q * d + (x / d - q) * d ≡ x = rw (← add-mul, u) (omega (arith, div-add-mod' x d)) in
-      hit mark d d same f x is n (q * d) (q * d) rest (x / d - q) p (omega arith) k ∙ ap Foot k
+      hit mark d d same f x is n (q * d) (q * d) rest (x / d - q) p (omega arith) k ∙ ap Some k
   by-rest false e n q rest l h r =
       miss mark d d same f x is n (q * d) (q * d) rest (λ k m g. eqb-false (x % d) 0 e (ap (λ (y : ℕ). y % d) (sym (add-mul q k d ∙ g)) ∙ mul-mod_left (q + k) d)) ∙ r
 
   -- a figure among them is read as itself where d divides it, and not at all where it does not
   pub level : (n q : ℕ) (rest : List (Class F)) → q * d ≤ x → x < (q + n) * d → read_in same rest f ≡ None
-      → read_in same (run mark n (q * d) d (q * d) d ++ rest) f ≡ cond (eqb (x % d) 0) (Foot x) None
+      → read_in same (run mark n (q * d) d (q * d) d ++ rest) f ≡ cond (eqb (x % d) 0) (Some x) None
   level = by-rest (eqb (x % d) 0) refl
 
 -- the one class that is left has another figure

@@ -1,15 +1,9 @@
 -- "The scales and how far off": the six scales in metres. "Classes; read as the foot." "Numbers in metres unless said; 0 to 99,999 may be written."
 -- Assumes nothing: these are definitions.
-use Rattle.std.specs.Prelude.{ℕ, Bool, false, cond, [], ◌∷◌, ◌++◌, leb, eqb}
-use Rattle.scales.specs.Scale.{Class, Scale, Read, Foot, None, run, steps, figure_of, read_of}
-use Rattle.scales.specs.declared.kinds.Figure.{Figure}
-use Rattle.scales.specs.declared.kinds.Figure.TheVariants as figure
-use Rattle.scales.specs.declared.kinds.Reading.{Reading}
-use Rattle.scales.specs.declared.kinds.Reading.TheVariants as reading
+use Rattle.std.specs.Prelude.{ℕ, Bool, false, cond, [], ◌∷◌, ◌++◌, leb, eqb, None, Option, Some}
+use Rattle.scales.specs.Scale.{Class, Scale, run, steps, figure_of, read_of}
 use Rattle.scales.specs.declared.kinds.Range.{Range}
 use Rattle.scales.specs.declared.kinds.Range.TheVariants.{Below, Exact, Above}
-use Rattle.scales.specs.declared.kinds.RangeFigure.{RangeFigure}
-use Rattle.scales.specs.declared.kinds.RangeFigure.TheVariants as written
 
 abbrev pub class : {F : Type 0} → ℕ → F → Class F
 class foot figure = record { foot = foot; figure = figure }
@@ -78,18 +72,14 @@ same_range (Above a) (Exact b) = false
 same_range (Above a) (Above b) = eqb a b
 
 -- The answers of the code: "0 to 99,999 may be written"; a figure that no class has is "not in the table".
-abbrev pub answered : Read → Reading
-answered (Foot m) = reading.Is m
-answered None = reading.Unused
+unfoldable pub metres_figure : Scale ℕ → ℕ → Option ℕ
+metres_figure s v = cond (leb v 99999) (Some (figure_of s v)) None
 
-unfoldable pub metres_figure : Scale ℕ → ℕ → Figure
-metres_figure s v = cond (leb v 99999) (figure.Is (figure_of s v)) figure.OutOfRange
+unfoldable pub metres_reading : Scale ℕ → ℕ → Option ℕ
+metres_reading s f = read_of eqb s f
 
-unfoldable pub metres_reading : Scale ℕ → ℕ → Reading
-metres_reading s f = answered (read_of eqb s f)
+unfoldable pub range_figure : ℕ → Option Range
+range_figure v = cond (leb v 99999) (Some (figure_of runway v)) None
 
-unfoldable pub range_figure : ℕ → RangeFigure
-range_figure v = cond (leb v 99999) (written.Is (figure_of runway v)) written.OutOfRange
-
-unfoldable pub range_reading : Range → Reading
-range_reading f = answered (read_of same_range runway f)
+unfoldable pub range_reading : Range → Option ℕ
+range_reading f = read_of same_range runway f

@@ -1,7 +1,7 @@
 -- A scale that rounds down: its classes by rising foot, each with the figure that it is written as.
 -- "A value's class has the greatest foot not above it; its length runs to the next foot, the last class is open above."
 -- Assumes nothing: these are definitions.
-use Rattle.std.specs.Prelude.{ℕ, zero, suc, ◌+◌, ◌-◌, Bool, true, cond, not, ◌&&◌, List, [], ◌∷◌, leb, ltb}
+use Rattle.std.specs.Prelude.{ℕ, zero, suc, ◌+◌, ◌-◌, Bool, true, cond, not, ◌&&◌, List, [], ◌∷◌, leb, ltb, None, Option, Some}
 
 pub record Class (F : Type 0) : Type 0 where
   pub foot : ℕ
@@ -11,11 +11,6 @@ pub record Class (F : Type 0) : Type 0 where
 pub data Length : Type 0 where
   Of : ℕ → Length
   Open : Length
-
--- What a figure is read as.
-pub data Read : Type 0 where
-  Foot : ℕ → Read
-  None : Read
 
 -- n classes one after the other: how a number is written as a figure, the first foot and how far the feet are apart, the first number and how
 -- far the numbers are apart
@@ -50,9 +45,9 @@ module _ {F : Type 0} where
   last_in c (d ∷ ds) = last_in d ds
 
   -- the reading of the first class that has the figure
-  unfoldable pub read_in : (F → F → Bool) → List (Class F) → F → Read
+  unfoldable pub read_in : (F → F → Bool) → List (Class F) → F → Option ℕ
   read_in same [] f = None
-  read_in same (c ∷ cs) f = cond (same c.figure f) (Foot c.foot) (read_in same cs f)
+  read_in same (c ∷ cs) f = cond (same c.figure f) (Some c.foot) (read_in same cs f)
 
   -- the class of a value, its length, its figure and its reading; the reading of a figure
   abbrev pub class_of : Scale F → ℕ → Class F
@@ -67,7 +62,7 @@ module _ {F : Type 0} where
   abbrev pub foot_of : Scale F → ℕ → ℕ
   foot_of s v = (class_of s v).foot
 
-  abbrev pub read_of : (F → F → Bool) → Scale F → F → Read
+  abbrev pub read_of : (F → F → Bool) → Scale F → F → Option ℕ
   read_of same s f = read_in same (s.lowest ∷ s.above) f
 
   -- what a list of classes has to be: the feet rise, and no two classes have one figure

@@ -3,34 +3,32 @@ ghost use Rattle.std.specs.Prelude.{◌≡◌};
 ghost use Rattle.scales.specs.Metres.{metres_figure, metres_reading};
 ghost use Rattle.scales.specs.Depth.{depth};
 
-use crate::kinds::{Figure, Reading};
-
-pub fn depth_figure(millimetres: u32) -> Figure
+pub fn depth_figure(millimetres: u32) -> Option<u32>
     ensures { result ≡ metres_figure depth millimetres }
 {
     if millimetres < 90 {
-        Figure::Is(millimetres)
+        Some(millimetres)
     } else if millimetres < 100 {
-        Figure::Is(90)
+        Some(90)
     } else if millimetres < 400 {
-        Figure::Is(90 + millimetres / 50)
+        Some(90 + millimetres / 50)
     } else if millimetres <= 99999 {
-        Figure::Is(98)
+        Some(98)
     } else {
-        Figure::OutOfRange
+        None
     }
 }
 
-pub fn depth_reading(figure: u32) -> Reading
+pub fn depth_reading(figure: u32) -> Option<u32>
     ensures { result ≡ metres_reading depth figure }
 {
     if figure <= 90 {
-        Reading::Is(figure)
+        Some(figure)
     } else if figure < 92 {
-        Reading::Unused
+        None
     } else if figure <= 98 {
-        Reading::Is((figure - 90) * 50)
+        Some((figure - 90) * 50)
     } else {
-        Reading::Unused
+        None
     }
 }

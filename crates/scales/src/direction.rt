@@ -6,7 +6,7 @@ ghost use Rattle.figures.specs.Figures.{field_text};
 ghost use Rattle.scales.specs.Fields.{field_by, two_text};
 ghost use Rattle.scales.specs.Rounded.{direction_figure, direction_reading};
 
-use crate::kinds::{Figure, Reading, TwoFigures};
+use crate::kinds::TwoFigures;
 
 // A number from which tens are taken: how many were taken, and what is left of it.
 #[derive(Clone, Copy)]
@@ -48,15 +48,15 @@ fn tens_of(number: u32) -> Tens
     take_tens(below_20, 10, 1)
 }
 
-pub fn direction_figure(degrees: u32) -> Figure
+pub fn direction_figure(degrees: u32) -> Option<u32>
     ensures { result ≡ direction_figure degrees }
 {
     if 359 < degrees {
-        Figure::OutOfRange
+        None
     } else if degrees < 5 {
-        Figure::Is(36)
+        Some(36)
     } else {
-        Figure::Is(tens_of(degrees + 5).taken)
+        Some(tens_of(degrees + 5).taken)
     }
 }
 
@@ -69,30 +69,25 @@ fn figure_byte(figure: u32) -> u8
 }
 
 // dd, the text of a direction: the two bytes that a SYNOP has for it. In a METAR a zero follows them.
-pub fn direction_figures(degrees: u32) -> TwoFigures
+pub fn direction_figures(degrees: u32) -> Option<TwoFigures>
     ensures { two_text result ≡ field_text 2 (field_by (direction_figure degrees)) }
 {
-    let f = direction_figure(degrees);
-    match f {
-        Figure::Is(figure) => {
-            let tens = tens_of(figure);
-            TwoFigures::Are {
-                tens: figure_byte(tens.taken),
-                units: figure_byte(tens.left),
-            }
-        }
-        Figure::OutOfRange => TwoFigures::OutOfRange,
-    }
+    let figure = direction_figure(degrees)?;
+    let tens = tens_of(figure);
+    Some(TwoFigures {
+        tens: figure_byte(tens.taken),
+        units: figure_byte(tens.left),
+    })
 }
 
-pub fn direction_reading(tens: u32) -> Reading
+pub fn direction_reading(tens: u32) -> Option<u32>
     ensures { result ≡ direction_reading tens }
 {
     if tens == 0 {
-        Reading::Unused
+        None
     } else if tens <= 36 {
-        Reading::Is(tens * 10 % 360)
+        Some(tens * 10 % 360)
     } else {
-        Reading::Unused
+        None
     }
 }

@@ -1,175 +1,174 @@
 // The six scales in metres, 0 to 99,999, by arithmetic: table 4377 over land and at sea, 1600 h, VVVV, the runway visual range and table 1690.
-ghost use Rattle.std.specs.Prelude.{◌≡◌, cond, ◌%◌, ◌<◌, eqb};
-ghost use Rattle.scales.specs.Scale.{Foot, None};
-ghost use Rattle.scales.specs.Metres.{land, sea, base, visibility, cloud, answered, metres_figure, metres_reading, range_figure, range_reading};
+ghost use Rattle.std.specs.Prelude.{◌≡◌, cond, ◌%◌, ◌<◌, eqb, None, Some};
+ghost use Rattle.scales.specs.Metres.{land, sea, base, visibility, cloud, metres_figure, metres_reading, range_figure, range_reading};
 
-use crate::kinds::{Figure, Range, RangeFigure, Reading};
+use crate::kinds::Range;
 
 // A figure that is its own reading, where such figures are `apart` apart.
-fn multiple(figure: u32, apart: u32) -> Reading
+fn multiple(figure: u32, apart: u32) -> Option<u32>
     requires { 0 < apart }
-    ensures { result ≡ answered (cond (eqb (figure % apart) 0) (Foot figure) None) }
+    ensures { result ≡ cond (eqb (figure % apart) 0) (Some figure) None }
 {
     if figure % apart == 0 {
-        Reading::Is(figure)
+        Some(figure)
     } else {
-        Reading::Unused
+        None
     }
 }
 
 // ---- 4377 over land
 
-pub fn land_figure(metres: u32) -> Figure
+pub fn land_figure(metres: u32) -> Option<u32>
     ensures { result ≡ metres_figure land metres }
 {
     if metres < 5000 {
-        Figure::Is(metres / 100)
+        Some(metres / 100)
     } else if metres < 6000 {
-        Figure::Is(50)
+        Some(50)
     } else if metres < 30000 {
-        Figure::Is(50 + metres / 1000)
+        Some(50 + metres / 1000)
     } else if metres <= 70000 {
-        Figure::Is(74 + metres / 5000)
+        Some(74 + metres / 5000)
     } else if metres <= 99999 {
-        Figure::Is(89)
+        Some(89)
     } else {
-        Figure::OutOfRange
+        None
     }
 }
 
-pub fn land_reading(figure: u32) -> Reading
+pub fn land_reading(figure: u32) -> Option<u32>
     ensures { result ≡ metres_reading land figure }
 {
     if figure <= 50 {
-        Reading::Is(figure * 100)
+        Some(figure * 100)
     } else if figure < 56 {
-        Reading::Unused
+        None
     } else if figure <= 80 {
-        Reading::Is((figure - 50) * 1000)
+        Some((figure - 50) * 1000)
     } else if figure <= 88 {
-        Reading::Is((figure - 74) * 5000)
+        Some((figure - 74) * 5000)
     } else if figure == 89 {
-        Reading::Is(70001)
+        Some(70001)
     } else {
-        Reading::Unused
+        None
     }
 }
 
 // ---- 4377 at sea
 
-pub fn sea_figure(metres: u32) -> Figure
+pub fn sea_figure(metres: u32) -> Option<u32>
     ensures { result ≡ metres_figure sea metres }
 {
     if metres < 50 {
-        Figure::Is(90)
+        Some(90)
     } else if metres < 200 {
-        Figure::Is(91)
+        Some(91)
     } else if metres < 500 {
-        Figure::Is(92)
+        Some(92)
     } else if metres < 1000 {
-        Figure::Is(93)
+        Some(93)
     } else if metres < 2000 {
-        Figure::Is(94)
+        Some(94)
     } else if metres < 4000 {
-        Figure::Is(95)
+        Some(95)
     } else if metres < 10000 {
-        Figure::Is(96)
+        Some(96)
     } else if metres < 20000 {
-        Figure::Is(97)
+        Some(97)
     } else if metres < 50000 {
-        Figure::Is(98)
+        Some(98)
     } else if metres <= 99999 {
-        Figure::Is(99)
+        Some(99)
     } else {
-        Figure::OutOfRange
+        None
     }
 }
 
-pub fn sea_reading(figure: u32) -> Reading
+pub fn sea_reading(figure: u32) -> Option<u32>
     ensures { result ≡ metres_reading sea figure }
 {
     match figure {
-        90 => Reading::Is(0),
-        91 => Reading::Is(50),
-        92 => Reading::Is(200),
-        93 => Reading::Is(500),
-        94 => Reading::Is(1000),
-        95 => Reading::Is(2000),
-        96 => Reading::Is(4000),
-        97 => Reading::Is(10000),
-        98 => Reading::Is(20000),
-        99 => Reading::Is(50000),
-        _ => Reading::Unused,
+        90 => Some(0),
+        91 => Some(50),
+        92 => Some(200),
+        93 => Some(500),
+        94 => Some(1000),
+        95 => Some(2000),
+        96 => Some(4000),
+        97 => Some(10000),
+        98 => Some(20000),
+        99 => Some(50000),
+        _ => None,
     }
 }
 
 // ---- 1600 h
 
-pub fn base_figure(metres: u32) -> Figure
+pub fn base_figure(metres: u32) -> Option<u32>
     ensures { result ≡ metres_figure base metres }
 {
     if metres < 50 {
-        Figure::Is(0)
+        Some(0)
     } else if metres < 100 {
-        Figure::Is(1)
+        Some(1)
     } else if metres < 200 {
-        Figure::Is(2)
+        Some(2)
     } else if metres < 300 {
-        Figure::Is(3)
+        Some(3)
     } else if metres < 600 {
-        Figure::Is(4)
+        Some(4)
     } else if metres < 1000 {
-        Figure::Is(5)
+        Some(5)
     } else if metres < 1500 {
-        Figure::Is(6)
+        Some(6)
     } else if metres < 2000 {
-        Figure::Is(7)
+        Some(7)
     } else if metres < 2500 {
-        Figure::Is(8)
+        Some(8)
     } else if metres <= 99999 {
-        Figure::Is(9)
+        Some(9)
     } else {
-        Figure::OutOfRange
+        None
     }
 }
 
-pub fn base_reading(figure: u32) -> Reading
+pub fn base_reading(figure: u32) -> Option<u32>
     ensures { result ≡ metres_reading base figure }
 {
     match figure {
-        0 => Reading::Is(0),
-        1 => Reading::Is(50),
-        2 => Reading::Is(100),
-        3 => Reading::Is(200),
-        4 => Reading::Is(300),
-        5 => Reading::Is(600),
-        6 => Reading::Is(1000),
-        7 => Reading::Is(1500),
-        8 => Reading::Is(2000),
-        9 => Reading::Is(2500),
-        _ => Reading::Unused,
+        0 => Some(0),
+        1 => Some(50),
+        2 => Some(100),
+        3 => Some(200),
+        4 => Some(300),
+        5 => Some(600),
+        6 => Some(1000),
+        7 => Some(1500),
+        8 => Some(2000),
+        9 => Some(2500),
+        _ => None,
     }
 }
 
 // ---- VVVV
 
-pub fn visibility_figure(metres: u32) -> Figure
+pub fn visibility_figure(metres: u32) -> Option<u32>
     ensures { result ≡ metres_figure visibility metres }
 {
     if metres < 800 {
-        Figure::Is(metres / 50 * 50)
+        Some(metres / 50 * 50)
     } else if metres < 5000 {
-        Figure::Is(metres / 100 * 100)
+        Some(metres / 100 * 100)
     } else if metres < 10000 {
-        Figure::Is(metres / 1000 * 1000)
+        Some(metres / 1000 * 1000)
     } else if metres <= 99999 {
-        Figure::Is(9999)
+        Some(9999)
     } else {
-        Figure::OutOfRange
+        None
     }
 }
 
-pub fn visibility_reading(figure: u32) -> Reading
+pub fn visibility_reading(figure: u32) -> Option<u32>
     ensures { result ≡ metres_reading visibility figure }
 {
     if figure < 800 {
@@ -179,37 +178,37 @@ pub fn visibility_reading(figure: u32) -> Reading
     } else if figure <= 9000 {
         multiple(figure, 1000)
     } else if figure == 9999 {
-        Reading::Is(10000)
+        Some(10000)
     } else {
-        Reading::Unused
+        None
     }
 }
 
 // ---- the runway visual range
 
-pub fn runway_figure(metres: u32) -> RangeFigure
+pub fn runway_figure(metres: u32) -> Option<Range>
     ensures { result ≡ range_figure metres }
 {
     if metres < 50 {
-        RangeFigure::Is(Range::Below(50))
+        Some(Range::Below(50))
     } else if metres < 400 {
-        RangeFigure::Is(Range::Exact(metres / 25 * 25))
+        Some(Range::Exact(metres / 25 * 25))
     } else if metres < 800 {
-        RangeFigure::Is(Range::Exact(metres / 50 * 50))
+        Some(Range::Exact(metres / 50 * 50))
     } else if metres <= 2000 {
-        RangeFigure::Is(Range::Exact(metres / 100 * 100))
+        Some(Range::Exact(metres / 100 * 100))
     } else if metres <= 99999 {
-        RangeFigure::Is(Range::Above(2000))
+        Some(Range::Above(2000))
     } else {
-        RangeFigure::OutOfRange
+        None
     }
 }
 
-fn exact_reading(figure: u32) -> Reading
+fn exact_reading(figure: u32) -> Option<u32>
     ensures { result ≡ range_reading (Range.Exact figure) }
 {
     if figure < 50 {
-        Reading::Unused
+        None
     } else if figure < 400 {
         multiple(figure, 25)
     } else if figure < 800 {
@@ -217,64 +216,52 @@ fn exact_reading(figure: u32) -> Reading
     } else if figure <= 2000 {
         multiple(figure, 100)
     } else {
-        Reading::Unused
+        None
     }
 }
 
-pub fn runway_reading(range: Range) -> Reading
+pub fn runway_reading(range: Range) -> Option<u32>
     ensures { result ≡ range_reading range }
 {
     match range {
-        Range::Below(figure) => {
-            if figure == 50 {
-                Reading::Is(0)
-            } else {
-                Reading::Unused
-            }
-        }
+        Range::Below(figure) => { if figure == 50 { Some(0) } else { None } }
         Range::Exact(figure) => exact_reading(figure),
-        Range::Above(figure) => {
-            if figure == 2000 {
-                Reading::Is(2001)
-            } else {
-                Reading::Unused
-            }
-        }
+        Range::Above(figure) => { if figure == 2000 { Some(2001) } else { None } }
     }
 }
 
 // ---- 1690
 
-pub fn cloud_figure(metres: u32) -> Figure
+pub fn cloud_figure(metres: u32) -> Option<u32>
     ensures { result ≡ metres_figure cloud metres }
 {
     if metres < 3000 {
-        Figure::Is(metres / 30)
+        Some(metres / 30)
     } else if metres < 3300 {
-        Figure::Is(100)
+        Some(100)
     } else if metres < 30000 {
-        Figure::Is(metres / 300 * 10)
+        Some(metres / 300 * 10)
     } else if metres <= 99999 {
-        Figure::Is(999)
+        Some(999)
     } else {
-        Figure::OutOfRange
+        None
     }
 }
 
-pub fn cloud_reading(figure: u32) -> Reading
+pub fn cloud_reading(figure: u32) -> Option<u32>
     ensures { result ≡ metres_reading cloud figure }
 {
     if figure <= 100 {
-        Reading::Is(figure * 30)
+        Some(figure * 30)
     } else if figure <= 990 {
         if figure % 10 == 0 {
-            Reading::Is(figure / 10 * 300)
+            Some(figure / 10 * 300)
         } else {
-            Reading::Unused
+            None
         }
     } else if figure == 999 {
-        Reading::Is(30000)
+        Some(30000)
     } else {
-        Reading::Unused
+        None
     }
 }

@@ -2,24 +2,22 @@
 ghost use Rattle.std.specs.Prelude.{◌≡◌};
 ghost use Rattle.scales.specs.Rounded.{pressure_figure, pressure_reading};
 
-use crate::kinds::{Figure, Reading};
-
-pub fn pressure_figure(tenths: u32) -> Figure
+pub fn pressure_figure(tenths: u32) -> Option<u32>
     ensures { result ≡ pressure_figure tenths }
 {
     if tenths <= 99999 {
-        Figure::Is(tenths / 10)
+        Some(tenths / 10)
     } else {
-        Figure::OutOfRange
+        None
     }
 }
 
-pub fn pressure_reading(figure: u32) -> Reading
+pub fn pressure_reading(figure: u32) -> Option<u32>
     ensures { result ≡ pressure_reading figure }
 {
     if figure <= 9999 {
-        Reading::Is(figure * 10)
+        Some(figure * 10)
     } else {
-        Reading::Unused
+        None
     }
 }

@@ -2,41 +2,41 @@
 ghost use Rattle.std.specs.Prelude.{◌≡◌};
 ghost use Rattle.scales.specs.Rounded.{rain_figure, rain_reading};
 
-use crate::kinds::{Figure, Rain, RainReading};
+use crate::kinds::Rain;
 
-pub fn rain_figure(rain: Rain) -> Figure
+pub fn rain_figure(rain: Rain) -> Option<u32>
     ensures { result ≡ rain_figure rain }
 {
     match rain {
-        Rain::Trace => Figure::Is(990),
+        Rain::Trace => Some(990),
         Rain::Tenths(tenths) => {
             if tenths == 0 {
-                Figure::OutOfRange
+                None
             } else if tenths < 10 {
-                Figure::Is(990 + tenths)
+                Some(990 + tenths)
             } else if tenths < 9885 {
-                Figure::Is((tenths + 5) / 10)
+                Some((tenths + 5) / 10)
             } else if tenths <= 99999 {
-                Figure::Is(989)
+                Some(989)
             } else {
-                Figure::OutOfRange
+                None
             }
         }
     }
 }
 
-pub fn rain_reading(figure: u32) -> RainReading
+pub fn rain_reading(figure: u32) -> Option<Rain>
     ensures { result ≡ rain_reading figure }
 {
     if figure == 0 {
-        RainReading::Unused
+        None
     } else if figure <= 989 {
-        RainReading::Is(Rain::Tenths(figure * 10))
+        Some(Rain::Tenths(figure * 10))
     } else if figure == 990 {
-        RainReading::Is(Rain::Trace)
+        Some(Rain::Trace)
     } else if figure <= 999 {
-        RainReading::Is(Rain::Tenths(figure - 990))
+        Some(Rain::Tenths(figure - 990))
     } else {
-        RainReading::Unused
+        None
     }
 }

@@ -1,5 +1,6 @@
 -- How a part of a report is read from group to group, as the loop of its reader meets them: for any report, part and row, and whatever follows the part.
 -- Assumes nothing.
+use Rattle.std.specs.Prelude.{Err, Ok}
 use Prim.Native.Nat.{ℕ, ◌+◌}
 use mathlib.Core.Path.{◌≡◌, sym, ap, ◌∙◌}
 use mathlib.Core.List.{List, [], ◌∷◌}
@@ -10,7 +11,7 @@ use Rattle.text.specs.Text.{tail_of}
 use Rattle.text.proofs.Groups.{Follows}
 use Rattle.places.specs.declared.kinds.Turn.{Turn}
 use Rattle.places.specs.declared.kinds.Turn.TheVariants as turn
-use Rattle.places.specs.Engine.{Group, Good, Bad, place_at, onward, On, Halt, Stop, Outcome, Fault}
+use Rattle.places.specs.Engine.{Group, place_at, onward, On, Halt, Stop, Outcome, Fault}
 use Rattle.places.specs.Answer.{outcome_of, end_verdict}
 use Rattle.places.specs.Parts.{step_by, run_to, Part, Further, turned, unless, owes, part_from}
 use Rattle.places.specs.Turn.{turn_at}
@@ -47,13 +48,13 @@ module _ {T P W R : Type 0} (part : Part T P W R) (more : Further T P W) (text :
 
       -- the group goes to place i, and is read there
       module _ {i j : ℕ} (e : u ≡ turn.At i j) where
-        pub reads_on : {r' : R} {p : ℕ} → (place_at part.row i).read j g r ≡ Good r' → p ≡ onward part.row i → reading c k r at ≡ reading p (j + 1) r' to
+        pub reads_on : {r' : R} {p : ℕ} → (place_at part.row i).read j g r ≡ Ok r' → p ≡ onward part.row i → reading c k r at ≡ reading p (j + 1) r' to
         unfolding reading run_to
         reads_on {r'} good past =
             let s : step_by part.row part.halts c k r g ≡ On (onward part.row i) (j + 1) r' = steps (turn.At i j) e ∙ rw good in
             rw (past, groups, s)
 
-        pub reads-bad : {f : Refusal} → (place_at part.row i).read j g r ≡ Bad f → reading c k r at ≡ Fault f from
+        pub reads-bad : {f : Refusal} → (place_at part.row i).read j g r ≡ Err f → reading c k r at ≡ Fault f from
         unfolding reading run_to
         reads-bad {f} bad =
             let s : step_by part.row part.halts c k r g ≡ Stop f = steps (turn.At i j) e ∙ rw bad in

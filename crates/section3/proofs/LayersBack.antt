@@ -1,11 +1,12 @@
 -- The round trip of up to four layers: what is written of those that are judged fine has its shape, takes a known room, and is read back as their classes,
 -- blank past them; the classes are written alike and judged fine.
 -- Assumes nothing.
-use Prim.Native.Nat.{ℕ, zero, suc, ◌+◌, ◌-◌, ◌*◌, ◌≤◌, ◌<◌}
+use Rattle.std.specs.Prelude.{Ok}
+use Prim.Native.Nat.{ℕ, zero, suc, ◌+◌, ◌-◌, ◌≤◌, ◌<◌}
 use native.Mathlib.Nat.{add-zero, zero-add, suc-add}
 use native.Mathlib.Omega.{arith}
 use mathlib.Core.Path.{◌≡◌, refl, sym, ap, ◌∙◌}
-use mathlib.Core.Bool.{Bool, true, false, ◌&&◌}
+use mathlib.Core.Bool.{true, ◌&&◌}
 use mathlib.Core.List.{List, [], ◌∷◌, ◌++◌, map, append_assoc}
 use lib.ListN.{length, take, drop, replicate, length-map, length-append}
 use lib.Seq.{set_at, take_at}
@@ -13,14 +14,13 @@ use lib.Dec.{leb}
 use borrow.Author.Tests.{leb-true, le-leb, lt-leb, lt-ltb}
 use Rattle.figures.specs.Quote.{bytes}
 use Rattle.figures.specs.Figures.{every}
-use Rattle.text.specs.declared.kinds.Judged.TheVariants as judged
-use Rattle.text.specs.Judge.{judge, and_then}
+use Rattle.text.specs.Judge.{judge}
 use Rattle.text.proofs.Judging.{fine, and-then}
 use Rattle.shapes.specs.Pattern.{low, high, has_pattern, has_any}
 use Rattle.shapes.proofs.Patterns.{both}
-use Rattle.places.specs.Engine.{Group, Good, Place}
-use Rattle.places.proofs.ReadBack.{All, Shaped, one-pattern, fill}
-use Rattle.places.proofs.Sizes.{Sized, measured, sized-each, Sizes, sizes-all, sizes-more}
+use Rattle.places.specs.Engine.{Group, Place}
+use Rattle.places.proofs.ReadBack.{All, one-pattern, fill}
+use Rattle.places.proofs.Sizes.{Sized, sized-each, Sizes, sizes-all, sizes-more}
 use Rattle.places.proofs.Kept.{Kept, keep-each}
 use Rattle.record.specs.declared.surface.CloudLayer.{CloudLayer}
 use Rattle.record.specs.declared.surface.CloudLayers.{CloudLayers}
@@ -35,7 +35,7 @@ use Rattle.synop_groups.specs.Shows.{show_layer}
 use Rattle.synop_groups.specs.Judge.{layer_fits}
 use Rattle.synop_groups.specs.Classes.{class_layer}
 use Rattle.synop_groups.proofs.RoundTripLayer.{layer-shaped, layer-back, layer-told, layer-again, layer-classed}
-use Rattle.section3.specs.Row.{rises, layer_at, with_told, show_layers, class_layers, place_for, row}
+use Rattle.section3.specs.Row.{rises, layer_at, show_layers, class_layers, place_for}
 use Rattle.section3.specs.Write.{judge_each, judge_layers}
 use Rattle.section3.proofs.Feet.{rises-classed}
 
@@ -45,7 +45,7 @@ abbrev Fits : CloudLayer → Type 0
 Fits l = layer_fits l ≡ true
 
 -- each of them is in range
-each_fits : (before ls : List CloudLayer) → judge_each before ls ≡ judged.Fine → Each Fits ls
+each_fits : (before ls : List CloudLayer) → judge_each before ls ≡ Ok tt → Each Fits ls
 each_fits before [] e = tt
 each_fits before (l ∷ ls) e =
     let j = and-then (judge (layer_fits l) (rises before l)) _ e in
@@ -61,9 +61,9 @@ any (l ∷ ls) = (tt, any ls)
 -- At most four count, judged one after the other, and past them all are blank.
 pub record Counted (ls : CloudLayers) : Type 0 where
   pub listed : Listed Fits is_blank_layer blank_layer 4 ls.count ls.items
-  pub each : judge_each [] (take ls.count ls.items) ≡ judged.Fine
+  pub each : judge_each [] (take ls.count ls.items) ≡ Ok tt
 
-pub layers-fit : (ls : CloudLayers) → length ls.items ≡ 4 → judge_layers ls ≡ judged.Fine → Counted ls
+pub layers-fit : (ls : CloudLayers) → length ls.items ≡ 4 → judge_layers ls ≡ Ok tt → Counted ls
 unfolding judge_layers
 layers-fit ls four e =
     let j = and-then (judge (leb ls.count 4 && every is_blank_layer (drop ls.count ls.items)) true) _ e in
@@ -123,16 +123,16 @@ module _ (s : Section3) where
   -- the layers before are read as their classes, and so is the next
   read_one : (before : List CloudLayer) (l x : CloudLayer) (rest : List CloudLayer) (k : ℕ) → length before < 4 → layer_fits l ≡ true → rises before l ≡ true
       → layers_place.read k (show_layer l) (holding (map class_layer before ++ (x ∷ rest)) (length before))
-      ≡ Good (holding (map class_layer before ++ (class_layer l ∷ rest)) (length before + 1))
+      ≡ Ok (holding (map class_layer before ++ (class_layer l ∷ rest)) (length before + 1))
   unfolding layer_at
   read_one before l x rest k room fits up =
       let n : length (map class_layer before) ≡ length before = length-map before class_layer in
       let stood : take (length before) (map class_layer before ++ (x ∷ rest)) ≡ map class_layer before = take_at (map class_layer before) (x ∷ rest) (length before) n in
       rw (layer-told l fits, lt-leb 4 (length before) room, layer-back l fits, stood, rises-classed before l, up, lt-ltb (length before) 4 room, set_at (map class_layer before) x rest (class_layer l) (length before) n)
 
-  fill-each : (ws before : List CloudLayer) (k rest : ℕ) → judge_each before ws ≡ judged.Fine → length before + (length ws + rest) ≡ 4
+  fill-each : (ws before : List CloudLayer) (k rest : ℕ) → judge_each before ws ≡ Ok tt → length before + (length ws + rest) ≡ 4
       → fill layers_place k (map show_layer ws) (holding (map class_layer before ++ replicate (length ws + rest) blank_layer) (length before))
-      ≡ Good (holding (map class_layer before ++ (map class_layer ws ++ replicate rest blank_layer)) (length before + length ws))
+      ≡ Ok (holding (map class_layer before ++ (map class_layer ws ++ replicate rest blank_layer)) (length before + length ws))
   fill-each [] before k rest e sum = rw (add-zero (length before), zero-add rest)
   fill-each (w ∷ ws) before k rest e sum =
       let j = and-then (judge (layer_fits w) (rises before w)) (judge_each (before ++ (w ∷ [])) ws) e in
@@ -145,7 +145,7 @@ module _ (s : Section3) where
 
   -- THE LAYERS ARE READ BACK AS THEIR CLASSES, into blank slots.
   module _ (ls : CloudLayers) (c : Counted ls) where
-    filled : fill layers_place 0 (show_layers ls) (holding (replicate 4 blank_layer) 0) ≡ Good (set_layers (class_layers ls) s)
+    filled : fill layers_place 0 (show_layers ls) (holding (replicate 4 blank_layer) 0) ≡ Ok (set_layers (class_layers ls) s)
     unfolding show_layers
     filled =
         let n = ls.count in
@@ -164,7 +164,7 @@ again-each : (ls : List CloudLayer) → Each Fits ls → map show_layer (map cla
 again-each [] a = refl
 again-each (l ∷ ls) a = rw (layer-again l a.0, again-each ls a.1)
 
-classed-each : (before ls : List CloudLayer) → judge_each before ls ≡ judged.Fine → judge_each (map class_layer before) (map class_layer ls) ≡ judged.Fine
+classed-each : (before ls : List CloudLayer) → judge_each before ls ≡ Ok tt → judge_each (map class_layer before) (map class_layer ls) ≡ Ok tt
 classed-each before [] e = refl
 classed-each before (l ∷ ls) e =
     let j = and-then (judge (layer_fits l) (rises before l)) (judge_each (before ++ (l ∷ [])) ls) e in
@@ -176,7 +176,7 @@ module _ (ls : CloudLayers) (c : Counted ls) where
   unfolding show_layers
   layers-again = rw (taken class_layer ls.count ls.items c.listed.many) (again-each (take ls.count ls.items) c.listed.each)
 
-  pub layers-classed : judge_layers (class_layers ls) ≡ judged.Fine
+  pub layers-classed : judge_layers (class_layers ls) ≡ Ok tt
   unfolding judge_layers
   layers-classed =
       rw (taken class_layer ls.count ls.items c.listed.many, dropped class_layer ls.count ls.items c.listed.many, le-leb ls.count 4 c.listed.few, c.listed.past)

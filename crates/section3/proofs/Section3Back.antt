@@ -1,30 +1,29 @@
 -- The round trip of section 3 as a whole: what is written of a section that is judged fine has its shapes, takes a known room, and is read back as its class;
 -- where it has nothing to say it is blank, and nothing is written.
 -- Assumes nothing.
-use Prim.Native.Nat.{ℕ, ◌≤◌}
+use Rattle.std.specs.Prelude.{Ok}
 use Prim.Native.String.{String}
 use native.Mathlib.Omega.{arith}
-use mathlib.Core.Path.{◌≡◌, refl, sym, ap, ◌∙◌}
-use mathlib.Core.Bool.{Bool, true, false, not, ◌&&◌, ◌||◌, or-true}
-use mathlib.Core.List.{List, [], ◌∷◌, ◌++◌, map}
+use mathlib.Core.Path.{◌≡◌, refl}
+use mathlib.Core.Bool.{Bool, true, false, ◌&&◌}
+use mathlib.Core.List.{List, [], ◌∷◌, map}
 use lib.ListN.{length, take}
 use lib.Dec.{eqb}
 use borrow.Author.Tests.{eqb-true}
 use Rattle.figures.specs.Quote.{bytes}
 use Rattle.figures.specs.Figures.{every}
-use Rattle.text.specs.declared.kinds.Judged.TheVariants as judged
 use Rattle.text.proofs.Judging.{and-then}
 use Rattle.shapes.specs.Pattern.{Pattern, low, high, has_pattern, has_any}
 use Rattle.shapes.proofs.Patterns.{both, or_right}
-use Rattle.places.specs.Engine.{Group, Good, Place, written, put_all}
+use Rattle.places.specs.Engine.{Group, Place, written, put_all}
 use Rattle.places.proofs.ReadBack.{All, All-map, All-join, one-pattern, plain}
 use Rattle.places.proofs.Sizes.{measured, sized-any, sized-sign, Sizes, sizes-none, sizes-cons, sizes-append, sizes-more, sizes-all}
 use Rattle.places.proofs.Kept.{Kept, KeptRow, done, more, keep_one, keep-none, kept-spoken}
 use Rattle.places.proofs.Parts.{KeptPart}
 use Rattle.record.specs.declared.surface.Air.{Air}
 use Rattle.record.specs.declared.surface.Section3.{Section3}
-use Rattle.record.specs.Blank.{blank_surface, blank_layers, blank_section3}
-use Rattle.record.specs.Missing.{no_tenths}
+use Rattle.record.specs.Blank.{blank_surface, blank_section3}
+use Rattle.record.specs.Missing.{is_missing}
 use Rattle.record.specs.SilentSurface.{is_blank_layer}
 use Rattle.record.specs.Set.{set_maximum, set_minimum}
 use Rattle.record.proofs.SurfaceBlanks.{section3-blank}
@@ -35,20 +34,20 @@ use Rattle.synop_groups.specs.Reads.{said_air}
 use Rattle.synop_groups.specs.Shows.{show_air, show_minimum, minimum_spoken}
 use Rattle.synop_groups.specs.Judge.{judge_air}
 use Rattle.synop_groups.proofs.RoundTrip.{Back, none, one, Each, back-shaped, air-back, minimum-back, minimum-covered}
-use Rattle.synop_row.specs.Row.{stop_words, section3_word}
-use Rattle.section3.specs.Row.{air_by, told_by, with_told, show_layers, class_layers, place_for, row, own_shapes, halts, part_in}
-use Rattle.section3.specs.Write.{judge_section3, judge_layers, is_silent, show_word, show_section3, class_section3}
+use Rattle.synop_row.specs.Row.{stop_words}
+use Rattle.section3.specs.Row.{air_by, told_by, with_told, show_layers, place_for, row, own_shapes, halts, part_in}
+use Rattle.section3.specs.Write.{judge_section3, is_silent, show_word, show_section3, class_section3}
 use Rattle.section3.proofs.Turns.{row-length, row-sound, row-covered}
 use Rattle.section3.proofs.LayersBack.{Counted, layers-fit, layers-sizes, kept-layers, layers-again, layers-classed}
 
 -- ---- what is judged fine
 
 record Fair (s : Section3) : Type 0 where
-  maximum : judge_air s.maximum ≡ judged.Fine
-  minimum : judge_air s.minimum ≡ judged.Fine
+  maximum : judge_air s.maximum ≡ Ok tt
+  minimum : judge_air s.minimum ≡ Ok tt
   layers : Counted s.layers
 
-fair : (s : Section3) → length s.layers.items ≡ 4 → judge_section3 s ≡ judged.Fine → Fair s
+fair : (s : Section3) → length s.layers.items ≡ 4 → judge_section3 s ≡ Ok tt → Fair s
 unfolding judge_section3
 fair s four e =
     let a = and-then (judge_air s.maximum) _ e in
@@ -60,7 +59,7 @@ fair s four e =
 -- a place for one of them keeps what is written there
 keep : (b : Bool) (shape : String) (spoken : List Pattern) (show : Section3 → List Group) (put : Section3 → Section3 → Section3) (s acc : Section3) (a : Air)
     → measured 5 spoken ≡ true → Back (bytes shape) false said_air said.Air blank_surface.air a (show s) → Each (λ g. has_any spoken g ≡ true) (show s)
-    → with_told (air_by b a) acc ≡ Good (put s acc) → (a ≡ blank_surface.air → put s acc ≡ acc)
+    → with_told (air_by b a) acc ≡ Ok (put s acc) → (a ≡ blank_surface.air → put s acc ≡ acc)
     → Kept (place_for shape spoken 1 (λ g t. told_by (air_by b) (said_air g)) show put) 5 s acc
 keep b shape spoken show put s acc a five back spoke full empty = go (show s) refl back spoke
   where
@@ -152,7 +151,7 @@ put-section3 s = refl
 temperature-sizes : {p : Place Section3} {s acc : Section3} → Kept p 5 s acc → p.most ≡ 1 → Sizes 6 (p.show s)
 temperature-sizes {p} {s} k m = sizes-more (omega (arith, k.served.few, m)) (sizes-all 5 (p.show s) k.sized)
 
-module _ (s : Section3) (four : length s.layers.items ≡ 4) (e : judge_section3 s ≡ judged.Fine) where
+module _ (s : Section3) (four : length s.layers.items ≡ 4) (e : judge_section3 s ≡ Ok tt) where
   fair-section3 : Fair s
   fair-section3 = fair s four e
 
@@ -182,7 +181,7 @@ module _ (s : Section3) (four : length s.layers.items ≡ 4) (e : judge_section3
   unfolding show_section3 row
   section3-again = rw (layers-again s.layers fair-section3.layers)
 
-  pub section3-classed : judge_section3 (class_section3 s) ≡ judged.Fine
+  pub section3-classed : judge_section3 (class_section3 s) ≡ Ok tt
   unfolding judge_section3
   section3-classed = let f = fair-section3 in rw (f.maximum, f.minimum, layers-classed s.layers f.layers)
 
@@ -194,7 +193,7 @@ module _ (s : Section3) (four : length s.layers.items ≡ 4) (e : judge_section3
 
   pub silent-blank : is_silent s ≡ true → s ≡ blank_section3
   silent-blank h =
-      let c = both (no_tenths s.maximum.temperature && no_tenths s.minimum.temperature) (eqb s.layers.count 0) h in
+      let c = both (is_missing s.maximum.temperature && is_missing s.minimum.temperature) (eqb s.layers.count 0) h in
       let z = eqb-true s.layers.count 0 c.1 in
       section3-blank s four (rw (c.0, c.1, past z))
     where

@@ -1,7 +1,7 @@
 -- The loop that reads section 3, from group to group: what it hands over is what the section comes to, whatever report takes it in.
 -- Assumes nothing.
+use Rattle.std.specs.Prelude.{Err, Ok, Result}
 use Prim.Native.Nat.{ℕ, zero, suc, ◌+◌, ◌≤◌, ◌<◌}
-use native.Mathlib.Omega.{arith}
 use mathlib.Core.Path.{◌≡◌, refl, sym, ap, ◌∙◌}
 use mathlib.Core.Bool.{Bool, true, false, or-false}
 use mathlib.Core.List.{List, [], ◌∷◌}
@@ -14,17 +14,17 @@ use Rattle.figures.specs.Quote.{bytes}
 use Rattle.shapes.specs.Pattern.{has_pattern}
 use Rattle.text.specs.declared.kinds.Refusal.{Refusal}
 use Rattle.text.specs.declared.kinds.Refusal.TheVariants as refusal
-use Rattle.text.specs.declared.kinds.Verdict.{Verdict}
-use Rattle.text.specs.declared.kinds.Verdict.TheVariants as verdict
+use Rattle.text.specs.declared.kinds.Refused.{Refused}
 use Rattle.text.specs.Groups.{groups_from, part_of}
 use Rattle.text.specs.Text.{tail_of}
 use Rattle.text.proofs.Groups.{Follows}
+use Rattle.text.specs.Refusals.{refused_with}
 use Rattle.places.specs.declared.kinds.Turn.{Turn}
 use Rattle.places.specs.declared.kinds.Turn.TheVariants as turn
 use Rattle.places.specs.Seek.{owed}
-use Rattle.places.specs.Engine.{Group, Good, Bad, Place, nowhere, place_at, musts_of, Outcome}
+use Rattle.places.specs.Engine.{Group, Place, nowhere, musts_of}
 use Rattle.places.specs.Answer.{outcome_of, end_verdict}
-use Rattle.places.specs.Parts.{Further, owes, part_from}
+use Rattle.places.specs.Parts.{Further}
 use Rattle.places.specs.Turn.{turn_at}
 use Rattle.record.specs.declared.surface.CloudLayer.{CloudLayer}
 use Rattle.record.specs.declared.surface.CloudLayers.{CloudLayers}
@@ -61,7 +61,7 @@ says_nothing i g ls past = λ k s is. ap (λ (p : Place Section3). p.read k g s)
 abbrev pub right : List ℕ
 right = 0 ∷ 2 ∷ 3 ∷ 4 ∷ []
 
-added : (x : Told) → OneOf right (tag_of tolds.the_type x) → (s : Section3) → with_told x s ≡ Good (told_onto x s)
+added : (x : Told) → OneOf right (tag_of tolds.the_type x) → (s : Section3) → with_told x s ≡ Ok (told_onto x s)
 added told.Nothing one s = refl
 added (told.Refused f) one s = absurd (miss right 1 tt one)
 added (told.Maximum a) one s = refl
@@ -110,12 +110,12 @@ module _ (ls : CloudLayers) (g : Group) where
 module _ (text : List ℕ) (from c k : ℕ) (s : Section3) (at : ℕ)
     (inv : (takes : Section3 → Synop) (more : Further Synop Section3 Opened) → reading (part_in takes) more text 0 0 blank_section3 from ≡ reading (part_in takes) more text c k s at) where
   -- what the loop hands over
-  hands : {x : Section3Read} {v : Verdict} → x ≡ record { verdict = v; section3 = s }
+  hands : {x : Section3Read} {v : Result ℕ Refused} → x ≡ record { verdict = v; section3 = s }
       → ((takes : Section3 → Synop) (more : Further Synop Section3 Opened) → reading (part_in takes) more text c k s at ≡ outcome_of v (takes s)) → Section3Done text from x
   unfolding reading
   hands p q takes more = inv takes more ∙ rw p (q takes more)
 
-  pub done-over : {x : Section3Read} {v : Verdict} → x ≡ record { verdict = v; section3 = s } → v ≡ end_verdict (tail_of text) (length text) false → groups_from text at ≡ []
+  pub done-over : {x : Section3Read} {v : Result ℕ Refused} → x ≡ record { verdict = v; section3 = s } → v ≡ end_verdict (tail_of text) (length text) false → groups_from text at ≡ []
       → Section3Done text from x
   done-over p q none =
       hands p
@@ -124,15 +124,15 @@ module _ (text : List ℕ) (from c k : ℕ) (s : Section3) (at : ℕ)
       ∙ rw q (ap (λ (b : Bool). outcome_of (end_verdict (tail_of text) (length text) b) (takes s)) (or-false (owed k (drop c (musts_of row))) ∙ none-owed c k)))
 
   module _ {start end : ℕ} {g : Group} {u : Turn} (follows : Follows text at start end) (cut : g ≡ part_of text start end) (is : u ≡ turn_at row halts c k g) where
-    pub done-halt : {x : Section3Read} → x ≡ record { verdict = verdict.Accepted start; section3 = s } → u ≡ turn.Halt → Section3Done text from x
+    pub done-halt : {x : Section3Read} → x ≡ record { verdict = Ok start; section3 = s } → u ≡ turn.Halt → Section3Done text from x
     done-halt p e =
         hands p (λ takes more. reads-halt (part_in takes) more text c k s at follows cut is e ∙ rw (none-owed c k))
 
-    pub done-fault : {x : Section3Read} {f : Refusal} → x ≡ record { verdict = verdict.Refused f start; section3 = s } → u ≡ turn.Refused f → Section3Done text from x
+    pub done-fault : {x : Section3Read} {f : Refusal} → x ≡ record { verdict = Err (refused_with f start); section3 = s } → u ≡ turn.Refused f → Section3Done text from x
     done-fault p e = hands p (λ takes more. reads-fault (part_in takes) more text c k s at follows cut is e)
 
     module _ {i j : ℕ} (e : u ≡ turn.At i j) (y : Told) (says : Says i g s.layers y) where
-      pub done-bad : {x : Section3Read} {f : Refusal} → x ≡ record { verdict = verdict.Refused f start; section3 = s } → y ≡ told.Refused f → Section3Done text from x
+      pub done-bad : {x : Section3Read} {f : Refusal} → x ≡ record { verdict = Err (refused_with f start); section3 = s } → y ≡ told.Refused f → Section3Done text from x
       done-bad {f = f} p bad =
           hands p (λ takes more. reads-bad (part_in takes) more text c k s at follows cut is e {f = f} (says j s refl ∙ rw bad))
 

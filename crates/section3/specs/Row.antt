@@ -2,13 +2,14 @@
 -- each be missing". "222 before or inside it, 444, 555, a second 333 and any group inside 333 with none of these three shapes [stop reading]; the three keep
 -- to refusal 6."
 -- Assumes nothing: these are definitions.
-use Rattle.std.specs.Prelude.{ℕ, ◌+◌, Bool, true, false, cond, not, ◌||◌, List, [], ◌∷◌, ◌++◌, map, take, drop, set, leb, ltb}
+use Rattle.std.specs.Prelude.{ℕ, ◌+◌, Bool, true, false, cond, not, ◌||◌, List, [], ◌∷◌, ◌++◌, map, take, drop, set, leb, ltb, Err, Ok, Result}
+use Rattle.text.specs.declared.kinds.Refusal.{Refusal}
 use Prim.Native.String.{String}
 use Rattle.figures.specs.Quote.{bytes}
 use Rattle.figures.specs.Figures.{every}
 use Rattle.text.specs.declared.kinds.Refusal.TheVariants as refusal
 use Rattle.shapes.specs.Pattern.{Pattern, has_pattern, has_any}
-use Rattle.places.specs.Engine.{Group, Read, Good, Bad, Place}
+use Rattle.places.specs.Engine.{Group, Place}
 use Rattle.places.specs.Parts.{Ends, Part}
 use Rattle.record.specs.declared.surface.Air.{Air}
 use Rattle.record.specs.declared.surface.BaseHeight.{BaseHeight}
@@ -89,12 +90,12 @@ abbrev pub add_layer : CloudLayer → CloudLayers → CloudLayers
 add_layer l ls = cond (ltb ls.count 4) (record { items = set ls.items ls.count l; count = ls.count + 1 }) ls
 
 -- the section with what a group says, or the group's refusal
-abbrev pub with_told : Told → Section3 → Read Section3
-with_told told.Nothing s = Good s
-with_told (told.Refused f) s = Bad f
-with_told (told.Maximum a) s = Good (set_maximum a s)
-with_told (told.Minimum a) s = Good (set_minimum a s)
-with_told (told.Layer l) s = Good (set_layers (add_layer l s.layers) s)
+abbrev pub with_told : Told → Section3 → Result Section3 Refusal
+with_told told.Nothing s = Ok s
+with_told (told.Refused f) s = Err f
+with_told (told.Maximum a) s = Ok (set_maximum a s)
+with_told (told.Minimum a) s = Ok (set_minimum a s)
+with_told (told.Layer l) s = Ok (set_layers (add_layer l s.layers) s)
 
 -- ---- what is written of the layers, and what they are read back as
 

@@ -1,6 +1,7 @@
 -- What the functions that read section 3 answer, in terms of its row.
 -- Assumes nothing: these are definitions.
-use Rattle.std.specs.Prelude.{ℕ, ◌≡◌, cond, List, length, ltb, eqb}
+use Rattle.std.specs.Prelude.{ℕ, ◌≡◌, cond, List, length, ltb, eqb, Err, Ok, Result}
+use Rattle.text.specs.declared.kinds.Refusal.{Refusal}
 use Rattle.figures.specs.Quote.{bytes}
 use Rattle.text.specs.declared.kinds.Refusal.TheVariants as refusal
 use Rattle.text.specs.Groups.{groups_from}
@@ -8,7 +9,7 @@ use Rattle.text.specs.Text.{tail_of}
 use Rattle.shapes.specs.Pattern.{has_pattern}
 use Rattle.places.specs.declared.kinds.Turn.{Turn}
 use Rattle.places.specs.declared.kinds.Turn.TheVariants as turn
-use Rattle.places.specs.Engine.{Group, Read, Good, Bad, place_at}
+use Rattle.places.specs.Engine.{Group, place_at}
 use Rattle.places.specs.Answer.{outcome_of}
 use Rattle.places.specs.Parts.{Further, part_from}
 use Rattle.record.specs.declared.surface.CloudLayers.{CloudLayers}
@@ -35,9 +36,9 @@ abbrev pub Says : ℕ → Group → CloudLayers → Told → Type 0
 Says i g ls x = (k : ℕ) (s : Section3) → s.layers ≡ ls → (place_at row i).read k g s ≡ with_told x s
 
 -- the section with what a group says; a refusal leaves it as it was
-abbrev pub or_else : Section3 → Read Section3 → Section3
-or_else s (Good x) = x
-or_else s (Bad f) = s
+abbrev pub or_else : Section3 → Result Section3 Refusal → Section3
+or_else s (Ok x) = x
+or_else s (Err f) = s
 
 abbrev pub told_onto : Told → Section3 → Section3
 told_onto x s = or_else s (with_told x s)

@@ -6,17 +6,16 @@ ghost use Rattle.synop_groups.specs.Classes.{class_height};
 ghost use Rattle.section3.specs.Row.{not_above, rises};
 
 use record::surface::{BaseHeight, CloudLayer};
-use scales::kinds::{Figure, Reading};
 use scales::layers;
 
 // A height by steps as it is read back; the last class is open above.
 fn steps_foot(metres: u32) -> u32
     ensures { result ≡ foot_of layer_steps metres }
 {
-    let Figure::Is(figure) = layers::steps_figure(metres) else {
+    let Some(figure) = layers::steps_figure(metres) else {
         return 21001;
     };
-    let Reading::Is(foot) = layers::steps_reading(figure) else {
+    let Some(foot) = layers::steps_reading(figure) else {
         return metres;
     };
     foot
@@ -26,10 +25,10 @@ fn steps_foot(metres: u32) -> u32
 fn bands_foot(metres: u32) -> u32
     ensures { result ≡ foot_of layer_bands metres }
 {
-    let Figure::Is(figure) = layers::bands_figure(metres) else {
+    let Some(figure) = layers::bands_figure(metres) else {
         return 2500;
     };
-    let Reading::Is(foot) = layers::bands_reading(figure) else {
+    let Some(foot) = layers::bands_reading(figure) else {
         return metres;
     };
     foot
@@ -70,15 +69,8 @@ pub fn may_follow(items: [CloudLayer; 4], count: usize, layer: CloudLayer) -> bo
 {
     let height = layer.height;
     let written = class_height(height);
-    let mut i = 0;
-    while (i < count) & (i < 4) {
-        let one = items[i];
-        let before = one.height;
-        if not_above(class_height(before), written) {
-            i += 1;
-        } else {
-            return false;
-        }
-    }
-    true
+    items
+        .iter()
+        .take(count)
+        .all(|one| not_above(class_height(one.height), written))
 }

@@ -6,45 +6,41 @@ ghost use Rattle.section3.specs.Write.{judge_each, judge_layers, judge_section3}
 use crate::heights::may_follow;
 use record::surface::{CloudLayers, Section3};
 use synop_groups_judge::judge::{judge_air, layer_fits};
-use text::judge::{and_then, judge};
-use text::kinds::Judged;
+use text::judge::judge;
+use text::kinds::Refusal;
 
 // The first n layers.
-fn judge_each(layers: CloudLayers, n: usize) -> Judged
+fn judge_each(layers: CloudLayers, n: usize) -> Result<(), Refusal>
     requires { n ≤ 4 }
     ensures { result ≡ judge_each [] (take n layers.items) }
 {
     let items = layers.items;
-    let mut i = 0;
-    while i < n {
+    // By index: `may_follow` takes a copy of the array, and a loop over its items would lend the array meanwhile.
+    for i in 0..n {
         let layer = items[i];
-        let judged = judge(layer_fits(layer), may_follow(items, i, layer));
-        match judged {
-            Judged::Fine => i += 1,
-            Judged::Refused(refusal) => return Judged::Refused(refusal),
-        }
+        judge(layer_fits(layer), may_follow(items, i, layer))?;
     }
-    Judged::Fine
+    Ok(())
 }
 
-fn judge_layers(layers: CloudLayers) -> Judged
+#[tactic(auto, unfolding(crate::specs::Write::judge_layers))]
+fn judge_layers(layers: CloudLayers) -> Result<(), Refusal>
     ensures { result ≡ judge_layers layers }
 {
     let n = layers.count;
     if n <= 4 {
-        let listed = judge(layers.is_blank_from(n), true);
-        and_then(listed, judge_each(layers, n))
+        judge(layers.is_blank_from(n), true)?;
+        judge_each(layers, n)
     } else {
         judge(false, true)
     }
 }
 
-pub fn judge_section3(s: Section3) -> Judged
+#[tactic(auto, unfolding(crate::specs::Write::judge_section3))]
+pub fn judge_section3(s: Section3) -> Result<(), Refusal>
     ensures { result ≡ judge_section3 s }
 {
-    let maximum = s.maximum;
-    let minimum = s.minimum;
-    let layers = s.layers;
-    let lower = and_then(judge_air(minimum), judge_layers(layers));
-    and_then(judge_air(maximum), lower)
+    judge_air(s.maximum)?;
+    judge_air(s.minimum)?;
+    judge_layers(s.layers)
 }

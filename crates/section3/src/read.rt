@@ -14,7 +14,7 @@ use record::surface::{CloudLayer, CloudLayers, Section3};
 use shapes::has_pattern;
 use synop_groups::kinds::Said;
 use synop_groups::read;
-use text::kinds::{Cut, Refusal, Verdict};
+use text::kinds::{Cut, Refusal, Refused};
 
 // What a group says, as section 3 takes it: a temperature is the minimum or the maximum.
 fn told_by(lowest: bool, said: Said) -> Told
@@ -113,13 +113,13 @@ fn with_told(told: Told, section3: Section3) -> Section3
     s
 }
 
-fn end_section(verdict: Verdict, section3: Section3) -> Section3Read
+fn end_section(verdict: Result<usize, Refused>, section3: Section3) -> Section3Read
     ensures { result ≡ record { verdict = verdict; section3 = section3 } }
 {
     Section3Read { verdict, section3 }
 }
 
-// The groups from a position of the text on. The section is the loop's own.
+// The groups from a position of the text on, by position: where reading stops is the answer, so an iterator over groups would not do. The section is the loop's own.
 pub fn read_section3(text: &[u8], from: usize) -> Section3Read
     ensures { Section3Done text.now from result }
 {
@@ -134,10 +134,10 @@ pub fn read_section3(text: &[u8], from: usize) -> Section3Read
         let g = text::part(text, start, end);
         let turn = decide(place, count, g);
         match turn {
-            Turn::Halt => return end_section(Verdict::Accepted { rest: start }, section3),
+            Turn::Halt => return end_section(Ok(start), section3),
             Turn::Refused(refusal) => {
                 let place = start;
-                return end_section(Verdict::Refused { refusal, place }, section3);
+                return end_section(Err(Refused { refusal, place }), section3);
             }
             Turn::At {
                 place: there,
@@ -146,7 +146,7 @@ pub fn read_section3(text: &[u8], from: usize) -> Section3Read
                 let told = say_at(there, section3.layers, g);
                 if let Told::Refused(refusal) = told {
                     let place = start;
-                    return end_section(Verdict::Refused { refusal, place }, section3);
+                    return end_section(Err(Refused { refusal, place }), section3);
                 }
                 section3 = with_told(told, section3);
                 place = there;

@@ -1,6 +1,6 @@
 // How section 3 is written over a lent buffer: 333 where something follows it, and each group with what parts it from the group before it. Every function
 // answers the position after its text. What a buffer has no room for is not written, so that a caller may judge the room afterwards.
-ghost use Rattle.std.specs.Prelude.{◌≡◌, map, min, take};
+ghost use Rattle.std.specs.Prelude.{◌≡◌, map, take};
 ghost use Rattle.figures.specs.Put.{Put};
 ghost use Rattle.text.specs.Groups.{written};
 ghost use Rattle.synop_groups.specs.Shows.{show_layer};
@@ -10,22 +10,14 @@ use record::surface::{CloudLayer, Section3};
 use synop_groups_write::write::{put_air, put_layer, put_minimum};
 use text::write::put_if;
 
-fn at_most_four(count: usize) -> usize
-    ensures { result ≡ min count 4 }
-{
-    if count <= 4 { count } else { 4 }
-}
-
 // The first `count` slots; all where the count is too large.
+// A loop for each kind of item: `text` cannot have a trait that the items of `record` take up here, and what a closure writes into the buffer is not known after it.
 fn put_layers(out: &mut [u8], at: usize, items: [CloudLayer; 4], count: usize) -> usize
     ensures { Put out.old at (written at (map show_layer (take count items))) result out.new }
 {
-    let end = at_most_four(count);
     let mut next = at;
-    let mut i = 0;
-    while i < end {
-        next = put_layer(out, next, items[i]);
-        i += 1;
+    for l in items.iter().take(count) {
+        next = put_layer(out, next, *l);
     }
     next
 }
@@ -40,7 +32,7 @@ fn is_silent(s: Section3) -> bool
     let lowest = minimum.temperature;
     let layers = s.layers;
     let count = layers.count;
-    highest.is_missing() & lowest.is_missing() & (count == 0)
+    highest.is_none() & lowest.is_none() & (count == 0)
 }
 
 pub fn put_section3(out: &mut [u8], at: usize, s: Section3) -> usize

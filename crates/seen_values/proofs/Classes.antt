@@ -2,30 +2,24 @@
 -- limits; that it finds the classes of each scale, by a test that is computed over the whole scale; and that the values of the class are exactly those that
 -- come back as its reading.
 -- Assumes nothing.
+use Rattle.std.specs.Prelude.{None, Option, Some}
 use mathlib.Core.Path.{◌≡◌, refl, sym, ap, ◌∙◌}
 use mathlib.Core.Bool.{Bool, true, false, cond, ◌&&◌, and-eq-true_iff, false≢true}
 use mathlib.Core.List.{List, [], ◌∷◌}
-use mathlib.Core.Logic.{◌⊎◌, ⊎_elim}
-use Prim.Native.Nat.{ℕ, zero, suc, ◌+◌, ◌-◌, ◌≤◌, ◌<◌}
+use mathlib.Core.Logic.{⊎_elim}
+use Prim.Native.Nat.{ℕ, ◌+◌, ◌-◌, ◌≤◌, ◌<◌, min}
 use native.Mathlib.Omega.{arith}
 use native.Mathlib.Numerals.{add-one}
 use lib.Dec.{ltb, eqb}
 use lib.ListN.{length, drop, get_or, drop_of_length-le}
 use lib.Seq.{drop-cons}
-use borrow.Author.Tests.{lt-ltb, le-leb, lt-leb, leb-true, eqb-true, ne_eqb}
+use borrow.Author.Tests.{le-leb, lt-leb, eqb-true, ne_eqb}
 use Rattle.figures.proofs.Impossible.{impossible}
-use Rattle.figures.specs.Figures.{every}
 use Rattle.scales.specs.Scale.{Class, Scale, Length, class_in, length_in, length_of, figure_of, foot_of, rising, run}
 use Rattle.scales.specs.Metres.{metres_figure, metres_reading, range_figure, range_reading, land, sea, base, visibility, runway, cloud}
 use Rattle.scales.specs.Depth.{depth}
 use Rattle.scales.specs.Layers.{raised, layer_steps, layer_bands}
-use Rattle.scales.specs.declared.kinds.Figure.{Figure}
-use Rattle.scales.specs.declared.kinds.Figure.TheVariants as figure
-use Rattle.scales.specs.declared.kinds.Reading.{Reading}
-use Rattle.scales.specs.declared.kinds.Reading.TheVariants as reading
 use Rattle.scales.specs.declared.kinds.Range.{Range}
-use Rattle.scales.specs.declared.kinds.RangeFigure.{RangeFigure}
-use Rattle.scales.specs.declared.kinds.RangeFigure.TheVariants as written
 use Rattle.scales.proofs.Laws.{Lawful, reached}
 use Rattle.scales.proofs.Runs.{under, onto, rises}
 use Rattle.scales.proofs.LayersLaws.{class-raised, length-raised}
@@ -33,7 +27,7 @@ use Rattle.scales.proofs.Answers.{figure-told, range-told, metres-read}
 use Rattle.scales.proofs.MetresLaws.{runway-laws}
 use Rattle.scales.proofs.MetresRounds.{MetresRounds, runway-rounds}
 use Rattle.seen_values.specs.Seen.{from_foot, seen_on}
-use Rattle.seen_values.specs.Steps.{if_foot, class_by, is_up_to99999}
+use Rattle.seen_values.specs.Steps.{if_foot, class_by}
 use Rattle.seen_values.specs.declared.kinds.Seen.{Seen}
 use Rattle.seen_values.specs.declared.kinds.Seen.TheVariants as seen
 
@@ -44,24 +38,16 @@ module _ (limits spans : List ℕ) (m i : ℕ) where
   unfolding class_by
   here h k = rw (add-one, drop-cons limits i 0 h, drop-cons spans i 0 k)
 
-  pub over : (ltb i (length limits) && ltb i (length spans)) ≡ false → class_by (drop i limits) (drop i spans) m ≡ seen.From m
+  pub over : min (length limits) (length spans) ≤ i → class_by (drop i limits) (drop i spans) m ≡ seen.From m
   over e =
       ⊎_elim
       (λ h. rw (drop_of_length-le limits {i = i} h) (unfold class_by in refl))
-      (λ k. ⊎_elim (λ h. rw (drop_of_length-le spans {i = i} h) (no_span (drop i limits))) (λ h. absurd (false≢true (sym e ∙ both k h))) (reached (length spans) i))
+      (λ k. rw (drop_of_length-le spans {i = i} (omega arith)) (no_span (drop i limits)))
       (reached (length limits) i)
     where
       no_span : (ls : List ℕ) → class_by ls [] m ≡ seen.From m
       no_span [] = unfold class_by in refl
       no_span (l ∷ ls) = unfold class_by in refl
-
-      both : i < length limits → i < length spans → (ltb i (length limits) && ltb i (length spans)) ≡ true
-      both k h = rw (lt-ltb i (length limits) k, lt-ltb i (length spans) h)
-
-pub low-at : (xs : List ℕ) (i : ℕ) → every is_up_to99999 xs ≡ true → get_or xs i 0 ≤ 99999
-low-at [] i e = omega arith
-low-at (x ∷ xs) zero e = leb-true x 99999 ((and-eq-true_iff (is_up_to99999 x) (every is_up_to99999 xs)).0 e).0
-low-at (x ∷ xs) (suc i) e = low-at xs i ((and-eq-true_iff (is_up_to99999 x) (every is_up_to99999 xs)).0 e).1
 
 -- ---- the class of each foot, by a test over the whole scale
 abbrev pub is_between : Seen → ℕ → ℕ → Bool
@@ -112,7 +98,7 @@ module _ {F : Type 0} (of : ℕ → Seen) where
 -- ---- the code's answers
 module _ {F : Type 0} {same : F → F → Bool} {s : Scale F} (laws : Lawful same s) (of : ℕ → Seen) (t : follows of s.lowest s.above ≡ true) (m : ℕ) where
   -- the reading of its own figure is the foot of its class
-  foot-seen : if_foot m (reading.Is (foot_of s m)) (of m) ≡ seen_on s m
+  foot-seen : if_foot m (Some (foot_of s m)) (of m) ≡ seen_on s m
   unfolding seen_on
   foot-seen = go (eqb (foot_of s m) m) refl
     where
@@ -126,32 +112,32 @@ module _ {F : Type 0} {same : F → F → Bool} {s : Scale F} (laws : Lawful sam
   none_seen n = rw (ne_eqb (foot_of s m) m n)
 
 -- a scale with whole numbers for figures, its limits and its spans
-module _ (s : Scale ℕ) (laws : Lawful eqb s) (rounds : MetresRounds s) (limits spans : List ℕ) (t : follows (class_by limits spans) s.lowest s.above ≡ true) (m : ℕ) {w : Figure} (is : w ≡ metres_figure s m) where
-  pub by-figure : {own : Reading} {class : Seen} {f : ℕ} → w ≡ figure.Is f → own ≡ metres_reading s f → class ≡ class_by limits spans m → if_foot m own class ≡ seen_on s m
+module _ (s : Scale ℕ) (laws : Lawful eqb s) (rounds : MetresRounds s) (limits spans : List ℕ) (t : follows (class_by limits spans) s.lowest s.above ≡ true) (m : ℕ) {w : Option ℕ} (is : w ≡ metres_figure s m) where
+  pub by-figure : {own : Option ℕ} {class : Seen} {f : ℕ} → w ≡ Some f → own ≡ metres_reading s f → class ≡ class_by limits spans m → if_foot m own class ≡ seen_on s m
   by-figure e o c =
       let f = figure-told s m (sym is ∙ e) in
       rw (o, c, f, metres-read laws m) (foot-seen laws (class_by limits spans) t m)
 
-  pub by-none : w ≡ figure.OutOfRange → seen.Nothing ≡ seen_on s m
+  pub by-none : w ≡ None → seen.Nothing ≡ seen_on s m
   by-none e =
       none_seen laws (class_by limits spans) t m
-      (λ g. let o : metres_figure s m ≡ figure.Is (figure_of s m) = rounds.own (figure_of s m) m (metres-read laws m ∙ ap reading.Is g) in impossible (cc))
+      (λ g. let o : metres_figure s m ≡ Some (figure_of s m) = rounds.own (figure_of s m) m (metres-read laws m ∙ ap Some g) in impossible (cc))
 
 -- the same of runway ranges
-range-read : (m : ℕ) → range_reading (figure_of runway m) ≡ reading.Is (foot_of runway m)
+range-read : (m : ℕ) → range_reading (figure_of runway m) ≡ Some (foot_of runway m)
 unfolding range_reading
 range-read m = rw (runway-laws.reads-back m)
 
-module _ (limits spans : List ℕ) (t : follows (class_by limits spans) runway.lowest runway.above ≡ true) (m : ℕ) {w : RangeFigure} (is : w ≡ range_figure m) where
-  pub by-range : {own : Reading} {class : Seen} {f : Range} → w ≡ written.Is f → own ≡ range_reading f → class ≡ class_by limits spans m → if_foot m own class ≡ seen_on runway m
+module _ (limits spans : List ℕ) (t : follows (class_by limits spans) runway.lowest runway.above ≡ true) (m : ℕ) {w : Option Range} (is : w ≡ range_figure m) where
+  pub by-range : {own : Option ℕ} {class : Seen} {f : Range} → w ≡ Some f → own ≡ range_reading f → class ≡ class_by limits spans m → if_foot m own class ≡ seen_on runway m
   by-range e o c =
       let f = range-told m (sym is ∙ e) in
       rw (o, c, f, range-read m) (foot-seen runway-laws (class_by limits spans) t m)
 
-  pub by-no-range : w ≡ written.OutOfRange → seen.Nothing ≡ seen_on runway m
+  pub by-no-range : w ≡ None → seen.Nothing ≡ seen_on runway m
   by-no-range e =
       none_seen runway-laws (class_by limits spans) t m
-      (λ g. let o : range_figure m ≡ written.Is (figure_of runway m) = runway-rounds.own (figure_of runway m) m (range-read m ∙ ap reading.Is g) in impossible (cc))
+      (λ g. let o : range_figure m ≡ Some (figure_of runway m) = runway-rounds.own (figure_of runway m) m (range-read m ∙ ap Some g) in impossible (cc))
 
 -- ---- the limits and spans of each scale
 pub land-follows : follows (class_by (5000 ∷ 30000 ∷ 70000 ∷ 70001 ∷ []) (99 ∷ 999 ∷ 4999 ∷ 0 ∷ [])) land.lowest land.above ≡ true

@@ -1,5 +1,6 @@
 -- What may have been seen where an aerodrome temperature is read: exactly the tenths that come back so.
 -- Assumes nothing.
+use Rattle.std.specs.Prelude.{Some}
 use mathlib.Core.Path.{◌≡◌, refl, sym, ap, ◌∙◌}
 use mathlib.Core.Bool.{Bool, true, false, and-eq-true_iff, false≢true}
 use mathlib.Core.Logic.{◌↔◌, ⊎_elim}
@@ -11,7 +12,6 @@ use borrow.Author.Tests.{lt-ltb, le-ltb, le-leb, leb-true, eq-eqb, ne_eqb}
 use Rattle.figures.proofs.Impossible.{impossible}
 use Rattle.figures.specs.Signed.{negative}
 use Rattle.scales.specs.Degrees.{degrees_fit, rounded_degrees, minus_zero}
-use Rattle.scales.specs.declared.kinds.Tenths.TheVariants as tenths
 use Rattle.scales.proofs.Laws.{reached}
 use Rattle.scales.proofs.DegreesLaws.{rounded-warm, rounded-cool, rounded-cold, plus-read, minus-read}
 use Rattle.seen_values.specs.Rounded.{spread, no_degrees, of_degrees, seen_cold, seen_warm, seen_degrees, WithinDegrees}
@@ -59,7 +59,7 @@ module _ {t u : ℤ} (same : u ≡ t) {m : ℕ} (size : m ≡ nat_abs u) {b : Bo
 
 -- ---- the two ends as numbers
 abbrev ends : ℤ → ℤ → DegreesSeen
-ends least greatest = record { least = tenths.Is least; greatest = tenths.Is greatest }
+ends least greatest = record { least = Some least; greatest = Some greatest }
 
 warm-ends : (a b : ℕ) → a ≤ 999 → b ≤ 999 → spread 0 a b ≡ ends (pos a) (pos b)
 warm-ends a b h k = rw (← plus-read 0 a refl h, ← plus-read 0 b refl k)

@@ -1,14 +1,15 @@
 -- What may have been seen, on any scale of rising feet: the values of the class are exactly those that come back as its reading.
 -- Assumes nothing.
+use Rattle.std.specs.Prelude.{Some}
 use mathlib.Core.Path.{◌≡◌, refl, sym, ap, ◌∙◌}
 use mathlib.Core.Bool.{Bool, true, false, cond}
 use mathlib.Core.Logic.Iff
 use mathlib.Core.Logic.{◌↔◌}
-use Prim.Native.Nat.{ℕ, ◌+◌, ◌-◌, ◌<◌}
+use Prim.Native.Nat.{ℕ, ◌+◌, ◌<◌}
 use native.Mathlib.Omega.{arith}
 use lib.Dec.{eqb}
 use borrow.Author.Tests.{eqb-true, eqb-false}
-use Rattle.scales.specs.Scale.{Length, Of, Open, Scale, Foot, length_of, figure_of, foot_of, read_of}
+use Rattle.scales.specs.Scale.{Length, Of, Open, Scale, length_of, figure_of, foot_of, read_of}
 use Rattle.scales.proofs.Laws.{Lawful}
 use Rattle.scales.proofs.Alike.{FromFoot, alike}
 use Rattle.seen_values.specs.Seen.{Within, from_foot, seen_on}
@@ -18,9 +19,9 @@ module _ {F : Type 0} {same : F → F → Bool} {s : Scale F} (laws : Lawful sam
   -- a reading is read as itself
   foot-again : (v : ℕ) → foot_of s (foot_of s v) ≡ foot_of s v
   foot-again v =
-      let a : read_of same s (figure_of s (foot_of s v)) ≡ Foot (foot_of s (foot_of s v)) = laws.reads-back (foot_of s v) in
-      let b : read_of same s (figure_of s v) ≡ Foot (foot_of s v) = laws.reads-back v in
-      let c : Foot (foot_of s (foot_of s v)) ≡ Foot (foot_of s v) = sym a ∙ ap (read_of same s) (laws.again v) ∙ b in
+      let a : read_of same s (figure_of s (foot_of s v)) ≡ Some (foot_of s (foot_of s v)) = laws.reads-back (foot_of s v) in
+      let b : read_of same s (figure_of s v) ≡ Some (foot_of s v) = laws.reads-back v in
+      let c : Some (foot_of s (foot_of s v)) ≡ Some (foot_of s v) = sym a ∙ ap (read_of same s) (laws.again v) ∙ b in
       cc
 
   -- a class from its foot up to its length, or up to its greatest value

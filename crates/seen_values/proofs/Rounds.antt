@@ -1,5 +1,6 @@
 -- What may have been seen where Q, rain or a direction is read: exactly the values that come back so.
 -- Assumes nothing.
+use Rattle.std.specs.Prelude.{None, Some}
 use mathlib.Core.Path.{◌≡◌, refl, sym, ap, ◌∙◌}
 use mathlib.Core.Bool.{true, false, and-eq-true_iff}
 use mathlib.Core.Logic.{◌↔◌, ◌⊎◌, inl, inr, ⊎_elim}
@@ -14,10 +15,9 @@ use Rattle.scales.specs.declared.kinds.Rain.TheVariants as rain
 use Rattle.scales.proofs.Laws.{reached}
 use Rattle.scales.proofs.RainLaws.{rain-exact, rain-most}
 use Rattle.seen_values.specs.Seen.{Within}
-use Rattle.seen_values.specs.Rounded.{seen_pressure, seen_tenths, seen_rain, WithinRain, seen_direction, WithinArc}
+use Rattle.seen_values.specs.Rounded.{seen_pressure, seen_tenths, seen_rain, WithinRain, seen_direction, WithinArc, arc_of}
 use Rattle.seen_values.specs.declared.kinds.Seen.{Seen}
 use Rattle.seen_values.specs.declared.kinds.Seen.TheVariants as seen
-use Rattle.seen_values.specs.declared.kinds.Arc.TheVariants as arc
 
 -- two numbers are one or not
 pub one-or-not : (a b : ℕ) → (a ≡ b) ⊎ (a ≡ b → ⊥)
@@ -51,15 +51,15 @@ pressure-seen m v h =
 
 -- ---- a direction
 module _ (d : ℕ) where
-  pub direction-tens : d ≤ 359 → d % 10 ≡ 0 → arc.Between ((d + 355) % 360) (d + 4) ≡ seen_direction d
+  pub direction-tens : d ≤ 359 → d % 10 ≡ 0 → Some (arc_of ((d + 355) % 360) (d + 4)) ≡ seen_direction d
   unfolding seen_direction
   direction-tens h e = rw (le-ltb 359 d h, eq-eqb (d % 10) 0 e)
 
-  pub direction-part : d ≤ 359 → (d % 10 ≡ 0 → ⊥) → arc.Nothing ≡ seen_direction d
+  pub direction-part : d ≤ 359 → (d % 10 ≡ 0 → ⊥) → None ≡ seen_direction d
   unfolding seen_direction
   direction-part h n = rw (le-ltb 359 d h, ne_eqb (d % 10) 0 n)
 
-  pub direction-out : 359 < d → arc.Nothing ≡ seen_direction d
+  pub direction-out : 359 < d → None ≡ seen_direction d
   unfolding seen_direction
   direction-out h = rw (lt-ltb 359 d h)
 

@@ -1,13 +1,11 @@
 -- What may have been seen where Q, rain, a direction or an aerodrome temperature is read.
 -- Assumes nothing: these are definitions.
-use Rattle.std.specs.Prelude.{ℕ, ◌+◌, ◌-◌, ◌%◌, ◌≤◌, ◌≡◌, true, cond, ltb, eqb, ℤ, nat_abs}
+use Rattle.std.specs.Prelude.{ℕ, ◌+◌, ◌-◌, ◌%◌, ◌≤◌, ◌≡◌, true, cond, ltb, eqb, ℤ, nat_abs, None, Option, Some}
 use Rattle.std.specs.Int.Signed.{le_z}
 use Rattle.figures.specs.Signed.{negative}
 use Rattle.scales.specs.Degrees.{signed_reading}
 use Rattle.scales.specs.declared.kinds.Rain.{Rain}
 use Rattle.scales.specs.declared.kinds.Rain.TheVariants as rain
-use Rattle.scales.specs.declared.kinds.Tenths.{Tenths}
-use Rattle.scales.specs.declared.kinds.Tenths.TheVariants as tenths
 use Rattle.seen_values.specs.Seen.{Within}
 use Rattle.seen_values.specs.declared.kinds.Seen.{Seen}
 use Rattle.seen_values.specs.declared.kinds.Seen.TheVariants as seen
@@ -15,7 +13,6 @@ use Rattle.seen_values.specs.declared.kinds.DegreesSeen.{DegreesSeen}
 use Rattle.seen_values.specs.declared.kinds.RainSeen.{RainSeen}
 use Rattle.seen_values.specs.declared.kinds.RainSeen.TheVariants as amount
 use Rattle.seen_values.specs.declared.kinds.Arc.{Arc}
-use Rattle.seen_values.specs.declared.kinds.Arc.TheVariants as arc
 
 -- ---- Q, "rounded down to a whole hPa": ten tenths from a whole hPa on
 unfoldable pub seen_pressure : ℕ → Seen
@@ -40,14 +37,17 @@ WithinRain amount.Trace r = r ≡ rain.Trace
 WithinRain (amount.Tenths s) rain.Trace = ⊥
 WithinRain (amount.Tenths s) (rain.Tenths t) = Within s t
 
+abbrev pub arc_of : ℕ → ℕ → Arc
+arc_of first last = record { first = first; last = last }
+
 -- ---- directions, "to tens, halves up": five degrees before to four after, on the circle
-unfoldable pub seen_direction : ℕ → Arc
-seen_direction d = cond (ltb 359 d) arc.Nothing (cond (eqb (d % 10) 0) (arc.Between ((d + 355) % 360) (d + 4)) arc.Nothing)
+unfoldable pub seen_direction : ℕ → Option Arc
+seen_direction d = cond (ltb 359 d) None (cond (eqb (d % 10) 0) (Some (arc_of ((d + 355) % 360) (d + 4))) None)
 
 -- no further clockwise from the first than the last is
-abbrev pub WithinArc : Arc → ℕ → Type 0
-WithinArc (arc.Between first last) d = (d + 360 - first) % 360 ≤ (last + 360 - first) % 360
-WithinArc arc.Nothing d = ⊥
+abbrev pub WithinArc : Option Arc → ℕ → Type 0
+WithinArc (Some x) d = (d + 360 - x.first) % 360 ≤ (x.last + 360 - x.first) % 360
+WithinArc None d = ⊥
 
 -- ---- aerodrome temperature, by the sign and the magnitude of the reading and of both ends: "halves up"; "-0.5 to -0.1 is written M00, which is read as
 -- -0.3. Class 00 holds 0.0 to 0.4."
@@ -55,7 +55,7 @@ abbrev pub spread : ℕ → ℕ → ℕ → DegreesSeen
 spread sign least greatest = record { least = signed_reading sign least; greatest = signed_reading sign greatest }
 
 abbrev pub no_degrees : DegreesSeen
-no_degrees = record { least = tenths.Unused; greatest = tenths.Unused }
+no_degrees = record { least = None; greatest = None }
 
 -- around zero a class of its own; of the other numbers only whole degrees are readings
 unfoldable pub of_degrees : ℕ → DegreesSeen → DegreesSeen → ℕ → DegreesSeen
@@ -71,13 +71,13 @@ seen_warm m = of_degrees 0 (spread 0 0 4) (spread 0 (m - 5) (m + 4)) m
 unfoldable pub seen_degrees : ℤ → DegreesSeen
 seen_degrees t = cond (negative t) (seen_cold (nat_abs t)) (seen_warm (nat_abs t))
 
-abbrev pub AtLeast : Tenths → ℤ → Type 0
-AtLeast (tenths.Is least) t = le_z least t ≡ true
-AtLeast tenths.Unused t = ⊥
+abbrev pub AtLeast : Option ℤ → ℤ → Type 0
+AtLeast (Some least) t = le_z least t ≡ true
+AtLeast None t = ⊥
 
-abbrev pub AtMost : Tenths → ℤ → Type 0
-AtMost (tenths.Is greatest) t = le_z t greatest ≡ true
-AtMost tenths.Unused t = ⊥
+abbrev pub AtMost : Option ℤ → ℤ → Type 0
+AtMost (Some greatest) t = le_z t greatest ≡ true
+AtMost None t = ⊥
 
 abbrev pub WithinDegrees : DegreesSeen → ℤ → Type 0
 WithinDegrees s t = AtLeast s.least t × AtMost s.greatest t

@@ -5,7 +5,6 @@ ghost use Rattle.seen_values.specs.Rounded.{seen_degrees, seen_cold, seen_warm, 
 use crate::kinds::DegreesSeen;
 use figures::signed;
 use scales::degrees::signed_reading;
-use scales::kinds::Tenths;
 
 // From one magnitude to the other, both with the sign's figure.
 fn spread(sign: u32, least: u32, greatest: u32) -> DegreesSeen
@@ -21,8 +20,8 @@ fn nothing() -> DegreesSeen
     ensures { result ≡ no_degrees }
 {
     DegreesSeen {
-        least: Tenths::Unused,
-        greatest: Tenths::Unused,
+        least: None,
+        greatest: None,
     }
 }
 

@@ -4,17 +4,17 @@ ghost use Rattle.seen_values.specs.Rounded.{seen_direction};
 
 use crate::kinds::Arc;
 
-pub fn direction_seen(degrees: u32) -> Arc
+pub fn direction_seen(degrees: u32) -> Option<Arc>
     ensures { result ≡ seen_direction degrees }
 {
     if 359 < degrees {
-        Arc::Nothing
+        None
     } else if degrees % 10 == 0 {
-        Arc::Between {
+        Some(Arc {
             first: (degrees + 355) % 360,
             last: degrees + 4,
-        }
+        })
     } else {
-        Arc::Nothing
+        None
     }
 }

@@ -1,5 +1,4 @@
 // The values that are read as one reading. What no value is read as stems from nothing.
-use scales::kinds::Tenths;
 
 // In metres, in millimetres of a deposit, or in tenths of hPa or mm: from the least to the greatest, or from the least on where the class is open above.
 #[derive(Clone, Copy)]
@@ -12,8 +11,8 @@ pub enum Seen {
 // In tenths of a degree; both unused where there is nothing.
 #[derive(Clone, Copy)]
 pub struct DegreesSeen {
-    pub least: Tenths,
-    pub greatest: Tenths,
+    pub least: Option<i32>,
+    pub greatest: Option<i32>,
 }
 
 // Of rain: a trace, or tenths of a millimetre.
@@ -25,7 +24,7 @@ pub enum RainSeen {
 
 // On the circle: from the first direction clockwise to the last.
 #[derive(Clone, Copy)]
-pub enum Arc {
-    Between { first: u32, last: u32 },
-    Nothing,
+pub struct Arc {
+    pub first: u32,
+    pub last: u32,
 }

@@ -8,7 +8,6 @@ ghost use Rattle.seen_values.specs.Seen.{seen_on};
 ghost use Rattle.seen_values.specs.Steps.{if_foot, class_by, is_up_to99999};
 
 use crate::kinds::Seen;
-use scales::kinds::{Figure, RangeFigure, Reading};
 use scales::{depth, layers, metres};
 
 // The class that begins at a foot: with a foot below one of the limits, and not below those before it, a class goes up to the span above its foot;
@@ -18,26 +17,24 @@ fn class_by(foot: u32, limits: &[u32], spans: &[u32]) -> Seen
     requires spans_value { every is_up_to99999 spans.now ≡ true }
     ensures { result ≡ class_by limits.now spans.now foot }
 {
-    let mut i = 0;
-    while (i < limits.len()) & (i < spans.len()) {
-        if foot < limits[i] {
+    for (limit, span) in limits.iter().zip(spans) {
+        if foot < *limit {
             return Seen::Between {
                 least: foot,
-                greatest: foot + spans[i],
+                greatest: foot + *span,
             };
         }
-        i += 1;
     }
     Seen::From { least: foot }
 }
 
 // A class, where the number is its foot: what its own figure is read as.
-fn if_foot(metres: u32, own: Reading, class: Seen) -> Seen
+fn if_foot(metres: u32, own: Option<u32>, class: Seen) -> Seen
     ensures { result ≡ if_foot metres own class }
 {
     match own {
-        Reading::Is(foot) => { if foot == metres { class } else { Seen::Nothing } }
-        Reading::Unused => Seen::Nothing,
+        Some(foot) => { if foot == metres { class } else { Seen::Nothing } }
+        None => Seen::Nothing,
     }
 }
 
@@ -48,8 +45,8 @@ pub fn land_seen(metres: u32) -> Seen
 {
     let class = class_by(metres, &[5000, 30000, 70000, 70001], &[99, 999, 4999, 0]);
     match metres::land_figure(metres) {
-        Figure::Is(figure) => if_foot(metres, metres::land_reading(figure), class),
-        Figure::OutOfRange => Seen::Nothing,
+        Some(figure) => if_foot(metres, metres::land_reading(figure), class),
+        None => Seen::Nothing,
     }
 }
 
@@ -64,8 +61,8 @@ pub fn sea_seen(metres: u32) -> Seen
         &[49, 149, 299, 499, 999, 1999, 5999, 9999, 29999],
     );
     match metres::sea_figure(metres) {
-        Figure::Is(figure) => if_foot(metres, metres::sea_reading(figure), class),
-        Figure::OutOfRange => Seen::Nothing,
+        Some(figure) => if_foot(metres, metres::sea_reading(figure), class),
+        None => Seen::Nothing,
     }
 }
 
@@ -80,8 +77,8 @@ pub fn base_seen(metres: u32) -> Seen
         &[49, 49, 99, 99, 299, 399, 499, 499, 499],
     );
     match metres::base_figure(metres) {
-        Figure::Is(figure) => if_foot(metres, metres::base_reading(figure), class),
-        Figure::OutOfRange => Seen::Nothing,
+        Some(figure) => if_foot(metres, metres::base_reading(figure), class),
+        None => Seen::Nothing,
     }
 }
 
@@ -92,8 +89,8 @@ pub fn visibility_seen(metres: u32) -> Seen
 {
     let class = class_by(metres, &[800, 5000, 10000], &[49, 99, 999]);
     match metres::visibility_figure(metres) {
-        Figure::Is(figure) => if_foot(metres, metres::visibility_reading(figure), class),
-        Figure::OutOfRange => Seen::Nothing,
+        Some(figure) => if_foot(metres, metres::visibility_reading(figure), class),
+        None => Seen::Nothing,
     }
 }
 
@@ -104,8 +101,8 @@ pub fn runway_seen(metres: u32) -> Seen
 {
     let class = class_by(metres, &[50, 400, 800, 2000, 2001], &[49, 24, 49, 99, 0]);
     match metres::runway_figure(metres) {
-        RangeFigure::Is(figure) => if_foot(metres, metres::runway_reading(figure), class),
-        RangeFigure::OutOfRange => Seen::Nothing,
+        Some(figure) => if_foot(metres, metres::runway_reading(figure), class),
+        None => Seen::Nothing,
     }
 }
 
@@ -116,8 +113,8 @@ pub fn cloud_seen(metres: u32) -> Seen
 {
     let class = class_by(metres, &[3000, 30000], &[29, 299]);
     match metres::cloud_figure(metres) {
-        Figure::Is(figure) => if_foot(metres, metres::cloud_reading(figure), class),
-        Figure::OutOfRange => Seen::Nothing,
+        Some(figure) => if_foot(metres, metres::cloud_reading(figure), class),
+        None => Seen::Nothing,
     }
 }
 
@@ -128,8 +125,8 @@ pub fn depth_seen(millimetres: u32) -> Seen
 {
     let class = class_by(millimetres, &[90, 100, 400], &[0, 9, 49]);
     match depth::depth_figure(millimetres) {
-        Figure::Is(figure) => if_foot(millimetres, depth::depth_reading(figure), class),
-        Figure::OutOfRange => Seen::Nothing,
+        Some(figure) => if_foot(millimetres, depth::depth_reading(figure), class),
+        None => Seen::Nothing,
     }
 }
 
@@ -144,8 +141,8 @@ pub fn steps_seen(metres: u32) -> Seen
         &[29, 299, 299, 1499, 0],
     );
     match layers::steps_figure(metres) {
-        Figure::Is(figure) => if_foot(metres, layers::steps_reading(figure), class),
-        Figure::OutOfRange => Seen::Nothing,
+        Some(figure) => if_foot(metres, layers::steps_reading(figure), class),
+        None => Seen::Nothing,
     }
 }
 

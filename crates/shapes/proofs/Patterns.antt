@@ -3,15 +3,16 @@
 use mathlib.Core.Path.{◌≡◌, refl, sym, ap, ◌∙◌}
 use mathlib.Core.Bool.{Bool, true, false, not, ◌&&◌, ◌||◌, and_assoc, and-false, and-eq-true_iff, false≢true}
 use mathlib.Core.List.{List, [], ◌∷◌, ◌++◌}
-use Prim.Native.Nat.{ℕ, zero, suc, ◌+◌, ◌≤◌, ◌<◌}
+use Prim.Native.Nat.{ℕ, suc, ◌+◌, ◌≤◌, ◌<◌}
 use native.Mathlib.Nat.{suc_inj}
 use native.Mathlib.Omega.{arith}
-use lib.ListN.{length, drop, get_or, replicate, drop_of_length-le}
-use lib.Dec.{leb, ltb, eqb, eqb-zero-suc, eqb-suc-suc}
-use borrow.Author.Tests.{le-leb, lt-leb, leb-true, ltb-true, ne_eqb, eqb-true, not-true}
+use lib.ListN.{length, drop, get_or, replicate}
+use lib.Dec.{leb, ltb, eqb}
+use borrow.Author.Tests.{le-leb, lt-leb, leb-true, ltb-true, ne_eqb, eq-eqb, eqb-true, not-true}
 use Rattle.figures.specs.declared.kinds.Field.{Field}
 use Rattle.figures.specs.declared.kinds.Field.TheVariants.{Number, Missing, Mixed, Other}
 use Rattle.figures.specs.Figures.{is_figure, is_slash, every, figures, slashes, field_text, Fits}
+use Rattle.std.proofs.lemmas.List.{drop_all, nil_from_length}
 use Rattle.figures.proofs.Fields.{next}
 use Rattle.figures.proofs.Figures.{length-figures, length-field, number-text, all-figures, all-slashes}
 use Rattle.shapes.specs.Pattern.{Pattern, low, high, fits, more, has_pattern, has_any, apart, clash, clash_each, all_apart}
@@ -40,38 +41,30 @@ neither false b e = (refl, not-true b e)
 
 -- ---- the steps of the test
 
--- only nothing fits nothing
-rest : (i : ℕ) (g : List ℕ) → i ≤ length g → has_pattern (drop i g) [] ≡ eqb i (length g)
-unfolding has_pattern
-rest zero [] h = refl
-rest zero (b ∷ g) h = sym (eqb-zero-suc (length g))
-rest (suc i) [] h = absurd (omega arith)
-rest (suc i) (b ∷ g) h = rest i g (omega arith) ∙ sym (eqb-suc-suc i (length g))
-
 star : (g ps : List ℕ) → has_pattern g (42 ∷ ps) ≡ true
 unfolding has_pattern
 star [] ps = refl
 star (b ∷ g) ps = refl
 
--- at character i of the pattern, where what is left fits just where the whole does: '*' takes all that is left, any other character a byte
-module _ (g : List ℕ) (p : Pattern) (i : ℕ) (inv : has_pattern (drop i g) (drop i p) ≡ has_pattern g p) where
-  at : i < length p → has_pattern (drop i g) (get_or p i 0 ∷ drop (i + 1) p) ≡ has_pattern g p
-  at h = rw (next p i h) at inv
+-- at character i of the pattern, where g is left of the group: '*' takes all that is left, any other character a byte
+module _ (g : List ℕ) (p : Pattern) (i : ℕ) (h : i < length p) where
+  pub on-star : get_or p i 0 ≡ 42 → has_pattern g (drop i p) ≡ true
+  on-star e = rw (next p i h, e) (star g (drop (i + 1) p))
 
-  pub on-star : i < length p → get_or p i 0 ≡ 42 → true ≡ has_pattern g p
-  on-star h e = rw (e, star (drop i g) (drop (i + 1) p)) at (at h)
-
-  pub on-spent : i < length p → (get_or p i 0 ≡ 42 → ⊥) → length g ≤ i → false ≡ has_pattern g p
+  pub on-spent : (get_or p i 0 ≡ 42 → ⊥) → length g ≡ 0 → has_pattern g (drop i p) ≡ false
   unfolding has_pattern
-  on-spent h n s = rw (drop_of_length-le g {i = i} s, ne_eqb (get_or p i 0) 42 n) at (at h)
+  on-spent n e = rw (next p i h, nil_from_length g e, ne_eqb (get_or p i 0) 42 n)
 
-  pub on-byte : i < length p → (get_or p i 0 ≡ 42 → ⊥) → i < length g
-      → (fits (get_or p i 0) (get_or g i 0) && has_pattern (drop (i + 1) g) (drop (i + 1) p)) ≡ has_pattern g p
+  pub on-byte : (get_or p i 0 ≡ 42 → ⊥) → {b : ℕ} {t : List ℕ} → g ≡ b ∷ t
+      → has_pattern g (drop i p) ≡ (fits (get_or p i 0) b && has_pattern t (drop (i + 1) p))
   unfolding has_pattern
-  on-byte h n k = rw (next g i k, ne_eqb (get_or p i 0) 42 n) at (at h)
+  on-byte n e = rw (next p i h, e, ne_eqb (get_or p i 0) 42 n)
 
-  pub on-end : length p ≤ i → i ≤ length g → eqb i (length g) ≡ has_pattern g p
-  on-end h k = sym (rest i g k) ∙ ap (has_pattern (drop i g)) (sym (drop_of_length-le p {i = i} h)) ∙ inv
+-- and at its end: only nothing fits nothing
+pub on-end : (g : List ℕ) (p : Pattern) (i : ℕ) → length p ≤ i → has_pattern g (drop i p) ≡ eqb (length g) 0
+unfolding has_pattern
+on-end [] p i h = rw (drop_all i p h) (sym (eq-eqb 0 0 refl))
+on-end (b ∷ g) p i h = rw (drop_all i p h) (sym (ne_eqb (suc (length g)) 0 (λ e. absurd (omega arith))))
 
 -- ---- pieces
 

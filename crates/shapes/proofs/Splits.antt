@@ -1,14 +1,21 @@
--- The laws of texts that are cut up: how many bytes at the front pass a test, and the pieces between marks.
+-- The laws of texts that are cut up, and the same in std's words: how many bytes at the front pass a test, and the pieces between marks.
 -- Assumes nothing.
 use mathlib.Core.Path.{◌≡◌, refl, ap}
 use mathlib.Core.Bool.{Bool, true, false, cond, not}
 use mathlib.Core.List.{List, [], ◌∷◌}
-use Prim.Native.Nat.{ℕ, zero, suc, ◌+◌, ◌-◌, ◌≤◌, ◌<◌}
+use Prim.Native.Nat.{ℕ, suc, ◌+◌, ◌-◌, ◌≤◌}
 use native.Mathlib.Omega.{arith}
-use lib.ListN.{length, take, drop, get_or, drop_of_length-le, length-drop}
-use lib.Seq.{drop-drop, take-length}
-use lib.Dec.{eqb}
-use Rattle.figures.proofs.Fields.{next}
+use lib.ListN.{length, take, drop, get_or, length-drop}
+use lib.Seq.{take-length}
+use lib.Dec.{ltb, eqb}
+use borrow.Author.Tests.{ltb-false}
+use denote.Ref.{Bor}
+use Rattle.std.proofs.Common.{Option, Some, None}
+use Rattle.std.specs.Option.{option_map, unwrap_or}
+use Rattle.std.specs.List.{prefix_len, position_or_len, slice_get, slice_split}
+use Rattle.std.proofs.lemmas.List.Sums.{prefix_len-le-length}
+use Rattle.std.proofs.lemmas.Option.{unwrap_or-slice_get}
+use Rattle.std.proofs.lemmas.List.Recursion.{same_from_clauses}
 use Rattle.shapes.specs.Shape.{leading, up_to, onto, split}
 
 -- ---- bytes at the front
@@ -22,93 +29,36 @@ lead-le t (b ∷ s) = go (t b) (lead-le t s)
     go true h = omega arith
     go false h = omega arith
 
--- where i bytes were passed
-module _ (t : ℕ → Bool) (s : List ℕ) (i : ℕ) (inv : leading t s ≡ i + leading t (drop i s)) where
-  pub lead-on : i < length s → t (get_or s i 0) ≡ true → leading t s ≡ (i + 1) + leading t (drop (i + 1) s)
-  unfolding leading
-  lead-on h e = let on = rw (next s i h, e) at inv in omega arith
-
-  pub lead-stop : i < length s → t (get_or s i 0) ≡ false → i ≡ leading t s
-  unfolding leading
-  lead-stop h e = let on = rw (next s i h, e) at inv in omega arith
-
-  pub lead-end : length s ≤ i → i ≡ leading t s
-  unfolding leading
-  lead-end h = let on = rw (drop_of_length-le s {i = i} h) at inv in omega arith
-
 -- all that is left from a place on
 pub all_from : (s : List ℕ) (i : ℕ) → take (length s - i) (drop i s) ≡ drop i s
 all_from s i = rw (← length-drop i s) (take-length (drop i s))
 
--- ---- pieces between marks
+-- ---- std's words for the same
 
-abbrev pub others : List (List ℕ) → List (List ℕ)
-others [] = []
-others (w ∷ ws) = ws
+pub leading-prefix_len : (t : ℕ → Bool) (s : List ℕ) → leading t s ≡ prefix_len t s
+unfolding leading
+leading-prefix_len t s =
+    same_from_clauses (leading t) (prefix_len t) (λ b n. cond (t b) (1 + n) 0) refl (λ b bs. ap (λ (n : ℕ). cond (t b) n 0) (omega arith)) (λ b bs. refl) s
 
--- the first piece, and the others
-pub split-first : (c : ℕ) (s : List ℕ) → split c s ≡ take (up_to c s) s ∷ others (split c s)
-unfolding leading split
-split-first c [] = refl
-split-first c (b ∷ s) = go (eqb b c) (split-first c s)
+pub split-slice_split : (c : ℕ) (s : List ℕ) → split c s ≡ slice_split (λ b. eqb b c) s
+unfolding split
+split-slice_split c s =
+    same_from_clauses (split c) (slice_split (λ b. eqb b c)) (λ b ws. cond (eqb b c) ([] ∷ ws) (onto b ws)) refl (λ b bs. refl) (λ b bs. refl) s
+
+-- what `position` and `split` answer, where there may be none
+
+pub up_to-position : (c : ℕ) (s : List ℕ) (r : Option ℕ)
+    → r ≡ cond (ltb (position_or_len (λ b. eqb b c) s) (length s)) (Some (position_or_len (λ b. eqb b c) s)) None
+    → unwrap_or r (length s) ≡ up_to c s
+up_to-position c s r e = rw (e, leading-prefix_len) (go (ltb (position_or_len (λ b. eqb b c) s) (length s)) refl)
   where
-    go : (x : Bool) → split c s ≡ take (up_to c s) s ∷ others (split c s)
-        → cond x ([] ∷ split c s) (onto b (split c s))
-        ≡ take (cond (not x) (suc (up_to c s)) 0) (b ∷ s) ∷ others (cond x ([] ∷ split c s) (onto b (split c s)))
-    go true ih = refl
-    go false ih = rw ih
+    go : (x : Bool) → ltb (position_or_len (λ b. eqb b c) s) (length s) ≡ x
+        → unwrap_or (cond x (Some (position_or_len (λ b. eqb b c) s)) None) (length s) ≡ position_or_len (λ b. eqb b c) s
+    go true f = refl
+    go false f = omega (arith, ltb-false _ _ f, prefix_len-le-length (λ b. not (eqb b c)) s)
 
--- the others are cut after the mark
-others-on : (c : ℕ) (s : List ℕ) → up_to c s < length s → others (split c s) ≡ split c (drop (suc (up_to c s)) s)
-unfolding leading split
-others-on c [] h = absurd (omega arith)
-others-on c (b ∷ s) h = go (eqb b c) (others-on c s) h
-  where
-    go : (x : Bool) → (up_to c s < length s → others (split c s) ≡ split c (drop (suc (up_to c s)) s))
-        → cond (not x) (suc (up_to c s)) 0 < suc (length s)
-        → others (cond x ([] ∷ split c s) (onto b (split c s))) ≡ split c (drop (suc (cond (not x) (suc (up_to c s)) 0)) (b ∷ s))
-    go true ih h = refl
-    go false ih h = rw (split-first c s) (ih (omega arith))
-
--- or there are none
-others-none : (c : ℕ) (s : List ℕ) → length s ≤ up_to c s → others (split c s) ≡ []
-unfolding leading split
-others-none c [] h = refl
-others-none c (b ∷ s) h = go (eqb b c) (others-none c s) h
-  where
-    go : (x : Bool) → (length s ≤ up_to c s → others (split c s) ≡ [])
-        → suc (length s) ≤ cond (not x) (suc (up_to c s)) 0 → others (cond x ([] ∷ split c s) (onto b (split c s))) ≡ []
-    go true ih h = absurd (omega arith)
-    go false ih h = rw (split-first c s) (ih (omega arith))
-
--- the same from a place on, where the first piece goes from `from` to `to`
-module _ (c : ℕ) (s : List ℕ) (from to : ℕ) (e : to ≡ from + up_to c (drop from s)) (low : from ≤ length s) where
-  pub piece-first : split c (drop from s) ≡ take (to - from) (drop from s) ∷ others (split c (drop from s))
-  piece-first = let width : to - from ≡ up_to c (drop from s) = omega arith in rw width (split-first c (drop from s))
-
-  pub piece-on : to < length s → others (split c (drop from s)) ≡ split c (drop (to + 1) s)
-  piece-on h =
-      let past : to + 1 ≡ from + suc (up_to c (drop from s)) = omega arith in
-      rw (past, ← drop-drop (suc (up_to c (drop from s))) from s) (others-on c (drop from s) (simp length-drop (omega arith)))
-
-  pub piece-none : length s ≤ to → others (split c (drop from s)) ≡ []
-  piece-none h = others-none c (drop from s) (simp length-drop (omega arith))
-
-later : (w : List ℕ) (ws : List (List ℕ)) (n : ℕ) → 0 < n → get_or (w ∷ ws) n [] ≡ get_or ws (n - 1) []
-later w ws zero h = absurd (omega arith)
-later w ws (suc n) h = ap (λ (k : ℕ). get_or ws k []) (omega arith)
-
--- the piece number n from there on
-module _ (c : ℕ) (s : List ℕ) (from to n : ℕ) (e : to ≡ from + up_to c (drop from s)) (low : from ≤ length s)
-    {r : List ℕ} (inv : get_or (split c (drop from s)) n [] ≡ r) where
-  at : get_or (take (to - from) (drop from s) ∷ others (split c (drop from s))) n [] ≡ r
-  at = rw (piece-first c s from to e low) at inv
-
-  pub piece-this : n ≡ 0 → take (to - from) (drop from s) ≡ r
-  piece-this h = rw h at at
-
-  pub piece-past : 0 < n → length s ≤ to → [] ≡ r
-  piece-past h end = rw (later _ _ n h, piece-none c s from to e low end) at at
-
-  pub piece-later : 0 < n → to < length s → get_or (split c (drop (to + 1) s)) (n - 1) [] ≡ r
-  piece-later h more = rw (later _ _ n h, piece-on c s from to e low more) at at
+pub piece-nth : (c : ℕ) (s : List ℕ) (n : ℕ) (r : Option (Bor (List ℕ))) (d : Bor (List ℕ))
+    → option_map (λ x. x.now) r ≡ slice_get (slice_split (λ b. eqb b c) s) n → d.now ≡ []
+    → (unwrap_or r d).now ≡ get_or (split c s) n []
+piece-nth c s n None d e h = rw (split-slice_split, ← unwrap_or-slice_get, ← e) h
+piece-nth c s n (Some x) d e h = rw (split-slice_split, ← unwrap_or-slice_get, ← e)

@@ -46,20 +46,18 @@ fn fits_at(p: u8, b: u8) -> bool
 pub fn has_pattern(g: &[u8], pattern: &[u8]) -> bool
     ensures { result ≡ has_pattern g.now pattern.now }
 {
-    let mut i = 0;
-    while i < pattern.len() {
-        let p = pattern[i];
+    let mut rest = g;
+    for &p in pattern {
         if p == b'*' {
             return true;
         }
-        if g.len() <= i {
+        let Some((&b, tail)) = rest.split_first() else {
+            return false;
+        };
+        if !fits_at(p, b) {
             return false;
         }
-        if fits_at(p, g[i]) {
-            i += 1;
-        } else {
-            return false;
-        }
+        rest = tail;
     }
-    i == g.len()
+    rest.is_empty()
 }

@@ -10,48 +10,21 @@ use figures::kinds::Field;
 fn up_to(s: &[u8], c: u8) -> usize
     ensures { (result ≡ up_to c s.now) × (result ≤ length s.now) }
 {
-    let mut i = 0;
-    while i < s.len() {
-        if s[i] == c {
-            return i;
-        }
-        i += 1;
-    }
-    i
+    s.iter().position(|&b| b == c).unwrap_or(s.len())
 }
 
 // How many '#' the pattern begins with.
 fn run_length(pattern: &[u8]) -> usize
     ensures { (result ≡ run_length pattern.now) × (result ≤ length pattern.now) }
 {
-    let mut i = 0;
-    while i < pattern.len() {
-        if pattern[i] == b'#' {
-            i += 1;
-        } else {
-            return i;
-        }
-    }
-    i
+    pattern.iter().take_while(|&&b| b == b'#').count()
 }
 
 // Alternative number `which` of the part; nothing where it has none.
 fn alternative(part: &[u8], which: usize) -> &[u8]
     ensures { result.now ≡ get_or (split 124 part.now) which [] }
 {
-    let mut from = 0;
-    let mut left = which;
-    loop {
-        let to = from + up_to(&part[from..], b'|');
-        if left == 0 {
-            return &part[from..to];
-        }
-        if to == part.len() {
-            return &part[to..to];
-        }
-        from = to + 1;
-        left -= 1;
-    }
+    part.split(|&b| b == b'|').nth(which).unwrap_or(&[])
 }
 
 // An alternative with its number field filled in, put over out from `at`.
@@ -71,19 +44,8 @@ pub fn put_shape(out: &mut [u8], at: usize, shape: &[u8], values: [Value; 8]) ->
     ensures { Put out.old at (print_of shape.now values) result out.new }
 {
     let mut next = at;
-    let mut from = 0;
-    let mut n = 0;
-    while n < 8 {
-        let to = from + up_to(&shape[from..], b' ');
-        let v = values[n];
-        let which = v.which;
-        let f = v.field;
-        next = put_filled(out, next, alternative(&shape[from..to], which), f);
-        if to == shape.len() {
-            return next;
-        }
-        from = to + 1;
-        n += 1;
+    for (part, v) in shape.split(|&b| b == b' ').zip(&values) {
+        next = put_filled(out, next, alternative(part, v.which), v.field);
     }
     next
 }

@@ -13,16 +13,15 @@ use figures::kinds::Field;
 fn begins_with(g: &[u8], pattern: &[u8]) -> bool
     ensures { result ≡ begins pattern.now g.now }
 {
-    let mut i = 0;
-    while i < pattern.len() {
-        if g.len() <= i {
+    let mut rest = g;
+    for &p in pattern {
+        let Some((&b, tail)) = rest.split_first() else {
+            return false;
+        };
+        if !crate::fits_at(p, b) {
             return false;
         }
-        if crate::fits_at(pattern[i], g[i]) {
-            i += 1;
-        } else {
-            return false;
-        }
+        rest = tail;
     }
     true
 }

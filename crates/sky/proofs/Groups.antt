@@ -1,6 +1,7 @@
 -- One sky group: what is printed of a layer has the shape of a layer and is read as the layer; what stands alone has one of its own patterns, not the
 -- shape of a layer, and is read as it was.
 -- Assumes nothing.
+use Rattle.std.specs.Prelude.{ℕ, Ok, Option}
 use native.Mathlib.Omega.{arith}
 use mathlib.Core.Path.{◌≡◌, refl, sym, ap, ◌∙◌}
 use mathlib.Core.Bool.{Bool, true, false, ◌||◌, or-true, or_assoc, false≢true}
@@ -16,8 +17,7 @@ use Rattle.shapes.specs.Pattern.{Pattern, low, high, fits, has_pattern, has_any,
 use Rattle.shapes.specs.Shape.{Part, leading, split, parts_of, field_width, FieldOf, Sayable, padded, unled, unled_each, clear, printable, sound, spellings, scan_of, has_shape}
 use Rattle.shapes.proofs.Patterns.{or_cases, or_right, pattern-append, field-pattern, excluded, all-excluded}
 use Rattle.shapes.proofs.Shapes.{scan-back, covered, not-spelled}
-use Rattle.places.specs.Engine.{Group, Good}
-use Rattle.record.specs.declared.values.Number.{Number}
+use Rattle.places.specs.Engine.{Group}
 use Rattle.record.specs.declared.aerodrome.Amount.{Amount}
 use Rattle.record.specs.declared.aerodrome.Amount.TheVariants as amount
 use Rattle.record.specs.declared.aerodrome.Convective.{Convective}
@@ -88,7 +88,7 @@ layer-parts : parts_of layer_shape ≡ amounts ∷ (bytes "###" ∷ []) ∷ clou
 unfolding parts_of split
 layer-parts = refl
 
-height-said : (h : Number) → Said (bytes "###" ∷ []) (numbered 0 (height_field h))
+height-said : (h : Option ℕ) → Said (bytes "###" ∷ []) (numbered 0 (height_field h))
 unfolding leading
 height-said h = (refl, height-fits h)
 
@@ -117,7 +117,7 @@ convective-back convective.Cumulonimbus = refl
 convective-back convective.ToweringCumulus = refl
 
 pub layer-back : (forecast : Bool) (l : Layer) → has_amount l.amount ≡ true → metres_fit forecast l.height ≡ true
-    → read_layer forecast (show_layer l) ≡ Good (class_layer l)
+    → read_layer forecast (show_layer l) ≡ Ok (class_layer l)
 unfolding read_layer
 layer-back forecast l e f =
     rw (layer-scanned l e, height-back forecast l.height f, amount-back l.amount e, convective-back l.convective)
@@ -128,24 +128,24 @@ layer-again l = rw (height-again l.height)
 
 -- ---- VVhhh
 
-abbrev pub vertical : Number → Group
+abbrev pub vertical : Option ℕ → Group
 vertical h = bytes "VV" ++ field_text 3 (height_field h)
 
 two-letters : has_pattern (bytes "VV") (bytes "VV") ≡ true
 unfolding low high fits has_pattern
 two-letters = refl
 
-vertical-shaped : (h : Number) → has_pattern (vertical h) (bytes "VV###") ≡ true
+vertical-shaped : (h : Option ℕ) → has_pattern (vertical h) (bytes "VV###") ≡ true
 vertical-shaped h =
     pattern-append (bytes "VV") (field_text 3 (height_field h)) (bytes "VV") (bytes "###") refl refl
     ∙ rw (two-letters, field-pattern 3 (height_field h) (omega arith) (height-fits h))
 
-pub vertical-alone : (h : Number) → has_any alone_shapes (vertical h) ≡ true
+pub vertical-alone : (h : Option ℕ) → has_any alone_shapes (vertical h) ≡ true
 unfolding has_any
 vertical-alone h = rw (vertical-shaped h, or-true, or-true, or-true)
 
-pub vertical-back : (forecast : Bool) (h : Number) → metres_fit forecast h ≡ true
-    → read_alone forecast (vertical h) ≡ Good (cover.Vertical (written_height h))
+pub vertical-back : (forecast : Bool) (h : Option ℕ) → metres_fit forecast h ≡ true
+    → read_alone forecast (vertical h) ≡ Ok (cover.Vertical (written_height h))
 unfolding read_alone low high clash
 vertical-back forecast h e =
     let at : field_at (vertical h) 2 3 ≡ height_field h = rw (append-nil (vertical h)) at (field_back (bytes "VV") [] 3 (height_field h) (omega arith) (omega arith) (height-fits h)) in

@@ -1,6 +1,5 @@
 -- The laws of the sky, for the proofs of several functions and for other crates.
 -- Assumes nothing.
-pub mod Readings
 pub mod Heights
 pub mod Judging
 pub mod Writings

@@ -1,11 +1,11 @@
 -- What the round trip promises of a sky, in document 01's words: each height comes back as the reading of its class, near its value and never above
 -- it, and all else as it was.
 -- Assumes nothing.
+use Rattle.std.specs.Prelude.{ℕ, Option}
 use mathlib.Core.Path.{◌≡◌, refl}
 use mathlib.Core.List.{List, [], ◌∷◌, map}
 use Rattle.scales.specs.Metres.{cloud}
 use Rattle.scales.proofs.MetresLaws.{cloud-laws}
-use Rattle.record.specs.declared.values.Number.{Number}
 use Rattle.record.specs.declared.aerodrome.Layer.{Layer}
 use Rattle.record.specs.declared.aerodrome.Cover.{Cover}
 use Rattle.record.specs.declared.aerodrome.Cover.TheVariants as cover
@@ -16,7 +16,7 @@ use Rattle.elements.specs.Sky.{written_height, class_layer, class_cover, class_s
 -- ---- how far off
 
 -- a height in metres and its reading
-pub height-read : (h : Number) → NumberDown cloud h (written_height h)
+pub height-read : (h : Option ℕ) → NumberDown cloud h (written_height h)
 height-read = number-down cloud-laws
 
 -- ---- the sky that is read back
@@ -35,7 +35,7 @@ pub data CoverBack : Cover → Cover → Type 0 where
   clear : CoverBack cover.Clear cover.Clear
   none-significant : CoverBack cover.NoneSignificant cover.NoneSignificant
   none-detected : CoverBack cover.NoneDetected cover.NoneDetected
-  vertical : {h k : Number} → NumberDown cloud h k → CoverBack (cover.Vertical h) (cover.Vertical k)
+  vertical : {h k : Option ℕ} → NumberDown cloud h k → CoverBack (cover.Vertical h) (cover.Vertical k)
 
 pub record SkyBack (s q : Sky) : Type 0 where
   pub cover : CoverBack s.cover q.cover

@@ -1,6 +1,8 @@
 -- A whole sky: what is written of a sky that the writer accepts has the shapes of sky groups, at most four, and is read back as the sky's class; the
 -- class is accepted and written as the same groups.
 -- Assumes nothing.
+use Rattle.std.specs.Prelude.{None, Ok, Option, Result, Some}
+use Rattle.text.specs.declared.kinds.Refusal.{Refusal}
 use Prim.Native.Nat.{ℕ, zero, suc, ◌+◌, ◌-◌, ◌≤◌, ◌<◌}
 use native.Mathlib.Omega.{arith}
 use mathlib.Core.Path.{◌≡◌, refl, sym, ap, ◌∙◌}
@@ -8,19 +10,16 @@ use mathlib.Core.Bool.{Bool, true, false, not, ◌&&◌, ◌||◌, or-false, or-
 use mathlib.Core.List.{List, [], ◌∷◌, ◌++◌, map, append-nil, map-append}
 use lib.ListN.{length, take, drop, replicate, length-append, length-take, length-drop, length-map, take-append-drop}
 use lib.Seq.{length-take-le, append_snoc, take-append_seam, set-append_seam}
-use lib.Dec.{leb, eqb}
-use borrow.Author.Tests.{leb-true, le-leb, eqb-true, lt-ltb}
+use lib.Dec.{leb}
+use borrow.Author.Tests.{leb-true, le-leb, lt-ltb}
 use Rattle.figures.specs.Quote.{bytes}
-use Rattle.text.specs.declared.kinds.Judged.TheVariants as judged
 use Rattle.text.specs.Judge.{judge}
 use Rattle.text.proofs.Judging.{fine, and-then}
 use Rattle.shapes.specs.Pattern.{low, high, fits, has_pattern, has_any}
 use Rattle.shapes.specs.Shape.{parts_of, spellings, has_shape}
 use Rattle.shapes.proofs.Patterns.{both, or_right}
-use Rattle.places.specs.Engine.{Group, Read, Good}
+use Rattle.places.specs.Engine.{Group}
 use Rattle.places.proofs.ReadBack.{All}
-use Rattle.record.specs.declared.values.Number.{Number}
-use Rattle.record.specs.declared.values.Number.TheVariants as number
 use Rattle.record.specs.declared.aerodrome.Layer.{Layer}
 use Rattle.record.specs.declared.aerodrome.Cover.{Cover}
 use Rattle.record.specs.declared.aerodrome.Cover.TheVariants as cover
@@ -76,9 +75,9 @@ layers-again : (ls : List Layer) → map show_layer (map class_layer ls) ≡ map
 layers-again [] = refl
 layers-again (l ∷ ls) = rw (layer-again l, layers-again ls)
 
-missing-classed : (h : Number) → is_missing (written_height h) ≡ is_missing h
-missing-classed number.Missing = refl
-missing-classed (number.Is m) = refl
+missing-classed : (h : Option ℕ) → is_missing (written_height h) ≡ is_missing h
+missing-classed None = refl
+missing-classed (Some m) = refl
 
 blanks-classed : (ls : List Layer) → every is_blank_layer (map class_layer ls) ≡ every is_blank_layer ls
 blanks-classed [] = refl
@@ -91,8 +90,8 @@ sky-again s = rw (cover_again s.cover, take-map class_layer s.count s.layers, la
 
 -- ---- groups read one after the other, where k stand already
 
-abbrev pub add_each : Bool → Bool → ℕ → List Group → Sky → Read Sky
-add_each forecast cavok k [] s = Good s
+abbrev pub add_each : Bool → Bool → ℕ → List Group → Sky → Result Sky Refusal
+add_each forecast cavok k [] s = Ok s
 add_each forecast cavok k (g ∷ gs) s = then (read_sky forecast cavok k g s) (add_each forecast cavok (k + 1) gs)
 
 -- the sky that so many layers were read into
@@ -138,9 +137,9 @@ module _ (forecast : Bool) where
     pub height : metres_fit forecast l.height ≡ true
     pub alone : not beside ≡ true
     pub rising : rises before (written_height l.height) ≡ true
-    pub rest : judge_layers forecast beside (before ++ (class_layer l ∷ [])) ls ≡ judged.Fine
+    pub rest : judge_layers forecast beside (before ++ (class_layer l ∷ [])) ls ≡ Ok tt
 
-  layer_fits : (beside : Bool) (before : List Layer) (l : Layer) (ls : List Layer) → judge_layers forecast beside before (l ∷ ls) ≡ judged.Fine
+  layer_fits : (beside : Bool) (before : List Layer) (l : Layer) (ls : List Layer) → judge_layers forecast beside before (l ∷ ls) ≡ Ok tt
       → LayerFits beside before l ls
   layer_fits beside before l ls e =
       let w = has_amount l.amount && metres_fit forecast l.height in
@@ -159,7 +158,7 @@ module _ (forecast : Bool) where
   cover-fits (cover.Vertical h) e = height-classed forecast h e
 
   -- beside what stands alone there is no layer
-  none_beside : (before ls : List Layer) → judge_layers forecast true before ls ≡ judged.Fine → ls ≡ []
+  none_beside : (before ls : List Layer) → judge_layers forecast true before ls ≡ Ok tt → ls ≡ []
   none_beside before [] e = refl
   none_beside before (l ∷ ls) e = absurd (false≢true (layer_fits true before l ls e).alone)
 
@@ -169,9 +168,9 @@ module _ (forecast : Bool) where
       pub seen : (not cavok || is_layers s.cover) ≡ true
       pub count : s.count ≤ 4
       pub blank : every is_blank_layer (drop s.count s.layers) ≡ true
-      pub layers : judge_layers forecast (cavok || not (is_layers s.cover)) [] (take s.count s.layers) ≡ judged.Fine
+      pub layers : judge_layers forecast (cavok || not (is_layers s.cover)) [] (take s.count s.layers) ≡ Ok tt
 
-    pub sky-fits : (s : Sky) → judge_sky forecast cavok s ≡ judged.Fine → SkyFits s
+    pub sky-fits : (s : Sky) → judge_sky forecast cavok s ≡ Ok tt → SkyFits s
     unfolding judge_sky
     sky-fits s e =
         let counted = leb s.count 4 && every is_blank_layer (drop s.count s.layers) in
@@ -200,13 +199,13 @@ module _ (forecast : Bool) where
     cover-shaped cover.NoneDetected = (alone-group (bytes "NCD") refl, tt)
     cover-shaped (cover.Vertical h) = (alone-group _ (vertical-alone h), tt)
 
-    layers-shaped : (beside : Bool) (before ls : List Layer) → judge_layers forecast beside before ls ≡ judged.Fine → All Shaped (map show_layer ls)
+    layers-shaped : (beside : Bool) (before ls : List Layer) → judge_layers forecast beside before ls ≡ Ok tt → All Shaped (map show_layer ls)
     layers-shaped beside before [] e = tt
     layers-shaped beside before (l ∷ ls) e =
         let t = layer_fits beside before l ls e in
         (sky-group (show_layer l) (rw (layer-shaped l t.amount)), layers-shaped beside (before ++ (class_layer l ∷ [])) ls t.rest)
 
-    pub sky-shaped : (s : Sky) → judge_sky forecast cavok s ≡ judged.Fine
+    pub sky-shaped : (s : Sky) → judge_sky forecast cavok s ≡ Ok tt
         → All (λ g. (has_sky g ≡ true) × (has_any (spellings (parts_of layer_shape) ++ alone_shapes) g ≡ true)) (show_sky s)
     unfolding show_sky
     sky-shaped s e =
@@ -219,7 +218,7 @@ module _ (forecast : Bool) where
     no-layers : (s : Sky) → SkyFits s → is_layers s.cover ≡ false → take s.count s.layers ≡ []
     no-layers s f i = none_beside [] (take s.count s.layers) (rw (i, or-true cavok) at f.layers)
 
-    pub sky-few : (s : Sky) → judge_sky forecast cavok s ≡ judged.Fine → length (show_sky s) ≤ 4
+    pub sky-few : (s : Sky) → judge_sky forecast cavok s ≡ Ok tt → length (show_sky s) ≤ 4
     unfolding show_sky
     sky-few s e = rw (length-append (cover_groups s.cover)) (go (is_layers s.cover) refl)
       where
@@ -232,7 +231,7 @@ module _ (forecast : Bool) where
     -- ---- read back
 
     layer-step : (before : List Layer) (l : Layer) (ls : List Layer) → length before < 4 → LayerFits (cavok || false) before l ls
-        → read_sky forecast cavok (length before) (show_layer l) (sky_of before) ≡ Good (sky_of (before ++ (class_layer l ∷ [])))
+        → read_sky forecast cavok (length before) (show_layer l) (sky_of before) ≡ Ok (sky_of (before ++ (class_layer l ∷ [])))
     unfolding read_sky
     layer-step before l ls h t =
         let clear : not cavok ≡ true = rw (or-false cavok) at t.alone in
@@ -245,8 +244,8 @@ module _ (forecast : Bool) where
           layer-added before (class_layer l) h,
         )
 
-    layers-back : (ls before : List Layer) → length before + length ls ≤ 4 → judge_layers forecast (cavok || false) before ls ≡ judged.Fine
-        → add_each forecast cavok (length before) (map show_layer ls) (sky_of before) ≡ Good (sky_of (before ++ map class_layer ls))
+    layers-back : (ls before : List Layer) → length before + length ls ≤ 4 → judge_layers forecast (cavok || false) before ls ≡ Ok tt
+        → add_each forecast cavok (length before) (map show_layer ls) (sky_of before) ≡ Ok (sky_of (before ++ map class_layer ls))
     layers-back [] before h e = rw (append-nil before)
     layers-back (l ∷ ls) before h e =
         let t = layer_fits (cavok || false) before l ls e in
@@ -254,13 +253,13 @@ module _ (forecast : Bool) where
         rw (layer-step before l ls (omega arith) t, ← n, ← append_snoc before (class_layer l) (map class_layer ls))
         (layers-back ls (before ++ (class_layer l ∷ [])) (omega arith) t.rest)
 
-    alone-read : (g : Group) (c : Cover) → not cavok ≡ true → has_any alone_shapes g ≡ true → read_alone forecast g ≡ Good c
-        → add_each forecast cavok 0 (g ∷ []) blank_sky ≡ Good (record { cover = c; layers = replicate 4 blank_layer; count = 0 })
+    alone-read : (g : Group) (c : Cover) → not cavok ≡ true → has_any alone_shapes g ≡ true → read_alone forecast g ≡ Ok c
+        → add_each forecast cavok 0 (g ∷ []) blank_sky ≡ Ok (record { cover = c; layers = replicate 4 blank_layer; count = 0 })
     unfolding read_sky
     alone-read g c n h r = rw (no-layer g h, r, n)
 
     alone-back : (c : Cover) → not cavok ≡ true → is_layers c ≡ false → cover_fits forecast c ≡ true
-        → add_each forecast cavok 0 (cover_groups c) blank_sky ≡ Good (record { cover = class_cover c; layers = replicate 4 blank_layer; count = 0 })
+        → add_each forecast cavok 0 (cover_groups c) blank_sky ≡ Ok (record { cover = class_cover c; layers = replicate 4 blank_layer; count = 0 })
     unfolding low high fits has_pattern has_any read_alone
     alone-back cover.Layers n i f = absurd (false≢true (sym i))
     alone-back cover.Clear n i f = alone-read (bytes "SKC") cover.Clear n refl refl
@@ -268,8 +267,8 @@ module _ (forecast : Bool) where
     alone-back cover.NoneDetected n i f = alone-read (bytes "NCD") cover.NoneDetected n refl refl
     alone-back (cover.Vertical h) n i f = alone-read (vertical h) (cover.Vertical (written_height h)) n (vertical-alone h) (vertical-back forecast h f)
 
-    pub sky-back : (s : Sky) → length s.layers ≡ 4 → judge_sky forecast cavok s ≡ judged.Fine
-        → add_each forecast cavok 0 (show_sky s) blank_sky ≡ Good (class_sky s)
+    pub sky-back : (s : Sky) → length s.layers ≡ 4 → judge_sky forecast cavok s ≡ Ok tt
+        → add_each forecast cavok 0 (show_sky s) blank_sky ≡ Ok (class_sky s)
     unfolding show_sky
     sky-back s four e = go (is_layers s.cover) refl
       where
@@ -277,12 +276,12 @@ module _ (forecast : Bool) where
         f = sky-fits s e
 
         go : (b : Bool) → is_layers s.cover ≡ b
-            → add_each forecast cavok 0 (cover_groups s.cover ++ map show_layer (take s.count s.layers)) blank_sky ≡ Good (class_sky s)
+            → add_each forecast cavok 0 (cover_groups s.cover ++ map show_layer (take s.count s.layers)) blank_sky ≡ Ok (class_sky s)
         go true i =
             let c = cover-layers s.cover i in
             ap (λ (x : Cover). add_each forecast cavok 0 (cover_groups x ++ map show_layer (take s.count s.layers)) blank_sky) c
             ∙ layers-back (take s.count s.layers) [] (rw (length-take s.count s.layers) (omega (arith, f.count))) (rw i at f.layers)
-            ∙ ap Good (all-layers s four f.count f.blank c)
+            ∙ ap Ok (all-layers s four f.count f.blank c)
         go false i =
             let none = no-layers s f i in
             let zero : s.count ≡ 0 = omega (arith, length-take s.count s.layers, ap length none) in
@@ -292,15 +291,15 @@ module _ (forecast : Bool) where
 
     -- ---- the class
 
-    layers-classed : (beside : Bool) (before ls : List Layer) → judge_layers forecast beside before ls ≡ judged.Fine
-        → judge_layers forecast beside before (map class_layer ls) ≡ judged.Fine
+    layers-classed : (beside : Bool) (before ls : List Layer) → judge_layers forecast beside before ls ≡ Ok tt
+        → judge_layers forecast beside before (map class_layer ls) ≡ Ok tt
     layers-classed beside before [] e = refl
     layers-classed beside before (l ∷ ls) e =
         let t = layer_fits beside before l ls e in
         rw (height-twice l.height, t.amount, height-classed forecast l.height t.height, t.alone, t.rising)
         (layers-classed beside (before ++ (class_layer l ∷ [])) ls t.rest)
 
-    pub sky-classed : (s : Sky) → judge_sky forecast cavok s ≡ judged.Fine → judge_sky forecast cavok (class_sky s) ≡ judged.Fine
+    pub sky-classed : (s : Sky) → judge_sky forecast cavok s ≡ Ok tt → judge_sky forecast cavok (class_sky s) ≡ Ok tt
     unfolding judge_sky
     sky-classed s e =
         let f = sky-fits s e in

@@ -10,11 +10,9 @@ use crate::read::not_above;
 use crate::write::cloud_number;
 use elements::judge::metres_fit;
 use record::aerodrome::{Cover, Layer, Sky};
-use record::values::Number;
-use scales::kinds::Reading;
 use scales::metres::cloud_reading;
-use text::judge::{and_then, judge};
-use text::kinds::Judged;
+use text::judge::judge;
+use text::kinds::Refusal;
 
 fn cover_fits(forecast: bool, c: Cover) -> bool
     ensures { result ≡ cover_fits forecast c }
@@ -28,81 +26,65 @@ fn cover_fits(forecast: bool, c: Cover) -> bool
     }
 }
 
-fn judge_cover(forecast: bool, cavok: bool, c: Cover) -> Judged
+fn judge_cover(forecast: bool, cavok: bool, c: Cover) -> Result<(), Refusal>
     ensures { result ≡ judge_cover forecast cavok c }
 {
     judge(cover_fits(forecast, c), !cavok | c.is_layers())
 }
 
 // A height as it would be read back.
-fn written_height(h: Number) -> Number
+fn written_height(h: Option<u32>) -> Option<u32>
     ensures { result ≡ written_height h }
 {
-    match h {
-        Number::Missing => Number::Missing,
-        Number::Is(m) => {
-            let r = cloud_reading(cloud_number(m));
-            match r {
-                Reading::Is(foot) => Number::Is(foot),
-                Reading::Unused => Number::Missing,
-            }
-        }
-    }
+    cloud_reading(cloud_number(h?))
 }
 
 // A layer whose height would be written as `height`, where the last height before it is `last`.
-fn judge_layer(forecast: bool, beside: bool, last: Number, l: Layer, height: Number) -> Judged
+fn judge_layer(
+    forecast: bool,
+    beside: bool,
+    last: Option<u32>,
+    l: Layer,
+    height: Option<u32>,
+) -> Result<(), Refusal>
     ensures { result ≡ judge (has_amount l.amount && metres_fit forecast l.height) (not beside && not_above last height) }
 {
-    let a = l.amount;
-    let h = l.height;
     judge(
-        !a.is_none() & metres_fit(forecast, h),
+        !l.amount.is_none() & metres_fit(forecast, l.height),
         !beside & not_above(last, height),
     )
 }
 
 // The last height so far, missing ones passed over.
-fn last_height(before: Number, h: Number) -> Number
+fn last_height(before: Option<u32>, h: Option<u32>) -> Option<u32>
     ensures { result ≡ last_height before h }
 {
-    match h {
-        Number::Missing => before,
-        Number::Is(m) => Number::Is(m),
-    }
+    h.or(before)
 }
 
 // The first `count` layers: as heights rise, the last one so far is the greatest.
-fn judge_layers(forecast: bool, beside: bool, layers: [Layer; 4], count: usize) -> Judged
+fn judge_layers(
+    forecast: bool,
+    beside: bool,
+    layers: [Layer; 4],
+    count: usize,
+) -> Result<(), Refusal>
     ensures { result ≡ judge_layers forecast beside [] (take count layers) }
 {
-    let mut last = Number::Missing;
-    let mut i = 0;
-    while i < 4 {
-        if count <= i {
-            return Judged::Fine;
-        }
-        let l = layers[i];
-        let h = l.height;
-        let height = written_height(h);
-        let judged = judge_layer(forecast, beside, last, l, height);
-        if let Judged::Refused(refusal) = judged {
-            return Judged::Refused(refusal);
-        }
+    let mut last = None;
+    for l in layers.iter().take(count) {
+        let height = written_height(l.height);
+        judge_layer(forecast, beside, last, *l, height)?;
         last = last_height(last, height);
-        i += 1;
     }
-    Judged::Fine
+    Ok(())
 }
 
-pub fn judge_sky(forecast: bool, cavok: bool, s: Sky) -> Judged
+#[tactic(auto, unfolding(elements::specs::Sky::judge_sky))]
+pub fn judge_sky(forecast: bool, cavok: bool, s: Sky) -> Result<(), Refusal>
     ensures { result ≡ judge_sky forecast cavok s }
 {
-    let c = s.cover;
-    let layers = s.layers;
-    let count = s.count;
-    let counted = judge((count <= 4) & s.is_blank_from(count), true);
-    let layered = judge_layers(forecast, cavok | !c.is_layers(), layers, count);
-    let covered = and_then(judge_cover(forecast, cavok, c), layered);
-    and_then(counted, covered)
+    judge((s.count <= 4) & s.is_blank_from(s.count), true)?;
+    judge_cover(forecast, cavok, s.cover)?;
+    judge_layers(forecast, cavok | !s.cover.is_layers(), s.layers, s.count)
 }

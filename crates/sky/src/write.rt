@@ -13,8 +13,6 @@ ghost use Rattle.elements.specs.Sky.{height_field, amount_value, convective_valu
 use figures::kinds::Field;
 use figures::put::{put_field, put_text};
 use record::aerodrome::{Amount, Convective, Cover, Layer, Sky};
-use record::values::Number;
-use scales::kinds::Figure;
 use scales::metres::cloud_figure;
 use shapes::kinds::Value;
 use shapes::print::put_shape;
@@ -24,19 +22,15 @@ use text::write::open_group;
 pub fn cloud_number(metres: u32) -> u32
     ensures { result ≡ figure_of cloud metres }
 {
-    let f = cloud_figure(metres);
-    match f {
-        Figure::Is(n) => n,
-        Figure::OutOfRange => 999,
-    }
+    cloud_figure(metres).unwrap_or(999)
 }
 
-fn height_field(h: Number) -> Field
+fn height_field(h: Option<u32>) -> Field
     ensures { result ≡ height_field h }
 {
     match h {
-        Number::Missing => Field::Missing,
-        Number::Is(m) => Field::Number(cloud_number(m)),
+        None => Field::Missing,
+        Some(m) => Field::Number(cloud_number(m)),
     }
 }
 
@@ -44,8 +38,10 @@ fn height_field(h: Number) -> Field
 fn chosen(which: usize) -> Value
     ensures { result ≡ chosen which }
 {
-    let none = Field::Other;
-    Value { which, field: none }
+    Value {
+        which,
+        field: Field::Other,
+    }
 }
 
 fn amount_value(a: Amount) -> Value
@@ -74,31 +70,25 @@ fn convective_value(c: Convective) -> Value
 fn put_layer(out: &mut [u8], at: usize, l: Layer) -> usize
     ensures { Put out.old at (written at (show_layer l ∷ [])) result out.new }
 {
-    let a = l.amount;
-    let h = l.height;
-    let c = l.convective;
-    let f = height_field(h);
     let mut values = [chosen(0); 8];
-    values[0] = amount_value(a);
-    values[1] = Value { which: 0, field: f };
-    values[2] = convective_value(c);
+    values[0] = amount_value(l.amount);
+    values[1] = Value {
+        which: 0,
+        field: height_field(l.height),
+    };
+    values[2] = convective_value(l.convective);
     let opened = open_group(out, at);
     put_shape(out, opened, b"FEW|SCT|BKN|OVC ### CB|TCU|", values)
 }
 
 // The first `count` layers.
+// A loop for each kind of item: `text` cannot have a trait that the items of `record` take up here, and what a closure writes into the buffer is not known after it.
 fn put_layers(out: &mut [u8], at: usize, layers: [Layer; 4], count: usize) -> usize
     ensures { Put out.old at (written at (map show_layer (take count layers))) result out.new }
 {
     let mut next = at;
-    let mut i = 0;
-    while i < 4 {
-        if count <= i {
-            return next;
-        }
-        let l = layers[i];
-        next = put_layer(out, next, l);
-        i += 1;
+    for l in layers.iter().take(count) {
+        next = put_layer(out, next, *l);
     }
     next
 }
@@ -112,7 +102,7 @@ fn put_word(out: &mut [u8], at: usize, word: &[u8]) -> usize
 }
 
 // VVhhh
-fn put_vertical(out: &mut [u8], at: usize, h: Number) -> usize
+fn put_vertical(out: &mut [u8], at: usize, h: Option<u32>) -> usize
     ensures { Put out.old at (written at ((bytes "VV" ++ field_text 3 (height_field h)) ∷ [])) result out.new }
 {
     let opened = open_group(out, at);
@@ -136,9 +126,6 @@ fn put_cover(out: &mut [u8], at: usize, c: Cover) -> usize
 pub fn put_sky(out: &mut [u8], at: usize, s: Sky) -> usize
     ensures { Put out.old at (written at (show_sky s)) result out.new }
 {
-    let c = s.cover;
-    let layers = s.layers;
-    let count = s.count;
-    let covered = put_cover(out, at, c);
-    put_layers(out, covered, layers, count)
+    let covered = put_cover(out, at, s.cover);
+    put_layers(out, covered, s.layers, s.count)
 }

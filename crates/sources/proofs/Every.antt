@@ -1,16 +1,15 @@
 -- EVERY GROUP OF A TRAIL WAS TAKEN AS WHAT ITS PART MAY HAVE: at a place of the part's row that has room and reads it; as the word that opened the part; or as
 -- the group that belongs to that word. And no more parts come than may. What is so of each group of a trail is so of every group before the unread rest.
 -- Assumes nothing.
+use Rattle.std.specs.Prelude.{Ok, Option}
 use Prim.Native.Nat.{ℕ, zero, suc, ◌+◌, ◌≤◌, ◌<◌}
 use native.Mathlib.Omega.{arith}
 use mathlib.Core.Path.{◌≡◌, refl, sym, subst, ◌∙◌}
-use mathlib.Core.Bool.{Bool, true, false, ◌&&◌}
+use mathlib.Core.Bool.{Bool, true}
 use mathlib.Core.List.{List, [], ◌∷◌, ◌++◌, map}
-use lib.Dec.{eqb}
 use Rattle.figures.proofs.Impossible.{impossible}
-use Rattle.text.specs.declared.kinds.Tail.{Tail}
 use Rattle.text.specs.Groups.{Piece, groups_from}
-use Rattle.places.specs.Engine.{Group, Good, Place, place_at, Done}
+use Rattle.places.specs.Engine.{Group, Place, place_at, Done}
 use Rattle.places.specs.Parts.{Word, Part, Further, turned, owes, part_from, begins, further, run_to, report_of}
 use Rattle.places.proofs.Loop.{turn-steps}
 use Rattle.sources.specs.declared.kinds.Spot.{Spot}
@@ -28,7 +27,7 @@ use Rattle.sources.proofs.Texts.{over-groups}
 
 -- whatever a place takes and reads is so: the place, and the how-manieth
 abbrev pub PlaceIs : {R : Type 0} → (ℕ → ℕ → Type 0) → ℕ → Place R → Type 0
-PlaceIs {R} Is i p = (n : ℕ) (g : Group) (a a' : R) → n < p.most → p.read n g a ≡ Good a' → Is i n
+PlaceIs {R} Is i p = (n : ℕ) (g : Group) (a a' : R) → n < p.most → p.read n g a ≡ Ok a' → Is i n
 
 -- it is so of the spot where a group was taken
 abbrev pub SpotIs : (ℕ → Spot → Type 0) → Taken → Type 0
@@ -53,7 +52,7 @@ went-each Is row halts m place {c} {n} {r = r} (on {i = j} {n = l} {r' = r'} {g 
 -- ---- how many parts come
 
 module _ {T M P W : Type 0} (route : Route M P W) (word : T → Group → Word W P) (main_takes : M → T) (main_lacks : M → Bool) (takes : T → W → P → T)
-    (lacks : T → W → P → Bool) (tail : Tail) (end rest : ℕ) (whole : T) where
+    (lacks : T → W → P → Bool) (tail : Option ℕ) (end rest : ℕ) (whole : T) where
   abbrev more : ℕ → Further T P W
   more n = further tail end (parts_of route word main_takes main_lacks takes lacks) n
 
@@ -181,14 +180,14 @@ module _ (end rest : ℕ) (P : Piece → Type 0) where
       (left-before c.left c.begins (ordered-past (map (λ (x : Taken). x.piece) xs) c.left (subst Ordered c.all (groups-ordered t)))))
 
 -- A GROUP IS THE SOURCE OF AN ITEM: this is the spot of an item, and the group is the source of what was taken there.
-pub record ItemSource (Is : ℕ → Spot → Type 0) (source : ℕ → Spot → Source) (g : Piece) : Type 0 where
+pub record ItemSource (Is : ℕ → Spot → Type 0) (source : ℕ → Spot → Option Source) (g : Piece) : Type 0 where
   pub part : ℕ
   pub spot : Spot
   pub item : Is part spot
   pub from : source part spot ≡ source_of (group g)
 
 -- EVERY GROUP THAT BEGINS BEFORE THE UNREAD REST IS THE SOURCE OF AN ITEM.
-pub all-sources : (Is : ℕ → Spot → Type 0) (source : ℕ → Spot → Source) (t : List ℕ) {end rest : ℕ} (xs : List Taken) → Covers end rest (groups_from t 0) xs
+pub all-sources : (Is : ℕ → Spot → Type 0) (source : ℕ → Spot → Option Source) (t : List ℕ) {end rest : ℕ} (xs : List Taken) → Covers end rest (groups_from t 0) xs
     → EachTaken (SpotIs Is) xs → EachTaken (λ x. source x.part x.spot ≡ source_of (group x.piece)) xs
     → EachBefore rest (ItemSource Is source) (groups_from t 0)
 all-sources Is source t {end} {rest} xs covers items own =

@@ -1,22 +1,22 @@
 -- WHERE EACH ITEM OF A REPORT WAS READ FROM: of the main part, and of any part after it. And that no group up to the unread rest is left out.
 -- Assumes nothing.
-use Prim.Native.Nat.{ℕ, zero, suc, ◌+◌, ◌≤◌, ◌<◌}
+use Rattle.std.specs.Prelude.{Ok}
+use Prim.Native.Nat.{ℕ, ◌+◌, ◌≤◌, ◌<◌}
 use native.Mathlib.Omega.{arith}
 use mathlib.Core.Path.{◌≡◌, refl, sym, ap, subst, ◌∙◌}
-use mathlib.Core.Bool.{Bool, true, false, ◌&&◌, cond, false≢true}
+use mathlib.Core.Bool.{Bool, true, false, ◌&&◌, cond}
 use mathlib.Core.List.{List, [], ◌∷◌, ◌++◌, map}
-use lib.ListN.{length}
 use lib.Dec.{eqb}
 use borrow.Author.Tests.{eqb-true, eqb-false, eq-eqb, ne_eqb}
 use Rattle.text.specs.Groups.{Piece}
-use Rattle.places.specs.Engine.{Group, Read, Good, Place, place_at}
-use Rattle.places.specs.Parts.{Begun, Word, Ends, Opens}
+use Rattle.places.specs.Engine.{Group, place_at}
+use Rattle.places.specs.Parts.{Word, Opens}
 use Rattle.sources.specs.declared.kinds.Spot.{Spot}
 use Rattle.sources.specs.declared.kinds.Spot.TheVariants as spot
-use Rattle.sources.specs.Trail.{Taken, same_spot, Origin, nowhere, group, origin_in}
+use Rattle.sources.specs.Trail.{Taken, Origin, nowhere, group, origin_in}
 use Rattle.sources.specs.Route.{Route}
-use Rattle.sources.proofs.Rows.{Entry, Went, done, on, went-pieces, Item, If, Told, shape-told, item-told}
-use Rattle.sources.proofs.Parts.{as_taken, main_of, parts_of, Opened, After, over, stop, one, two, Follows, Read-on}
+use Rattle.sources.proofs.Rows.{Entry, Went, went-pieces, Item, If, Told, shape-told, item-told}
+use Rattle.sources.proofs.Parts.{as_taken, main_of, After, over, stop, one, two, Read-on}
 
 -- ---- what is said of the source
 
@@ -138,8 +138,8 @@ module _ {T M P W : Type 0} (route : Route M P W) (word : T → Group → Word W
 
   -- a part is opened by a word, or by a word with a group that belongs to it
   pub data Begins (t : T) : W → P → Type 0 where
-    alone : {g : Group} {w : W} {p : P} → word t g ≡ Opens (Good (record { kind = w; start = p })) → Begins t w p
-    joined : {g h : Group} {v : W} {p : P} → word t g ≡ Opens (Good (record { kind = v; start = p })) → route.joins v h ≡ true → Begins t (route.joined v) p
+    alone : {g : Group} {w : W} {p : P} → word t g ≡ Opens (Ok (record { kind = w; start = p })) → Begins t w p
+    joined : {g h : Group} {v : W} {p : P} → word t g ≡ Opens (Ok (record { kind = v; start = p })) → route.joins v h ≡ true → Begins t (route.joined v) p
 
   -- What no part but part q touches; `inv m t` is known of a report t into which m parts were taken.
   pub record Beside {A : Type 0} (q : ℕ) (get : T → A) (inv : ℕ → T → Type 0) : Type 0 where
@@ -165,9 +165,9 @@ module _ {T M P W : Type 0} (route : Route M P W) (word : T → Group → Word W
     -- the word, or the word with the group that belongs to it, brings it in
     pub record Opener (says : Group → A → Type 0) (missing : A) : Type 0 where
       pub opens : (m : ℕ) (t : T) (g : Group) (w : W) (p p' : P) {c n : ℕ} {gs left : List Piece} {es : List Entry} → inv m t → q ≡ m + 1 → get t ≡ missing
-          → word t g ≡ Opens (Good (record { kind = w; start = p })) → Went (route.row w) route.halts c n p' left 0 0 p gs es → says g (get (takes t w p'))
+          → word t g ≡ Opens (Ok (record { kind = w; start = p })) → Went (route.row w) route.halts c n p' left 0 0 p gs es → says g (get (takes t w p'))
       pub joins : (m : ℕ) (t : T) (g h : Group) (w : W) (p p' : P) {c n : ℕ} {gs left : List Piece} {es : List Entry} → inv m t → q ≡ m + 1 → get t ≡ missing
-          → word t g ≡ Opens (Good (record { kind = w; start = p })) → route.joins w h ≡ true
+          → word t g ≡ Opens (Ok (record { kind = w; start = p })) → route.joins w h ≡ true
           → Went (route.row (route.joined w)) route.halts c n p' left 0 0 p gs es → says g (get (takes t (route.joined w) p'))
 
     module _ {says : Group → A → Type 0} {missing : A} (opener : Opener says missing) where
@@ -205,8 +205,8 @@ module _ {T M P W : Type 0} (route : Route M P W) (word : T → Group → Word W
 
     -- it brings the item in, and a word alone does not
     pub record Joiner (says : Group → A → Type 0) (missing : A) : Type 0 where
-      pub alone : (m : ℕ) (t : T) (g : Group) (w : W) (p p' : P) → inv m t → q ≡ m + 1 → word t g ≡ Opens (Good (record { kind = w; start = p })) → get (takes t w p') ≡ missing
-      pub joins : (m : ℕ) (t : T) (g h : Group) (w : W) (p p' : P) → inv m t → q ≡ m + 1 → word t g ≡ Opens (Good (record { kind = w; start = p })) → route.joins w h ≡ true
+      pub alone : (m : ℕ) (t : T) (g : Group) (w : W) (p p' : P) → inv m t → q ≡ m + 1 → word t g ≡ Opens (Ok (record { kind = w; start = p })) → get (takes t w p') ≡ missing
+      pub joins : (m : ℕ) (t : T) (g h : Group) (w : W) (p p' : P) → inv m t → q ≡ m + 1 → word t g ≡ Opens (Ok (record { kind = w; start = p })) → route.joins w h ≡ true
           → says h (get (takes t (route.joined w) p'))
 
     module _ {says : Group → A → Type 0} {missing : A} (joiner : Joiner says missing) where

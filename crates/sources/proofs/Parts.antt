@@ -1,30 +1,26 @@
 -- A report of parts that comes to a record, part by part and group by group, and that its trail is the groups so taken.
 -- Assumes nothing.
-use Prim.Native.Nat.{ℕ, zero, suc, ◌+◌, ◌≤◌, ◌<◌}
+use Rattle.std.specs.Prelude.{Err, None, Ok, Option, Result, Some}
+use Prim.Native.Nat.{ℕ, zero, suc, ◌+◌}
 use native.Mathlib.Omega.{arith}
-use mathlib.Core.Path.{◌≡◌, refl, sym, ap, subst, ◌∙◌}
-use mathlib.Core.Bool.{Bool, true, false, ◌&&◌, ◌||◌, cond, false≢true}
+use mathlib.Core.Path.{◌≡◌, refl, ap, ◌∙◌}
+use mathlib.Core.Bool.{Bool, true, false, ◌&&◌}
 use mathlib.Core.List.{List, [], ◌∷◌, ◌++◌, map}
-use lib.ListN.{length, drop}
 use lib.Dec.{eqb}
-use borrow.Author.Tests.{eqb-true, ne_eqb}
+use borrow.Author.Tests.{ne_eqb}
 use Rattle.figures.proofs.Impossible.{impossible}
 use Rattle.text.specs.declared.kinds.Refusal.{Refusal}
-use Rattle.text.specs.declared.kinds.Refusal.TheVariants as refusal
-use Rattle.text.specs.declared.kinds.Tail.{Tail}
-use Rattle.text.specs.declared.kinds.Tail.TheVariants.{Clear, Junk}
 use Rattle.text.specs.Groups.{Piece}
 use Rattle.places.specs.declared.kinds.Turn.{Turn}
 use Rattle.places.specs.declared.kinds.Turn.TheVariants as turn
-use Rattle.places.specs.Engine.{Group, Read, Good, Bad, Place, place_at, onward, taken, Step, On, Halt, Stop, Outcome, Done, Fault, finish}
+use Rattle.places.specs.Engine.{Group, Place, place_at, onward, taken, Outcome, Done, finish}
 use Rattle.places.specs.Turn.{turn_at}
-use Rattle.places.specs.Parts.{step_by, carry_to, run_to, Begun, Word, Ends, Opens, Bars, Part, Parts, Further, turned, ended, unless, owes, part_exits, part_from, after_first, begins, opened, further, report_of}
+use Rattle.places.specs.Parts.{carry_to, run_to, Word, Ends, Opens, Bars, Part, Parts, Further, turned, ended, unless, owes, part_exits, part_from, after_first, begins, further, report_of}
 use Rattle.places.proofs.Loop.{turn_step, turn-steps}
-use Rattle.sources.specs.declared.kinds.Spot.{Spot}
 use Rattle.sources.specs.declared.kinds.Spot.TheVariants as spot
 use Rattle.sources.specs.Trail.{Mark, Move, Takes, Joins, Taken, front, after_move, trail}
 use Rattle.sources.specs.Trail as walk
-use Rattle.sources.specs.Route.{Route, move_by, move_main, move_part, move_on}
+use Rattle.sources.specs.Route.{Route, move_on}
 use Rattle.sources.proofs.Rows.{Entry, Went, done, on}
 
 module _ {T : Type 0} where
@@ -35,9 +31,9 @@ module _ {T : Type 0} where
   finished true at rest r t e = impossible (cc)
   finished false at rest r t e = done-same e
 
-  has_ended : (tail : Tail) (end rest : ℕ) (owing : Bool) (r t : T) → ended tail end owing r ≡ Done rest t → (rest ≡ end) × (t ≡ r)
-  has_ended (Junk at) end rest owing r t e = impossible (cc)
-  has_ended Clear end rest owing r t e = finished owing end rest r t e
+  has_ended : (tail : Option ℕ) (end rest : ℕ) (owing : Bool) (r t : T) → ended tail end owing r ≡ Done rest t → (rest ≡ end) × (t ≡ r)
+  has_ended (Some at) end rest owing r t e = impossible (cc)
+  has_ended None end rest owing r t e = finished owing end rest r t e
 
   pub lacked-none : (owing : Bool) (at rest : ℕ) (o : Outcome T) (t : T) → unless owing at o ≡ Done rest t → o ≡ Done rest t
   lacked-none true at rest o t e = impossible (cc)
@@ -45,7 +41,7 @@ module _ {T : Type 0} where
 
 -- ---- one part
 
-module _ {T P W R : Type 0} (tail : Tail) (end : ℕ) (part : Part T P W R) (more : Further T P W) (rest : ℕ) (t : T) where
+module _ {T P W R : Type 0} (tail : Option ℕ) (end : ℕ) (part : Part T P W R) (more : Further T P W) (rest : ℕ) (t : T) where
   -- where a part ends: the groups are over, or a word follows
   pub data Ending (c k : ℕ) (r : R) : List Piece → Type 0 where
     groups-over : rest ≡ end → t ≡ part.takes r → Ending c k r []
@@ -72,13 +68,13 @@ module _ {T P W R : Type 0} (tail : Tail) (end : ℕ) (part : Part T P W R) (mor
     where
       took : (i n : ℕ) → turn_at part.row part.halts c k g.bytes ≡ turn.At i n
           → ((c' k' : ℕ) (r' : R) → part_from tail end part more c' k' r' gs ≡ Done rest t → PartDone c' k' r' gs)
-          → (x : Read R) → (place_at part.row i).read n g.bytes r ≡ x
+          → (x : Result R Refusal) → (place_at part.row i).read n g.bytes r ≡ x
           → carry_to (taken (onward part.row i) (n + 1) x) (part_exits tail end part more) c k r g gs (λ c' k' r'. part_from tail end part more c' k' r' gs) ≡ Done rest t
           → PartDone c k r (g ∷ gs)
-      took i n is again (Good r') reads e =
+      took i n is again (Ok r') reads e =
           let d = again (onward part.row i) (n + 1) r' e in
           record { place = d.place; count = d.count; record' = d.record'; left = d.left; entries = _; went = on is reads d.went; ending = d.ending }
-      took i n is again (Bad f) reads e = impossible (cc)
+      took i n is again (Err f) reads e = impossible (cc)
 
       go : (u : Turn) → turn_at part.row part.halts c k g.bytes ≡ u
           → ((c' k' : ℕ) (r' : R) → part_from tail end part more c' k' r' gs ≡ Done rest t → PartDone c' k' r' gs)
@@ -116,7 +112,7 @@ module _ {T M P W : Type 0} (route : Route M P W) (word : T → Group → Word W
       }
 
   abbrev pub Opened : T → Piece → W → P → Type 0
-  Opened t g w p = word t g.bytes ≡ Opens (Good (record { kind = w; start = p }))
+  Opened t g w p = word t g.bytes ≡ Opens (Ok (record { kind = w; start = p }))
 
   -- the group that comes first does not belong to the word before it
   abbrev pub Plain : W → ℕ → ℕ → List Piece → Type 0
@@ -145,7 +141,7 @@ module _ {T M P W : Type 0} (route : Route M P W) (word : T → Group → Word W
 
   -- ---- what the machine comes to
 
-  module _ (tail : Tail) (end rest : ℕ) (whole : T) where
+  module _ (tail : Option ℕ) (end rest : ℕ) (whole : T) where
     abbrev more : ℕ → Further T P W
     more n = further tail end parts_of n
 
@@ -231,8 +227,8 @@ module _ {T M P W : Type 0} (route : Route M P W) (word : T → Group → Word W
       where
         go : (x : Word W P) → word t g.bytes ≡ x → Further-done n → turned (more (suc n)) t g gs x ≡ Done rest whole → Follows m t (g ∷ gs)
         go Ends is next e = let (a, b) = done-same e in record { taken = []; after = stop is a b }
-        go (Opens (Good b)) is next e = begun-done n m next t g b.kind b.start gs is e
-        go (Opens (Bad f)) is next e = impossible (cc)
+        go (Opens (Ok b)) is next e = begun-done n m next t g b.kind b.start gs is e
+        go (Opens (Err f)) is next e = impossible (cc)
         go (Bars f) is next e = impossible (cc)
 
     -- THE REPORT: its main part, and what follows it.
@@ -243,7 +239,7 @@ module _ {T M P W : Type 0} (route : Route M P W) (word : T → Group → Word W
   -- ---- and that its trail is the groups so taken
 
   module _ (ends : (t : T) (g : Group) → word t g ≡ Ends → route.opens g ≡ walk.Ends)
-      (opens : (t : T) (g : Group) (w : W) (p : P) → word t g ≡ Opens (Good (record { kind = w; start = p })) → route.opens g ≡ walk.Opens w)
+      (opens : (t : T) (g : Group) (w : W) (p : P) → word t g ≡ Opens (Ok (record { kind = w; start = p })) → route.opens g ≡ walk.Opens w)
       (once : (w : W) (g : Group) → route.joins (route.joined w) g ≡ false) where
     abbrev walked : Mark W → List Piece → List Taken
     walked m gs = trail (move_on route) m gs
@@ -335,7 +331,7 @@ module _ {T M P W : Type 0} (route : Route M P W) (word : T → Group → Word W
         rw (at, opens t g.bytes v p is, part-joins m v h.bytes joins, q, after-walked after (route.joined v) d n (part-at-word m (route.joined v) d n left plain' halted))
 
     -- THE TRAIL OF A REPORT IS THE GROUPS THAT ITS READING TOOK: those of the main part, then those of each part from its word on.
-    pub report-walked : {tail : Tail} {end rest : ℕ} {whole : T} {m : M} {gs : List Piece} (d : Read-on tail end rest whole main_of 0 m gs) (w : W)
+    pub report-walked : {tail : Option ℕ} {end rest : ℕ} {whole : T} {m : M} {gs : List Piece} (d : Read-on tail end rest whole main_of 0 m gs) (w : W)
         → walked (front 0 w) gs ≡ map (as_taken 0) d.entries ++ d.follows.taken
     report-walked d w =
         main-walked w d.went

@@ -1,23 +1,22 @@
 -- A reading against one row, group by group, and what it says of a field of the record: the field is what the group taken at its place says, or it is as it was.
 -- Assumes nothing.
-use Prim.Native.Nat.{ℕ, zero, suc, ◌+◌, ◌≤◌, ◌<◌}
+use Rattle.std.specs.Prelude.{Ok}
+use Prim.Native.Nat.{ℕ, ◌+◌, ◌≤◌, ◌<◌}
 use native.Mathlib.Omega.{arith}
 use mathlib.Core.Path.{◌≡◌, refl, sym, ap, subst, ◌∙◌}
-use mathlib.Core.Bool.{Bool, true, false, ◌&&◌, ◌||◌, cond, false≢true, and-eq-true_iff}
+use mathlib.Core.Bool.{Bool, true, false, ◌&&◌, ◌||◌, cond}
 use mathlib.Core.List.{List, [], ◌∷◌, ◌++◌, map}
 use lib.ListN.{length, drop}
 use lib.Dec.{eqb, leb, ltb}
 use borrow.Author.Tests.{eqb-true, ne_eqb}
 use Rattle.figures.proofs.Impossible.{impossible}
-use Rattle.text.specs.declared.kinds.Refusal.{Refusal}
 use Rattle.text.specs.declared.kinds.Refusal.TheVariants as refusal
 use Rattle.text.specs.Groups.{Piece}
 use Rattle.places.specs.declared.kinds.Found.{Found}
 use Rattle.places.specs.declared.kinds.Found.TheVariants.{Take, Skips, Full, Earlier, Unknown}
-use Rattle.places.specs.declared.kinds.Turn.{Turn}
 use Rattle.places.specs.declared.kinds.Turn.TheVariants as turn
 use Rattle.places.specs.Seek.{Stand, seek, anywhere, or_earlier, find_of}
-use Rattle.places.specs.Engine.{Group, Read, Good, Bad, Place, place_at, stands_of, onward}
+use Rattle.places.specs.Engine.{Group, Place, place_at, stands_of, onward}
 use Rattle.places.specs.Turn.{turn_by, turn_at}
 use Rattle.places.proofs.Rows.{taken-open}
 
@@ -102,7 +101,7 @@ module _ {R : Type 0} (row : List (Place R)) (halts : Group → Bool) where
   pub data Went (c₁ k₁ : ℕ) (r₁ : R) (left : List Piece) : ℕ → ℕ → R → List Piece → List Entry → Type 0 where
     done : Went c₁ k₁ r₁ left c₁ k₁ r₁ left []
     on : {c k i n : ℕ} {r r' : R} {g : Piece} {gs : List Piece} {es : List Entry} → turn_at row halts c k g.bytes ≡ turn.At i n
-        → (place_at row i).read n g.bytes r ≡ Good r' → Went c₁ k₁ r₁ left (onward row i) (n + 1) r' gs es
+        → (place_at row i).read n g.bytes r ≡ Ok r' → Went c₁ k₁ r₁ left (onward row i) (n + 1) r' gs es
         → Went c₁ k₁ r₁ left c k r (g ∷ gs) (record { place = i; count = n; piece = g } ∷ es)
 
   -- no group is lost: those taken, then those left
@@ -117,10 +116,10 @@ module _ {R A : Type 0} where
   -- What a place says of its k-th group, a record that is `fair` (arrays of their length) read so far; every other group leaves it as it was, one of an
   -- earlier place at least where it is still missing.
   pub record Item (row : List (Place R)) (i k : ℕ) (get : R → A) (says : Group → A → Type 0) (fair : R → Type 0) (missing : A) : Type 0 where
-    pub tells : (g : Group) (a a' : R) → fair a → (place_at row i).read k g a ≡ Good a' → says g (get a')
-    pub kept : (j n : ℕ) (g : Group) (a a' : R) → n < (place_at row j).most → (eqb i j && eqb k n) ≡ false → (j < i → get a ≡ missing) → fair a → (place_at row j).read n g a ≡ Good a'
+    pub tells : (g : Group) (a a' : R) → fair a → (place_at row i).read k g a ≡ Ok a' → says g (get a')
+    pub kept : (j n : ℕ) (g : Group) (a a' : R) → n < (place_at row j).most → (eqb i j && eqb k n) ≡ false → (j < i → get a ≡ missing) → fair a → (place_at row j).read n g a ≡ Ok a'
         → get a' ≡ get a
-    pub stays : (j n : ℕ) (g : Group) (a a' : R) → fair a → (place_at row j).read n g a ≡ Good a' → fair a'
+    pub stays : (j n : ℕ) (g : Group) (a a' : R) → fair a → (place_at row j).read n g a ≡ Ok a' → fair a'
 
 -- what one group alone may say
 pub first : {R A : Type 0} {row : List (Place R)} {missing : A} (i k : ℕ) (get : R → A) (says : Group → A → Type 0) → k < 1 → Item row i 0 get says (λ r. Unit {0}) missing
@@ -207,7 +206,7 @@ module _ {R : Type 0} (row : List (Place R)) (halts : Group → Bool) where
         took : i ≡ j → k ≡ m → says g.bytes (get r₁)
         took a b =
             let t' : turn_at row halts c n g.bytes ≡ turn.At i k = rw (a, b) t in
-            let e' : (place_at row i).read k g.bytes r ≡ Good r' = rw (a, b) e in
+            let e' : (place_at row i).read k g.bytes r ≡ Ok r' = rw (a, b) e in
             let w' : Went row halts c₁ k₁ r₁ left (onward row i) (k + 1) r' gs es = rw (a, b) w in
             subst (says g.bytes) (sym (past-kept w' (past-taken i k c n g.bytes t') fair')) (item.tells g.bytes r r' f e')
 

@@ -1,8 +1,9 @@
 -- The source of an item as a part of the text: the bytes that the text has there are those that the item was read from.
 -- Assumes nothing.
-use Prim.Native.Nat.{ℕ, zero, suc, ◌+◌, ◌-◌, ◌≤◌, ◌<◌}
+use Rattle.std.specs.Prelude.{None, Option, Some}
+use Prim.Native.Nat.{ℕ, zero, suc, ◌+◌, ◌-◌, ◌≤◌}
 use native.Mathlib.Omega.{arith}
-use mathlib.Core.Path.{◌≡◌, refl, sym, ap, subst, ◌∙◌}
+use mathlib.Core.Path.{◌≡◌, refl, sym, ap, subst}
 use mathlib.Core.Bool.{Bool, true, false, ◌&&◌, cond}
 use mathlib.Core.List.{List, [], ◌∷◌, ◌++◌, map}
 use lib.ListN.{length}
@@ -15,15 +16,14 @@ use Rattle.text.proofs.Groups.{Follows, when-group, when-end}
 use Rattle.places.specs.Engine.{Group}
 use Rattle.sources.specs.declared.kinds.Spot.{Spot}
 use Rattle.sources.specs.declared.kinds.Source.{Source}
-use Rattle.sources.specs.declared.kinds.Source.TheVariants as source
-use Rattle.sources.specs.Trail.{Taken, same_spot, Origin, nowhere, group, origin_in, source_of}
+use Rattle.sources.specs.Trail.{Taken, same_spot, Origin, group, origin_in, source_of, source_at}
 use Rattle.sources.proofs.Walks.{length_part}
 use Rattle.sources.proofs.Items.{Stems, from, absent, Covers}
 
 -- AN ITEM IS READ FROM A PART OF THE TEXT: this is so of the bytes that the text has there; or there is no such part, and the item is missing.
-pub data ReadFrom (t : List ℕ) (says : Group → Type 0) (missing : Type 0) : Source → Type 0 where
-  read : (s e : ℕ) → says (part_of t s e) → ReadFrom t says missing (source.Group s e)
-  unread : missing → ReadFrom t says missing source.None
+pub data ReadFrom (t : List ℕ) (says : Group → Type 0) (missing : Type 0) : Option Source → Type 0 where
+  read : (s e : ℕ) → says (part_of t s e) → ReadFrom t says missing (Some (source_at s e))
+  unread : missing → ReadFrom t says missing None
 
 module _ (t : List ℕ) where
   -- what is so of the groups from any position on: of none, and of one more before others

@@ -5,7 +5,7 @@ use Rattle.places.specs.declared.kinds.Turn.{Turn}
 use Rattle.places.specs.declared.kinds.Turn.TheVariants as turn
 use Rattle.places.specs.Engine.{Group, Place, onward}
 use Rattle.places.specs.Turn.{turn_at}
-use Rattle.sources.specs.Trail.{Mark, Move, Takes, Opens, Joins, Ends}
+use Rattle.sources.specs.Trail.{Mark, Move, Takes, Joins, Ends}
 
 -- The rows of a report and the words between its parts, with no record: `M` and `P` are what the main part and the others say, `W` is what opens one.
 pub record Route (M P W : Type 0) : Type 0 where

@@ -1,13 +1,12 @@
 -- WHERE EACH GROUP OF A TEXT WAS TAKEN, and so from which part of the text an item of the record was read: "which part, which place, the how-manieth".
 -- It goes by the groups' bytes alone, and by no record; of an accepted text it is what the reading did (the laws in proofs/).
 -- Assumes nothing: these are definitions.
-use Rattle.std.specs.Prelude.{ℕ, ◌+◌, Bool, true, false, cond, ◌&&◌, List, [], ◌∷◌, length, eqb}
+use Rattle.std.specs.Prelude.{ℕ, ◌+◌, Bool, true, false, cond, ◌&&◌, List, [], ◌∷◌, length, eqb, None, Option, Some}
 use Rattle.text.specs.Groups.{Piece}
 use Rattle.places.specs.Engine.{Group}
 use Rattle.sources.specs.declared.kinds.Spot.{Spot}
 use Rattle.sources.specs.declared.kinds.Spot.TheVariants as spot
 use Rattle.sources.specs.declared.kinds.Source.{Source}
-use Rattle.sources.specs.declared.kinds.Source.TheVariants as source
 
 -- ---- a walk from group to group; `W` is what may open a part
 
@@ -71,16 +70,19 @@ unfoldable pub origin_in : ℕ → Spot → List Taken → Origin
 origin_in part s [] = nowhere
 origin_in part s (x ∷ xs) = cond (eqb part x.part && same_spot s x.spot) (group x.piece) (origin_in part s xs)
 
+abbrev pub source_at : ℕ → ℕ → Source
+source_at start end = record { start = start; end = end }
+
 -- by where it stands in its text
-abbrev pub source_of : Origin → Source
-source_of nowhere = source.None
-source_of (group g) = source.Group g.start (g.start + length g.bytes)
+abbrev pub source_of : Origin → Option Source
+source_of nowhere = None
+source_of (group g) = Some (source_at g.start (g.start + length g.bytes))
 
 -- where a source begins and ends in a text of that length; both at its end where there is none
-abbrev pub start_of : ℕ → Source → ℕ
-start_of end source.None = end
-start_of end (source.Group s e) = s
+abbrev pub start_of : ℕ → Option Source → ℕ
+start_of end None = end
+start_of end (Some x) = x.start
 
-abbrev pub end_of : ℕ → Source → ℕ
-end_of end source.None = end
-end_of end (source.Group s e) = e
+abbrev pub end_of : ℕ → Option Source → ℕ
+end_of end None = end
+end_of end (Some x) = x.end

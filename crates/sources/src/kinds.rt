@@ -11,7 +11,7 @@ pub enum Spot {
 
 // A group of a text, from start up to end; or there is none.
 #[derive(Clone, Copy)]
-pub enum Source {
-    None,
-    Group { start: usize, end: usize },
+pub struct Source {
+    pub start: usize,
+    pub end: usize,
 }

@@ -13,34 +13,20 @@ use kinds::{Source, Spot};
 pub fn is_same(one: Spot, other: Spot) -> bool
     ensures { result ≡ same_spot one other }
 {
-    match one {
-        Spot::Opening => match other {
-            Spot::Opening => true,
-            Spot::Joined => false,
-            Spot::At { place: _, count: _ } => false,
-        },
-        Spot::Joined => match other {
-            Spot::Opening => false,
-            Spot::Joined => true,
-            Spot::At { place: _, count: _ } => false,
-        },
-        Spot::At { place, count } => match other {
-            Spot::Opening => false,
-            Spot::Joined => false,
-            Spot::At {
-                place: there,
-                count: many,
-            } => (place == there) & (count == many),
-        },
+    match (one, other) {
+        (Spot::Opening, Spot::Opening) => true,
+        (Spot::Joined, Spot::Joined) => true,
+        (Spot::At { place: p, count: m }, Spot::At { place: q, count: n }) => (p == q) & (m == n),
+        _ => false,
     }
 }
 
 // The source as a part of the caller's text; the empty part at the text's end where there is none.
-pub fn part_of(text: &[u8], source: Source) -> &[u8]
+pub fn part_of(text: &[u8], source: Option<Source>) -> &[u8]
     ensures { PartAt text.entry result (start_of (length text.now) source) (end_of (length text.now) source) }
 {
     match source {
-        Source::None => text::part_at(text, text.len(), text.len()),
-        Source::Group { start, end } => text::part_at(text, start, end),
+        None => text::part_at(text, text.len(), text.len()),
+        Some(Source { start, end }) => text::part_at(text, start, end),
     }
 }

@@ -1,13 +1,14 @@
 -- The laws of the groups known by position: call signs, and how reading goes on from post to post of the text.
 -- Assumes nothing.
-use Prim.Native.Nat.{ℕ, zero, suc, ◌+◌, ◌-◌, ◌≤◌, ◌<◌}
+use Rattle.std.specs.Prelude.{Err, Ok}
+use Prim.Native.Nat.{ℕ, ◌+◌, ◌≤◌, ◌<◌}
 use native.Mathlib.Omega.{arith}
 use native.Mathlib.Numerals.{add-one}
-use mathlib.Core.Path.{◌≡◌, refl, sym, ap, ◌∙◌}
+use mathlib.Core.Path.{◌≡◌, refl, ◌∙◌}
 use mathlib.Core.Bool.{Bool, true, false, cond, ◌&&◌}
 use mathlib.Core.List.{List, [], ◌∷◌, ◌++◌, map}
 use lib.ListN.{length, take, drop, get_or, replicate, drop_of_length-le}
-use lib.Seq.{drop-cons, get_or-drop}
+use lib.Seq.{drop-cons}
 use types.Run.{OneOf}
 use denote.Enum.Declared.{tag_of}
 use Rattle.text.specs.declared.kinds.Refusal.{Refusal}
@@ -15,7 +16,7 @@ use Rattle.text.specs.declared.kinds.Refusal.TheVariants as refusal
 use Rattle.text.specs.Groups.{groups_from, part_of}
 use Rattle.text.specs.Text.{tail_of}
 use Rattle.text.proofs.Groups.{Follows}
-use Rattle.places.specs.Engine.{Group, Good, Bad, Fault}
+use Rattle.places.specs.Engine.{Group, Fault}
 use Rattle.record.specs.declared.surface.Site.{Site}
 use Rattle.record.specs.declared.surface.Surface.{Surface}
 use Rattle.record.specs.declared.surface.Synop.{Synop}
@@ -62,12 +63,12 @@ module _ (p : Name) (g : Group) (r : Synop) (x : Said) (is : x ≡ said_by p r.s
   says : (post_of p).read g r ≡ with_head x r
   says = says-post p g r ∙ rw is
 
-  post-bad : {f : Refusal} → x ≡ said.Refused f → (post_of p).read g r ≡ Bad f
+  post-bad : {f : Refusal} → x ≡ said.Refused f → (post_of p).read g r ≡ Err f
   unfolding with_head with_said
   post-bad e = says ∙ rw e
 
   post-good : {s : Site} {u : Surface} → OneOf right (tag_of saids.the_type x) → s ≡ site_onto x r.site → u ≡ said_onto x r.surface
-      → (post_of p).read g r ≡ Good (synop_of r.ship s u r.section3)
+      → (post_of p).read g r ≡ Ok (synop_of r.ship s u r.section3)
   unfolding with_head
   post-good told a b = says ∙ rw (added x told r.surface, a, b)
 
@@ -76,17 +77,6 @@ module _ (p : Name) (g : Group) (r : Synop) (x : Said) (is : x ≡ said_by p r.s
 pub few-posts : (ship : Bool) → length (named ship) ≤ 5
 few-posts false = omega arith
 few-posts true = omega arith
-
--- the last post, from its number on
-from_last : (i : ℕ) → name.Wind ≡ get_or (name.Wind ∷ []) i name.Wind
-from_last zero = refl
-from_last (suc i) = refl
-
-pub last-post : (ship : Bool) (n i : ℕ) → drop n (named ship) ≡ name.Wind ∷ [] → n ≤ i → name.Wind ≡ get_or (named ship) i name.Wind
-last-post ship n i e h =
-    let s : n + (i - n) ≡ i = omega arith in
-    from_last (i - n) ∙ ap (λ (l : List Name). get_or l (i - n) name.Wind) (sym e) ∙ get_or-drop n (named ship) (i - n) name.Wind
-    ∙ ap (λ (k : ℕ). get_or (named ship) k name.Wind) s
 
 -- ---- from post to post
 

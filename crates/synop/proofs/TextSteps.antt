@@ -1,13 +1,12 @@
 -- The laws of a reading as a whole: what follows NIL, and a ship's call sign.
 -- Assumes nothing.
+use Rattle.std.specs.Prelude.{None, Option, Some}
 use Prim.Native.Nat.{ℕ}
 use mathlib.Core.Path.{◌≡◌, refl, ap}
 use mathlib.Core.Bool.{Bool, true, false}
 use mathlib.Core.List.{List, [], ◌∷◌, map}
 use lib.ListN.{length}
 use Rattle.text.specs.declared.kinds.Refusal.TheVariants as refusal
-use Rattle.text.specs.declared.kinds.Tail.{Tail}
-use Rattle.text.specs.declared.kinds.Tail.TheVariants.{Clear, Junk}
 use Rattle.text.specs.Groups.{Piece, groups_from, part_of}
 use Rattle.text.specs.Text.{tail_of}
 use Rattle.text.proofs.Groups.{Follows}
@@ -22,21 +21,16 @@ use Rattle.synop.specs.Head.{named, post_of}
 
 -- ---- after NIL
 
-more-after : (x : Tail) (end : ℕ) (r : Synop) (g : Piece) (gs : List Piece) → Fault refusal.Shape g.start ≡ after_nil x end r (g ∷ gs)
-more-after (Junk at) end r g gs = refl
-more-after Clear end r g gs = refl
+more-after : (x : Option ℕ) (end : ℕ) (r : Synop) (g : Piece) (gs : List Piece) → Fault refusal.Shape g.start ≡ after_nil x end r (g ∷ gs)
+more-after (Some at) end r g gs = refl
+more-after None end r g gs = refl
 
 module _ (t : List ℕ) (at : ℕ) (r : Synop) where
   pub nil-then : (s e : ℕ) → Follows t at s e → refused refusal.Shape s ≡ answer (after_nil (tail_of t) (length t) r (groups_from t at))
   nil-then s e f = rw f.groups (ap answer (more-after (tail_of t) (length t) r (record { start = s; bytes = part_of t s e }) (groups_from t e)))
 
-  pub nil-over : (x : Tail) → groups_from t at ≡ [] → x ≡ tail_of t → answer (after_nil x (length t) r []) ≡ answer (after_nil (tail_of t) (length t) r (groups_from t at))
+  pub nil-over : (x : Option ℕ) → groups_from t at ≡ [] → x ≡ tail_of t → answer (after_nil x (length t) r []) ≡ answer (after_nil (tail_of t) (length t) r (groups_from t at))
   nil-over x none is = rw (none, is)
-
--- ---- the groups are over before a required one
-
-pub short-by : (end : ℕ) {x y z : Tail} → y ≡ x → y ≡ z → answer (cut_short x end) ≡ answer (cut_short z end)
-short-by end p q = rw (← p, q)
 
 -- ---- a ship's call sign comes before the groups known by position
 

@@ -1,16 +1,14 @@
 -- Reading a SYNOP or SHIP: "In SYNOP and SHIP the groups through Nddff are known by position alone (another shape: 4)"; the others are read against
 -- the row of section 1.
 -- Assumes nothing: these are definitions.
-use Rattle.std.specs.Prelude.{ℕ, ◌+◌, Bool, true, false, cond, ◌&&◌, ◌||◌, List, [], ◌∷◌, ◌++◌, length, take, replicate, leb}
+use Rattle.std.specs.Prelude.{ℕ, Bool, true, false, cond, ◌&&◌, ◌||◌, List, [], ◌∷◌, ◌++◌, length, take, replicate, leb, Err, None, Ok, Option, Result, Some}
+use Rattle.text.specs.declared.kinds.Refusal.{Refusal}
 use Rattle.figures.specs.Quote.{bytes}
 use Rattle.figures.specs.Figures.{is_figure, is_letter, every}
 use Rattle.text.specs.declared.kinds.Refusal.TheVariants as refusal
-use Rattle.text.specs.declared.kinds.Tail.{Tail}
-use Rattle.text.specs.declared.kinds.Tail.TheVariants.{Clear, Junk}
 use Rattle.text.specs.Groups.{Piece}
 use Rattle.shapes.specs.Pattern.{has_pattern}
-use Rattle.places.specs.Engine.{Group, Read, Good, Bad, Outcome, Done, Fault}
-use Rattle.record.specs.declared.values.Number.TheVariants as number
+use Rattle.places.specs.Engine.{Group, Outcome, Done, Fault}
 use Rattle.record.specs.declared.surface.CallSign.{CallSign}
 use Rattle.record.specs.declared.surface.Site.{Site}
 use Rattle.record.specs.declared.surface.Surface.{Surface}
@@ -30,19 +28,19 @@ use Rattle.synop_section.specs.Answer.{begun, section}
 pub record Post : Type 0 where
   pub has : Group → Bool
   pub nil : Bool
-  pub read : Group → Synop → Read Synop
+  pub read : Group → Synop → Result Synop Refusal
   pub show : Synop → Group
   pub put : Synop → Synop → Synop
 
-abbrev pub onto_surface : Synop → Read Surface → Read Synop
-onto_surface r (Good s) = Good (set_surface s r)
-onto_surface r (Bad f) = Bad f
+abbrev pub onto_surface : Synop → Result Surface Refusal → Result Synop Refusal
+onto_surface r (Ok s) = Ok (set_surface s r)
+onto_surface r (Err f) = Err f
 
 -- the site with what a group says of it
 abbrev pub site_onto : Said → Site → Site
 site_onto (said.Refused f) s = s
 site_onto (said.Time t) s = set_time t s
-site_onto (said.Station n) s = set_station (number.Is n) s
+site_onto (said.Station n) s = set_station (Some n) s
 site_onto (said.Position p) s = set_position p s
 site_onto (said.Indicators i) s = s
 site_onto (said.Wind w) s = s
@@ -59,7 +57,7 @@ site_onto (said.Clock c) s = s
 site_onto (said.Layer l) s = s
 
 -- the report with what a group says, or the group's refusal; what it says of the surface is added as in section 1
-unfoldable pub with_head : Said → Synop → Read Synop
+unfoldable pub with_head : Said → Synop → Result Synop Refusal
 with_head x r = onto_surface (set_site (site_onto x r.site) r) (with_said x r.surface)
 
 abbrev pub five : Group → Bool
@@ -82,7 +80,7 @@ sign_of g = record { letters = take 9 (g ++ replicate 9 0); length = length g }
 
 abbrev pub sign_post : Post
 sign_post =
-    record { has = is_call_sign; nil = false; read = λ g r. Good (set_site (set_sign (sign_of g) r.site) r); show = λ r. show_sign r.site.sign; put = λ r acc. set_site (set_sign r.site.sign acc.site) acc }
+    record { has = is_call_sign; nil = false; read = λ g r. Ok (set_site (set_sign (sign_of g) r.site) r); show = λ r. show_sign r.site.sign; put = λ r acc. set_site (set_sign r.site.sign acc.site) acc }
 
 abbrev pub latitude_post : Post
 latitude_post =
@@ -112,22 +110,22 @@ abbrev pub is_nil : Group → Bool
 is_nil g = has_pattern g (bytes "NIL")
 
 -- the text ends before a required group: what follows the "=" is refused first
-abbrev pub cut_short : Tail → ℕ → Outcome Synop
-cut_short (Junk at) end = Fault refusal.Shape at
-cut_short Clear end = Fault refusal.Absence end
+abbrev pub cut_short : Option ℕ → ℕ → Outcome Synop
+cut_short (Some at) end = Fault refusal.Shape at
+cut_short None end = Fault refusal.Absence end
 
 -- after NIL: "a group .. after NIL" is 4
-abbrev pub after_nil : Tail → ℕ → Synop → List Piece → Outcome Synop
-after_nil (Junk at) end r [] = Fault refusal.Shape at
-after_nil Clear end r [] = Done end (set_site (set_nil true r.site) r)
+abbrev pub after_nil : Option ℕ → ℕ → Synop → List Piece → Outcome Synop
+after_nil (Some at) end r [] = Fault refusal.Shape at
+after_nil None end r [] = Done end (set_site (set_nil true r.site) r)
 after_nil tail end r (g ∷ gs) = Fault refusal.Shape g.start
 
-abbrev pub onward : Read Synop → ℕ → (Synop → Outcome Synop) → Outcome Synop
-onward (Good r) at k = k r
-onward (Bad f) at k = Fault f at
+abbrev pub onward : Result Synop Refusal → ℕ → (Synop → Outcome Synop) → Outcome Synop
+onward (Ok r) at k = k r
+onward (Err f) at k = Fault f at
 
 -- the groups known by position, one after the other, then section 1
-unfoldable pub walk : List Post → Synop → Tail → ℕ → List Piece → Outcome Synop
+unfoldable pub walk : List Post → Synop → Option ℕ → ℕ → List Piece → Outcome Synop
 walk [] r tail end gs = section r tail end gs
 walk (p ∷ ps) r tail end [] = cut_short tail end
 walk (p ∷ ps) r tail end (g ∷ gs) =
@@ -135,5 +133,5 @@ walk (p ∷ ps) r tail end (g ∷ gs) =
     (cond (p.has g.bytes) (onward (p.read g.bytes r) g.start (λ r'. walk ps r' tail end gs)) (Fault refusal.Shape g.start))
 
 -- WHAT THE GROUPS OF A REPORT COME TO, those behind AAXX or, of a ship, BBXX; what follows the "=", and the text's length.
-unfoldable pub groups_read : Bool → Tail → ℕ → List Piece → Outcome Synop
+unfoldable pub groups_read : Bool → Option ℕ → ℕ → List Piece → Outcome Synop
 groups_read ship tail end gs = walk (posts ship) (begun ship) tail end gs

@@ -1,11 +1,9 @@
 -- Writing a SYNOP or SHIP: what the writer judges, the canonical text, and the record that it is read back as.
 -- Assumes nothing: these are definitions.
-use Rattle.std.specs.Prelude.{ℕ, ◌+◌, Bool, true, false, cond, not, ◌&&◌, ◌||◌, List, [], ◌∷◌, ◌++◌, length}
+use Rattle.std.specs.Prelude.{⊤, ℕ, Bool, cond, not, ◌&&◌, ◌||◌, List, [], ◌∷◌, ◌++◌, Err, Ok, Result}
+use Rattle.text.specs.declared.kinds.Refusal.{Refusal}
 use Rattle.figures.specs.Quote.{bytes}
 use Rattle.text.specs.declared.kinds.Refusal.TheVariants as refusal
-use Rattle.text.specs.declared.kinds.Judged.{Judged}
-use Rattle.text.specs.declared.kinds.Judged.TheVariants as judged
-use Rattle.text.specs.declared.kinds.Written.{Written}
 use Rattle.text.specs.Judge.{and_then}
 use Rattle.text.specs.Write.{answer_by, buffer_by}
 use Rattle.text.specs.Groups.{join}
@@ -31,15 +29,15 @@ foreign_blank r =
 
 -- ---- "The writer judges foreign fields first, then the others in written order, 11 before 7 at each"
 
-abbrev pub foreign : Synop → Judged
-foreign r = cond (foreign_blank r) judged.Fine (judged.Refused refusal.Value)
+abbrev pub foreign : Synop → Result ⊤ Refusal
+foreign r = cond (foreign_blank r) (Ok tt) (Err refusal.Value)
 
-unfoldable pub judge_site : Synop → Judged
+unfoldable pub judge_site : Synop → Result ⊤ Refusal
 judge_site r =
     cond r.ship (and_then (judge_sign r.site.sign) (and_then (judge_time r.site.time) (judge_position r.site.position)))
     (and_then (judge_time r.site.time) (judge_station r.site.station))
 
-unfoldable pub judge_section : Needs → Surface → Judged
+unfoldable pub judge_section : Needs → Surface → Result ⊤ Refusal
 judge_section n s =
     and_then (judge_air s.air)
     (and_then (judge_moisture s.moisture)
@@ -49,13 +47,13 @@ judge_section n s =
     (and_then (judge_rainfall (not n.rain) s.rainfall)
     (and_then (judge_weather (not n.weather) s.weather) (and_then (judge_clouds s.clouds) (judge_clock s.clock))))))))
 
-unfoldable pub judge_surface : Surface → Judged
+unfoldable pub judge_surface : Surface → Result ⊤ Refusal
 judge_surface s = and_then (judge_indicators s.indicators) (and_then (judge_wind s.wind) (judge_section (needs_of s) s))
 
-unfoldable pub judge_of : Synop → Judged
+unfoldable pub judge_of : Synop → Result ⊤ Refusal
 judge_of r =
     and_then (foreign r)
-    (and_then (judge_site r) (cond r.site.nil judged.Fine (and_then (judge_surface r.surface) (judge_section3 r.section3))))
+    (and_then (judge_site r) (cond r.site.nil (Ok tt) (and_then (judge_surface r.surface) (judge_section3 r.section3))))
 
 -- ---- THE CANONICAL TEXT OF A RECORD
 
@@ -100,7 +98,7 @@ classed_of r =
 
 -- ---- the writer's answer, and the lent buffer afterwards
 
-unfoldable pub written_of : Synop → ℕ → Written
+unfoldable pub written_of : Synop → ℕ → Result ℕ Refusal
 written_of r room = answer_by (judge_of r) (canonical_of r) room
 
 unfoldable pub buffer_of : Synop → List ℕ → List ℕ

@@ -1,5 +1,5 @@
 // The groups of a SYNOP or SHIP that are known by their position alone: which post each stands at, its shape, and what it says.
-ghost use Rattle.std.specs.Prelude.{◌≡◌, ◌&&◌, get_or, length};
+ghost use Rattle.std.specs.Prelude.{◌≡◌, ◌&&◌, get_or, length, Some};
 ghost use Rattle.record.specs.Set.{set_station};
 ghost use Rattle.synop.specs.Read.{is_call_sign, sign_of, site_onto, is_nil};
 ghost use Rattle.synop.specs.Head.{named, post_of, said_by};
@@ -7,7 +7,6 @@ ghost use Rattle.synop.specs.Head.{named, post_of, said_by};
 use crate::kinds::Post;
 use figures::byte_at;
 use record::surface::{CallSign, Position, Site};
-use record::values::Number;
 use shapes::has_pattern;
 use synop_groups::kinds::Said;
 use synop_groups::read;
@@ -91,13 +90,13 @@ pub fn is_nil(post: Post, g: &[u8]) -> bool
 }
 
 fn with_station(n: u32, s: Site) -> Site
-    ensures { result ≡ set_station (Number.Is n) s }
+    ensures { result ≡ set_station (Some n) s }
 {
     let sign = s.sign;
     let position = s.position;
     let time = s.time;
     Site {
-        station: Number::Is(n),
+        station: Some(n),
         sign,
         position,
         time,

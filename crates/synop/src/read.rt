@@ -11,7 +11,7 @@ use record::surface::{Section3, Site, Surface, Synop};
 use synop_groups::kinds::Said;
 use synop_section::kinds::Reading;
 use synop_section::{answer, section};
-use text::kinds::{Cut, Refusal, Tail};
+use text::kinds::{Cut, Refusal};
 
 // After NIL only what may follow an "=" is left.
 fn read_nil(text: &[u8], at: usize, report: Synop) -> Reading
@@ -23,8 +23,8 @@ fn read_nil(text: &[u8], at: usize, report: Synop) -> Reading
         Cut::End { at: _ } => {
             let tail = text::tail(text);
             match tail {
-                Tail::Junk(place) => answer::refuse(Refusal::Shape, place),
-                Tail::Clear => {
+                Some(place) => answer::refuse(Refusal::Shape, place),
+                None => {
                     let mut site = report.site;
                     site.nil = true;
                     let mut r = report;
@@ -42,8 +42,8 @@ fn end_short(text: &[u8]) -> Reading
 {
     let tail = text::tail(text);
     match tail {
-        Tail::Junk(place) => answer::refuse(Refusal::Shape, place),
-        Tail::Clear => answer::refuse(Refusal::Absence, text.len()),
+        Some(place) => answer::refuse(Refusal::Shape, place),
+        None => answer::refuse(Refusal::Absence, text.len()),
     }
 }
 

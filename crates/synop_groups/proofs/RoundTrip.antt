@@ -1,5 +1,6 @@
 -- The round trip of section 1 after Nddff, group by group: what the writer judges fine and writes has its shape, and is read back as it was.
 -- Assumes nothing.
+use Rattle.std.specs.Prelude.{None, Ok, Option, Some}
 use mathlib.Core.Path.{◌≡◌, refl, ap, ◌∙◌}
 use mathlib.Core.Bool.{Bool, true, false, cond, not, ◌&&◌, ◌||◌, or-true, false≢true}
 use mathlib.Core.List.{List, [], ◌∷◌, ◌++◌}
@@ -16,7 +17,6 @@ use Rattle.figures.specs.Signed.{negative, with_sign}
 use Rattle.figures.proofs.Signs.{with-sign}
 use Rattle.shapes.specs.Pattern.{Pattern, has_pattern, has_any}
 use Rattle.shapes.proofs.Patterns.{both, or_cases, or_right}
-use Rattle.scales.specs.declared.kinds.Tenths.TheVariants as tenths
 use Rattle.scales.specs.Degrees.{signed_reading}
 use Rattle.scales.specs.declared.kinds.Rain.{Rain}
 use Rattle.scales.specs.Rounded.{rain_fits, rain_figure, rain_reading}
@@ -24,10 +24,6 @@ use Rattle.scales.specs.Fields.{field_by}
 use Rattle.scales.proofs.Laws.{reached}
 use Rattle.scales.proofs.DegreesLaws.{signed-exact}
 use Rattle.scales.proofs.RainLaws.{rain-written, rain-rounds, rain-again, rain-classed}
-use Rattle.record.specs.declared.values.Number.{Number}
-use Rattle.record.specs.declared.values.Number.TheVariants as number
-use Rattle.record.specs.declared.values.Tenths.{Tenths as Signed}
-use Rattle.record.specs.declared.values.Tenths.TheVariants as signed
 use Rattle.record.specs.declared.values.Direction.{Direction}
 use Rattle.record.specs.declared.values.Direction.TheVariants as direction
 use Rattle.record.specs.declared.values.Speed.{Speed}
@@ -42,27 +38,24 @@ use Rattle.record.specs.declared.surface.AtLevel.{AtLevel}
 use Rattle.record.specs.declared.surface.AtLevel.TheVariants as at_level
 use Rattle.record.specs.declared.surface.Level.{Level}
 use Rattle.record.specs.declared.surface.PressureChange.{PressureChange}
-use Rattle.record.specs.declared.surface.PressureChange.TheVariants as change
 use Rattle.record.specs.declared.surface.Tendency.{Tendency}
 use Rattle.record.specs.declared.surface.Fall.{Fall}
-use Rattle.record.specs.declared.surface.Fall.TheVariants as fall
 use Rattle.record.specs.declared.surface.Rainfall.{Rainfall}
 use Rattle.record.specs.declared.surface.Weather.{Weather}
 use Rattle.record.specs.declared.surface.Clouds.{Clouds}
 use Rattle.record.specs.declared.surface.Observed.{Observed}
-use Rattle.record.specs.declared.surface.Observed.TheVariants as observed
 use Rattle.record.specs.declared.surface.Clock.{Clock}
 use Rattle.record.specs.Blank.{blank_surface}
 use Rattle.synop_groups.specs.declared.kinds.Said.{Said}
 use Rattle.synop_groups.specs.declared.kinds.Said.TheVariants as said
-use Rattle.text.specs.declared.kinds.Judged.TheVariants as judged
 use Rattle.text.specs.Judge.{judge}
 use Rattle.text.proofs.Judging.{fine}
 use Rattle.synop_groups.specs.Reads.{Group, wrong, may_miss, used_rain, speed_is, said_speed, pressure_of, is_level, air_is, said_air, moisture_is, said_moisture, said_pressure, level_is, said_level, tendency_is, said_tendency, said_rainfall, said_weather, said_clouds, clock_is, said_clock}
 use Rattle.synop_groups.specs.Shows.{moisture_spoken, field_of, is_in_three, speed_group, show_speed, sign_text, signed_group, show_air, show_minimum, minimum_spoken, moist_group, show_moisture, pressure_group, show_pressure, level_group, show_level, tendency_group, show_tendency, rainfall_group, show_rainfall, weather_text, show_weather, clouds_text, show_clouds, clock_group, show_clock}
-use Rattle.record.specs.Missing.{between, optional}
-use Rattle.record.specs.SilentSurface.{no_weather, no_clouds, no_fall}
+use Rattle.record.specs.Missing.{is_missing, between, optional}
+use Rattle.record.specs.SilentSurface.{no_weather, no_clouds}
 use Rattle.record.proofs.SurfaceBlanks.{weather-blank, clouds-blank}
+use Rattle.record.specs.Values.{change_of, fall_of}
 use Rattle.synop_groups.specs.Judge.{wind_fits, judge_wind, tenths_fit, judge_air, moist_fits, judge_moisture, judge_pressure, level_fits, judge_level, change_fits, change_agrees, judge_tendency, fall_fits, judge_rainfall, judge_weather, judge_clouds, clock_fits, judge_clock}
 use Rattle.synop_groups.specs.Classes.{class_fall, class_rainfall, speed_in_two}
 use Rattle.synop_groups.proofs.RoundTripParts.{figures-join, at, Laid, parts}
@@ -99,7 +92,7 @@ speed-small direction.Variable s f = leb-true s 999 f
 speed-small (direction.Degrees d) s f = leb-true s 999 (both (leb d 359) (leb s 999) f).1
 
 -- The speed is what Nddff left of it, or 00fff says it.
-pub speed-back : (w : Wind) → judge_wind w ≡ judged.Fine
+pub speed-back : (w : Wind) → judge_wind w ≡ Ok tt
     → Back (bytes "00###") (is_in_three w.speed) (said_speed (is_in_three w.speed)) meant_speed (speed_in_two w.speed) w.speed (show_speed w)
 unfolding show_speed said_speed speed_is field_text number_text
 speed-back w e = go w.direction w.speed (wind-fine w e).1
@@ -147,28 +140,28 @@ sign_small (negsuc n) h = omega arith
 
 -- the field of a sign and three figures is read as they were
 signed-field : (t : ℤ) → nat_abs t ≤ 999
-    → signed_reading ((sign_figure t * 1000 + nat_abs t) / 1000) ((sign_figure t * 1000 + nat_abs t) % 1000) ≡ tenths.Is t
+    → signed_reading ((sign_figure t * 1000 + nat_abs t) / 1000) ((sign_figure t * 1000 + nat_abs t) % 1000) ≡ Some t
 signed-field t h = let d = split (sign_figure t) (nat_abs t) h in rw (d.0, d.1) (signed-exact t h)
 
 -- a temperature after any first figure x
-signed_back : (x : ℕ) → is_figure x ≡ true → (a : Air) → judge_air a ≡ judged.Fine
+signed_back : (x : ℕ) → is_figure x ≡ true → (a : Air) → judge_air a ≡ Ok tt
     → Back (x ∷ bytes "####") false said_air said.Air blank_surface.air a (signed_group x a.temperature)
 unfolding judge_air said_air air_is
 signed_back x f a e = go a.temperature e
   where
-    go : (t : Signed) → judge (tenths_fit t) true ≡ judged.Fine → Back (x ∷ bytes "####") false said_air said.Air blank_surface.air (record { temperature = t }) (signed_group x t)
-    go signed.Missing e = none refl refl
-    go (signed.Is t) e =
+    go : (t : Option ℤ) → judge (tenths_fit t) true ≡ Ok tt → Back (x ∷ bytes "####") false said_air said.Air blank_surface.air (record { temperature = t }) (signed_group x t)
+    go None e = none refl refl
+    go (Some t) e =
         let h = leb-true (nat_abs t) 999 (fine _ true e).0 in
-        four-back said.Air blank_surface.air (record { temperature = signed.Is t }) (said.Air blank_surface.air) air_is x
+        four-back said.Air blank_surface.air (record { temperature = Some t }) (said.Air blank_surface.air) air_is x
         (sign_figure t * 1000 + nat_abs t) (sign_text t) f (sign_small t h) (sign_text_lem t h) (rw (signed-field t h))
 
-pub air-back : (a : Air) → judge_air a ≡ judged.Fine → Back (bytes "1####") false said_air said.Air blank_surface.air a (show_air a)
+pub air-back : (a : Air) → judge_air a ≡ Ok tt → Back (bytes "1####") false said_air said.Air blank_surface.air a (show_air a)
 unfolding show_air
 air-back = signed_back 49 refl
 
 -- in section 3 the minimum too
-pub minimum-back : (a : Air) → judge_air a ≡ judged.Fine → Back (bytes "2####") false said_air said.Air blank_surface.air a (show_minimum a)
+pub minimum-back : (a : Air) → judge_air a ≡ Ok tt → Back (bytes "2####") false said_air said.Air blank_surface.air a (show_minimum a)
 unfolding show_minimum
 minimum-back = signed_back 50 refl
 
@@ -186,7 +179,7 @@ humidity-read : (u : ℕ) → u ≤ 100 → moisture_is (9 * 1000 + u) ≡ said.
 unfolding moisture_is
 humidity-read u h = let d = split 9 u (omega arith) in rw (d.0, d.1, le-leb u 100 h)
 
-pub moisture-back : (m : Moisture) → judge_moisture m ≡ judged.Fine
+pub moisture-back : (m : Moisture) → judge_moisture m ≡ Ok tt
     → Back (bytes "2####") false said_moisture said.Moisture blank_surface.moisture m (show_moisture m)
 unfolding judge_moisture show_moisture said_moisture figures
 moisture-back m e = go m.is e
@@ -194,7 +187,7 @@ moisture-back m e = go m.is e
     absent : Said
     absent = said.Moisture blank_surface.moisture
 
-    go : (w : Moist) → judge (moist_fits w) true ≡ judged.Fine
+    go : (w : Moist) → judge (moist_fits w) true ≡ Ok tt
         → Back (bytes "2####") false said_moisture said.Moisture blank_surface.moisture (record { is = w }) (moist_group w)
     go moist.Missing e = none refl refl
     go (moist.DewPoint t) e =
@@ -217,16 +210,16 @@ after : (x : List ℕ) (n : ℕ) → every is_figure x ≡ true → n ≤ 999 �
 unfolding field_text number_text
 after x n f h = (parts x (at 3 (field.Number n) ∷ []) f refl (omega arith, tt)).shaped
 
-pub minimum-covered : (a : Air) → judge_air a ≡ judged.Fine → Each (λ g. has_any minimum_spoken g ≡ true) (show_minimum a)
+pub minimum-covered : (a : Air) → judge_air a ≡ Ok tt → Each (λ g. has_any minimum_spoken g ≡ true) (show_minimum a)
 unfolding judge_air show_minimum
 minimum-covered a e = go a.temperature (fine (tenths_fit a.temperature) true e).0
   where
-    go : (t : Signed) → tenths_fit t ≡ true → Each (λ g. has_any minimum_spoken g ≡ true) (signed_group 50 t)
-    go signed.Missing e = tt
-    go (signed.Is (pos n)) e = (any _ _ [] (bytes "21###" ∷ []) (after (bytes "20") n refl (leb-true n 999 e)), tt)
-    go (signed.Is (negsuc n)) e = (any _ _ (bytes "20###" ∷ []) [] (after (bytes "21") (suc n) refl (leb-true (suc n) 999 e)), tt)
+    go : (t : Option ℤ) → tenths_fit t ≡ true → Each (λ g. has_any minimum_spoken g ≡ true) (signed_group 50 t)
+    go None e = tt
+    go (Some (pos n)) e = (any _ _ [] (bytes "21###" ∷ []) (after (bytes "20") n refl (leb-true n 999 e)), tt)
+    go (Some (negsuc n)) e = (any _ _ (bytes "20###" ∷ []) [] (after (bytes "21") (suc n) refl (leb-true (suc n) 999 e)), tt)
 
-pub moisture-covered : (m : Moisture) → judge_moisture m ≡ judged.Fine → Each (λ g. has_any moisture_spoken g ≡ true) (show_moisture m)
+pub moisture-covered : (m : Moisture) → judge_moisture m ≡ Ok tt → Each (λ g. has_any moisture_spoken g ≡ true) (show_moisture m)
 unfolding judge_moisture show_moisture
 moisture-covered m e = go m.is (fine (moist_fits m.is) true e).0
   where
@@ -253,18 +246,18 @@ pressure-read p low high = go (leb p 9999) refl
         let h = leb-false p 9999 e in
         rw (le-leb (p % 10000) 999 (omega arith)) (omega arith)
 
-pub pressure-back : (p : Pressure) → judge_pressure p ≡ judged.Fine
+pub pressure-back : (p : Pressure) → judge_pressure p ≡ Ok tt
     → Back (bytes "3####") false said_pressure said.Pressure blank_surface.pressure p (show_pressure p)
 unfolding judge_pressure show_pressure said_pressure
 pressure-back p e = go p.station e
   where
-    go : (n : Number) → judge (optional (between 1000 10999) n) true ≡ judged.Fine
+    go : (n : Option ℕ) → judge (optional (between 1000 10999) n) true ≡ Ok tt
         → Back (bytes "3####") false said_pressure said.Pressure blank_surface.pressure (record { station = n }) (pressure_group n)
-    go number.Missing e = none refl refl
-    go (number.Is n) e =
+    go None e = none refl refl
+    go (Some n) e =
         let r = in-range 1000 10999 n (fine _ true e).0 in
-        four-back said.Pressure blank_surface.pressure (record { station = number.Is n }) (said.Pressure blank_surface.pressure)
-        (λ k. said.Pressure (record { station = number.Is (pressure_of k) })) 51
+        four-back said.Pressure blank_surface.pressure (record { station = Some n }) (said.Pressure blank_surface.pressure)
+        (λ k. said.Pressure (record { station = Some (pressure_of k) })) 51
         (n % 10000) (figures 4 (n % 10000)) refl (omega arith) refl (rw (pressure-read n r.0 r.1))
 
 -- ---- 4PPPP, 4ahhh
@@ -290,11 +283,11 @@ surface-read a h e s =
     let d = split a h s in
     rw (lt-leb (a * 1000 + h) 999 (omega arith), lt-leb 9000 (a * 1000 + h) (omega arith), d.0, d.1, e)
 
-pub level-back : (l : Level) → judge_level l ≡ judged.Fine → Back (bytes "4####") false said_level said.Level blank_surface.level l (show_level l)
+pub level-back : (l : Level) → judge_level l ≡ Ok tt → Back (bytes "4####") false said_level said.Level blank_surface.level l (show_level l)
 unfolding judge_level show_level said_level
 level-back l e = go l.is e
   where
-    go : (h : AtLevel) → judge (level_fits h) true ≡ judged.Fine
+    go : (h : AtLevel) → judge (level_fits h) true ≡ Ok tt
         → Back (bytes "4####") false said_level said.Level blank_surface.level (record { is = h }) (level_group h)
     go at_level.Missing e = none refl refl
     go (at_level.Pressure p) e =
@@ -319,13 +312,13 @@ sign-given s c h = ⊎_elim (λ e. rw (← e) (with-sign c)) (λ z. nothing s c 
     nothing false (pos n) z = refl
     nothing s (negsuc n) z = absurd (omega arith)
 
-change-read : (a : ℕ) (c : ℤ) → a ≤ 8 → change_agrees (change.Is a c) ≡ true → tendency_is a (nat_abs c) ≡ said.Tendency (record { is = change.Is a c })
+change-read : (a : ℕ) (c : ℤ) → a ≤ 8 → change_agrees (Some (change_of a c)) ≡ true → tendency_is a (nat_abs c) ≡ said.Tendency (record { is = Some (change_of a c) })
 unfolding tendency_is
 change-read a c eight e = rw (le-ltb 8 a eight) (go (ltb a 4) (eqb a 4) refl refl)
   where
     go : (rise level : Bool) → ltb a 4 ≡ rise → eqb a 4 ≡ level
-        → cond (eqb a 4 && not (eqb (nat_abs c) 0)) wrong (said.Tendency (record { is = change.Is a (with_sign (ltb 4 a) (nat_abs c)) }))
-        ≡ said.Tendency (record { is = change.Is a c })
+        → cond (eqb a 4 && not (eqb (nat_abs c) 0)) wrong (said.Tendency (record { is = Some (change_of a (with_sign (ltb 4 a) (nat_abs c))) }))
+        ≡ said.Tendency (record { is = Some (change_of a c) })
     go true level r l =
         let h = ltb-true a 4 r in
         rw (ne_eqb a 4 (λ q. omega arith), le-ltb 4 a (omega arith), sign-given false c (inl (not-true (negative c) (rw r at e))))
@@ -341,30 +334,30 @@ change-read a c eight e = rw (le-ltb 8 a eight) (go (ltb a 4) (eqb a 4) refl ref
           sign-given true c (or_cases (negative c) (eqb (nat_abs c) 0) (rw (r, l) at e) (λ q. inl q) (λ q. inr (eqb-true (nat_abs c) 0 q))),
         )
 
-pub tendency-back : (t : Tendency) → judge_tendency t ≡ judged.Fine
+pub tendency-back : (t : Tendency) → judge_tendency t ≡ Ok tt
     → Back (bytes "5####") false said_tendency said.Tendency blank_surface.tendency t (show_tendency t)
 unfolding judge_tendency show_tendency said_tendency
 tendency-back t e = go t.is e
   where
-    go : (x : PressureChange) → judge (change_fits x) (change_agrees x) ≡ judged.Fine
+    go : (x : Option PressureChange) → judge (change_fits x) (change_agrees x) ≡ Ok tt
         → Back (bytes "5####") false said_tendency said.Tendency blank_surface.tendency (record { is = x }) (tendency_group x)
-    go change.Missing e = none refl refl
-    go (change.Is a c) e =
-        let f = fine (change_fits (change.Is a c)) (change_agrees (change.Is a c)) e in
-        let t = both (leb a 8) (leb (nat_abs c) 999) f.0 in
-        let eight = leb-true a 8 t.0 in
-        let small = leb-true (nat_abs c) 999 t.1 in
-        let d = split a (nat_abs c) small in
-        four-back said.Tendency blank_surface.tendency (record { is = change.Is a c }) (said.Tendency blank_surface.tendency)
+    go None e = none refl refl
+    go (Some x) e =
+        let f = fine (change_fits (Some (change_of x.tendency x.change))) (change_agrees (Some (change_of x.tendency x.change))) e in
+        let t = both (leb x.tendency 8) (leb (nat_abs x.change) 999) f.0 in
+        let eight = leb-true x.tendency 8 t.0 in
+        let small = leb-true (nat_abs x.change) 999 t.1 in
+        let d = split x.tendency (nat_abs x.change) small in
+        four-back said.Tendency blank_surface.tendency (record { is = Some (change_of x.tendency x.change) }) (said.Tendency blank_surface.tendency)
         (λ n. tendency_is (n / 1000) (n % 1000)) 53
-        (a * 1000 + nat_abs c) (figures 1 a ++ figures 3 (nat_abs c)) refl (omega arith) (figures-join 1 3 a (nat_abs c) (omega arith))
-        (rw (d.0, d.1) (change-read a c eight f.1))
+        (x.tendency * 1000 + nat_abs x.change) (figures 1 x.tendency ++ figures 3 (nat_abs x.change)) refl (omega arith) (figures-join 1 3 x.tendency (nat_abs x.change) (omega arith))
+        (rw (d.0, d.1) (change-read x.tendency x.change eight f.1))
 
 -- ---- 6RRRt
 
 -- an amount and its period
-fall-back : (r : Rain) (t : Number) → fall_fits (fall.Is r t) ≡ true
-    → Back (bytes "6####") true (said_rainfall false) said.Rainfall blank_surface.rainfall (record { is = class_fall (fall.Is r t) }) (rainfall_group true (fall.Is r t))
+fall-back : (r : Rain) (t : Option ℕ) → fall_fits (Some (fall_of r t)) ≡ true
+    → Back (bytes "6####") true (said_rainfall false) said.Rainfall blank_surface.rainfall (record { is = class_fall (Some (fall_of r t)) }) (rainfall_group true (Some (fall_of r t)))
 unfolding said_rainfall
 fall-back r t e =
     let s = both (rain_fits r) (one_figure t) e in
@@ -374,39 +367,39 @@ fall-back r t e =
     (rw w.1 (omega (arith, w.2)), (one-fits t s.1, tt)) in
     one l.shaped
     (rw (l.holds.0 ∙ ap field_by w.1)
-    (part-is _ t (λ n. used_rain (rain_reading w.0) (λ a. said.Rainfall (record { is = fall.Is a n }))) l.holds.1.0
+    (part-is _ t (λ n. used_rain (rain_reading w.0) (λ a. said.Rainfall (record { is = Some (fall_of a n) }))) l.holds.1.0
     ∙ rw (rain-rounds.back r w.0 w.1)))
 
 -- required or forbidden by iR
-pub rainfall-back : (required : Bool) (r : Rainfall) → judge_rainfall (not required) r ≡ judged.Fine
+pub rainfall-back : (required : Bool) (r : Rainfall) → judge_rainfall (not required) r ≡ Ok tt
     → Back (bytes "6####") required (said_rainfall (not required)) said.Rainfall blank_surface.rainfall (class_rainfall r) (show_rainfall required r)
 unfolding judge_rainfall show_rainfall said_rainfall field_text slashes
-rainfall-back required r e = go required r.is (fine (fall_fits r.is) (not (not required) || no_fall r.is) e)
+rainfall-back required r e = go required r.is (fine (fall_fits r.is) (not (not required) || is_missing r.is) e)
   where
-    go : (required : Bool) (f : Fall) → (fall_fits f ≡ true) × ((not (not required) || no_fall f) ≡ true)
+    go : (required : Bool) (f : Option Fall) → (fall_fits f ≡ true) × ((not (not required) || is_missing f) ≡ true)
         → Back (bytes "6####") required (said_rainfall (not required)) said.Rainfall blank_surface.rainfall (record { is = class_fall f }) (rainfall_group required f)
-    go true fall.Missing t =
+    go true None t =
         let l = parts (bytes "6") (at 3 field.Missing ∷ at 1 field.Missing ∷ []) refl refl (tt, (tt, tt)) in
         one l.shaped (rw (l.holds.0, l.holds.1.0))
-    go false fall.Missing t = none refl refl
-    go true (fall.Is a p) t = fall-back a p t.0
-    go false (fall.Is a p) t = absurd (false≢true t.1)
+    go false None t = none refl refl
+    go true (Some x) t = fall-back x.amount x.period t.0
+    go false (Some x) t = absurd (false≢true t.1)
 
 -- written again
-fall-again : (f : Fall) → fall_fits f ≡ true → (fall_fits (class_fall f) ≡ true) × (no_fall (class_fall f) ≡ no_fall f) × ((required : Bool) → rainfall_group required (class_fall f) ≡ rainfall_group required f)
-fall-again fall.Missing e = (refl, refl, λ required. refl)
-fall-again (fall.Is r t) e =
-    let s = both (rain_fits r) (one_figure t) e in
-    (rw (rain-classed r s.0, s.1), refl, λ required. rw (rain-again r s.0))
+fall-again : (f : Option Fall) → fall_fits f ≡ true → (fall_fits (class_fall f) ≡ true) × (is_missing (class_fall f) ≡ is_missing f) × ((required : Bool) → rainfall_group required (class_fall f) ≡ rainfall_group required f)
+fall-again None e = (refl, refl, λ required. refl)
+fall-again (Some x) e =
+    let s = both (rain_fits x.amount) (one_figure x.period) e in
+    (rw (rain-classed x.amount s.0, s.1), refl, λ required. rw (rain-again x.amount s.0))
 
-pub rainfall-again : (required forbidden : Bool) (r : Rainfall) → judge_rainfall forbidden r ≡ judged.Fine → show_rainfall required (class_rainfall r) ≡ show_rainfall required r
+pub rainfall-again : (required forbidden : Bool) (r : Rainfall) → judge_rainfall forbidden r ≡ Ok tt → show_rainfall required (class_rainfall r) ≡ show_rainfall required r
 unfolding judge_rainfall show_rainfall
-rainfall-again required forbidden r e = (fall-again r.is (fine (fall_fits r.is) (not forbidden || no_fall r.is) e).0).2 required
+rainfall-again required forbidden r e = (fall-again r.is (fine (fall_fits r.is) (not forbidden || is_missing r.is) e).0).2 required
 
-pub rainfall-classed : (forbidden : Bool) (r : Rainfall) → judge_rainfall forbidden r ≡ judged.Fine → judge_rainfall forbidden (class_rainfall r) ≡ judged.Fine
+pub rainfall-classed : (forbidden : Bool) (r : Rainfall) → judge_rainfall forbidden r ≡ Ok tt → judge_rainfall forbidden (class_rainfall r) ≡ Ok tt
 unfolding judge_rainfall
 rainfall-classed forbidden r e =
-    let f = fine (fall_fits r.is) (not forbidden || no_fall r.is) e in
+    let f = fine (fall_fits r.is) (not forbidden || is_missing r.is) e in
     let a = fall-again r.is f.0 in
     rw (a.0, a.1, f.1)
 
@@ -415,7 +408,7 @@ rainfall-classed forbidden r e =
 abbrev weather_in : Weather → List Slot
 weather_in w = slot 2 w.present ∷ slot 1 w.past ∷ slot 1 w.past2 ∷ []
 
-weather-laid : (forbidden : Bool) (w : Weather) → judge_weather forbidden w ≡ judged.Fine → Laid (bytes "7####") 1 (parts_of (weather_in w)) (weather_text w)
+weather-laid : (forbidden : Bool) (w : Weather) → judge_weather forbidden w ≡ Ok tt → Laid (bytes "7####") 1 (parts_of (weather_in w)) (weather_text w)
 unfolding judge_weather weather_text
 weather-laid forbidden w e =
     let ok = (fine _ (not forbidden || no_weather w) e).0 in
@@ -424,7 +417,7 @@ weather-laid forbidden w e =
     parts (bytes "7") (parts_of (weather_in w)) refl refl
     (optional-fits 2 99 w.present (omega arith) s.0, (one-fits w.past s.1, (one-fits w.past2 t.1, tt)))
 
-abbrev weather_of : List Number → Said
+abbrev weather_of : List (Option ℕ) → Said
 weather_of ns = said.Weather (record { present = nth 0 ns; past = nth 1 ns; past2 = nth 2 ns })
 
 either : (b : Bool) (gs : List Group) → cond b gs gs ≡ gs
@@ -432,7 +425,7 @@ either true gs = refl
 either false gs = refl
 
 -- required or forbidden by ix
-pub weather-back : (required : Bool) (w : Weather) → judge_weather (not required) w ≡ judged.Fine
+pub weather-back : (required : Bool) (w : Weather) → judge_weather (not required) w ≡ Ok tt
     → Back (bytes "7####") required (said_weather (not required)) said.Weather blank_surface.weather w (show_weather required w)
 unfolding judge_weather show_weather said_weather
 weather-back true w e =
@@ -444,18 +437,18 @@ weather-back false w e =
 
 -- ---- 9GGgg
 
-pub clock-back : (c : Clock) → judge_clock c ≡ judged.Fine → Back (bytes "9####") false said_clock said.Clock blank_surface.clock c (show_clock c)
+pub clock-back : (c : Clock) → judge_clock c ≡ Ok tt → Back (bytes "9####") false said_clock said.Clock blank_surface.clock c (show_clock c)
 unfolding judge_clock show_clock said_clock clock_is field_text number_text
 clock-back c e = go c.is e
   where
-    go : (o : Observed) → judge (clock_fits o) true ≡ judged.Fine
+    go : (o : Option Observed) → judge (clock_fits o) true ≡ Ok tt
         → Back (bytes "9####") false said_clock said.Clock blank_surface.clock (record { is = o }) (clock_group o)
-    go observed.Missing e = none refl refl
-    go (observed.At h m) e =
-        let t = both (leb h 23) (leb m 59) (fine _ true e).0 in
-        let hour = leb-true h 23 t.0 in
-        let minute = leb-true m 59 t.1 in
-        let l = parts (bytes "9") (at 2 (field.Number h) ∷ at 2 (field.Number m) ∷ []) refl refl (omega arith, (omega arith, tt)) in
+    go None e = none refl refl
+    go (Some x) e =
+        let t = both (leb x.hour 23) (leb x.minute 59) (fine _ true e).0 in
+        let hour = leb-true x.hour 23 t.0 in
+        let minute = leb-true x.minute 59 t.1 in
+        let l = parts (bytes "9") (at 2 (field.Number x.hour) ∷ at 2 (field.Number x.minute) ∷ []) refl refl (omega arith, (omega arith, tt)) in
         one l.shaped (rw (l.holds.0, l.holds.1.0, t.0, t.1))
 
 -- ---- 8NCCC
@@ -463,10 +456,10 @@ clock-back c e = go c.is e
 abbrev clouds_in : Clouds → List Slot
 clouds_in c = slot 1 c.amount ∷ slot 1 c.low ∷ slot 1 c.middle ∷ slot 1 c.high ∷ []
 
-abbrev clouds_of : List Number → Said
+abbrev clouds_of : List (Option ℕ) → Said
 clouds_of ns = said.Clouds (record { amount = nth 0 ns; low = nth 1 ns; middle = nth 2 ns; high = nth 3 ns })
 
-clouds-laid : (c : Clouds) → judge_clouds c ≡ judged.Fine → Laid (bytes "8####") 1 (parts_of (clouds_in c)) (clouds_text c)
+clouds-laid : (c : Clouds) → judge_clouds c ≡ Ok tt → Laid (bytes "8####") 1 (parts_of (clouds_in c)) (clouds_text c)
 unfolding judge_clouds clouds_text
 clouds-laid c e =
     let t = both (one_figure c.amount && one_figure c.low && one_figure c.middle) (one_figure c.high) (fine _ true e).0 in
@@ -475,7 +468,7 @@ clouds-laid c e =
     parts (bytes "8") (parts_of (clouds_in c)) refl refl
     (one-fits c.amount r.0, (one-fits c.low r.1, (one-fits c.middle s.1, (one-fits c.high t.1, tt))))
 
-pub clouds-back : (c : Clouds) → judge_clouds c ≡ judged.Fine → Back (bytes "8####") false said_clouds said.Clouds blank_surface.clouds c (show_clouds c)
+pub clouds-back : (c : Clouds) → judge_clouds c ≡ Ok tt → Back (bytes "8####") false said_clouds said.Clouds blank_surface.clouds c (show_clouds c)
 unfolding show_clouds said_clouds
 clouds-back c e = go (no_clouds c) refl
   where

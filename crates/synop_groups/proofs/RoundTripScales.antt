@@ -1,9 +1,9 @@
 -- The rounded parts of SYNOP and SHIP: h and VV. What is in range has a figure of its width, the figure is read as the class, and the class
 -- is written as the same figure.
 -- Assumes nothing.
+use Rattle.std.specs.Prelude.{None, Option, Some}
 use mathlib.Core.Path.{◌≡◌, refl}
 use mathlib.Core.Bool.{true}
-use mathlib.Core.List.{[]}
 use Prim.Native.Nat.{ℕ, ◌≤◌}
 use native.Mathlib.Omega.{arith}
 use borrow.Author.Tests.{le-leb, lt-leb}
@@ -14,8 +14,6 @@ use Rattle.scales.specs.Metres.{land, sea, base}
 use Rattle.scales.proofs.Laws.{figure-such}
 use Rattle.scales.proofs.Answers.{foot-low, metres-read, metres-again, metres-written}
 use Rattle.scales.proofs.MetresLaws.{land-laws, sea-laws, base-laws}
-use Rattle.record.specs.declared.values.Number.{Number}
-use Rattle.record.specs.declared.values.Number.TheVariants as number
 use Rattle.record.specs.declared.surface.Sight.{Sight}
 use Rattle.record.specs.declared.surface.Sight.TheVariants as sight
 use Rattle.synop_groups.specs.declared.kinds.Said.{Said}
@@ -31,21 +29,21 @@ use Rattle.synop_groups.proofs.RoundTripFields.{in-range}
 base-figure : (m : ℕ) → figure_of base m ≤ 9
 base-figure m = (in-range 0 9 (figure_of base m) (figure-such (between 0 9) base m (unfold base in refl))).1
 
-pub base-fits : (b : Number) → optional metres b ≡ true → Fits 1 (base_field b)
-base-fits number.Missing e = tt
-base-fits (number.Is m) e = rw (metres-written base m e) (omega (arith, base-figure m))
+pub base-fits : (b : Option ℕ) → optional metres b ≡ true → Fits 1 (base_field b)
+base-fits None e = tt
+base-fits (Some m) e = rw (metres-written base m e) (omega (arith, base-figure m))
 
-pub base-is : (f : Field) (b : Number) (k : Number → Said) → optional metres b ≡ true → f ≡ base_field b → base_of f k ≡ k (class_base b)
-base-is f number.Missing k h e = rw e
-base-is f (number.Is m) k h e = rw (e, metres-written base m h, metres-read base-laws m)
+pub base-is : (f : Field) (b : Option ℕ) (k : Option ℕ → Said) → optional metres b ≡ true → f ≡ base_field b → base_of f k ≡ k (class_base b)
+base-is f None k h e = rw e
+base-is f (Some m) k h e = rw (e, metres-written base m h, metres-read base-laws m)
 
-pub base-again : (b : Number) → optional metres b ≡ true → base_field (class_base b) ≡ base_field b
-base-again number.Missing e = refl
-base-again (number.Is m) e = rw (metres-again base-laws m e)
+pub base-again : (b : Option ℕ) → optional metres b ≡ true → base_field (class_base b) ≡ base_field b
+base-again None e = refl
+base-again (Some m) e = rw (metres-again base-laws m e)
 
-pub base-classed : (b : Number) → optional metres b ≡ true → optional metres (class_base b) ≡ true
-base-classed number.Missing e = refl
-base-classed (number.Is m) e = foot-low base-laws m e
+pub base-classed : (b : Option ℕ) → optional metres b ≡ true → optional metres (class_base b) ≡ true
+base-classed None e = refl
+base-classed (Some m) e = foot-low base-laws m e
 
 -- ---- VV
 

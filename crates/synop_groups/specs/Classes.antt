@@ -1,12 +1,10 @@
 -- The record that a written group is read back as: each rounded number replaced by the reading of its class, all else as it is.
 -- Assumes nothing: these are definitions.
-use Rattle.std.specs.Prelude.{ℕ, cond, leb, pos}
+use Rattle.std.specs.Prelude.{ℕ, cond, leb, pos, None, Option, Some}
 use Rattle.scales.specs.Scale.{foot_of}
 use Rattle.scales.specs.Metres.{land, sea, base}
 use Rattle.scales.specs.Layers.{layer_steps, layer_bands}
 use Rattle.scales.specs.Rounded.{rounded_rain}
-use Rattle.record.specs.declared.values.Number.{Number}
-use Rattle.record.specs.declared.values.Tenths.TheVariants as signed
 use Rattle.record.specs.declared.values.Speed.{Speed}
 use Rattle.record.specs.declared.values.Speed.TheVariants as speed
 use Rattle.record.specs.declared.surface.Position.{Position}
@@ -15,17 +13,17 @@ use Rattle.record.specs.declared.surface.Sight.TheVariants as sight
 use Rattle.record.specs.declared.surface.Indicators.{Indicators}
 use Rattle.record.specs.declared.surface.Wind.{Wind}
 use Rattle.record.specs.declared.surface.Fall.{Fall}
-use Rattle.record.specs.declared.surface.Fall.TheVariants as fall
 use Rattle.record.specs.declared.surface.Rainfall.{Rainfall}
 use Rattle.record.specs.declared.surface.BaseHeight.{BaseHeight}
 use Rattle.record.specs.declared.surface.BaseHeight.TheVariants as height
 use Rattle.record.specs.declared.surface.CloudLayer.{CloudLayer}
 use Rattle.record.specs.Classes.{class_on, class_direction}
+use Rattle.record.specs.Values.{fall_of}
 use Rattle.synop_groups.specs.Shows.{magnitude_of}
 
 -- ---- h and VV: the foot of the class
 
-abbrev pub class_base : Number → Number
+abbrev pub class_base : Option ℕ → Option ℕ
 class_base = class_on base
 
 abbrev pub class_sight : Sight → Sight
@@ -41,9 +39,9 @@ class_indicators i = record { rain = i.rain; weather = i.weather; base = class_b
 abbrev pub class_wind : Wind → Wind
 class_wind w = record { cover = w.cover; direction = class_direction w.direction; speed = w.speed }
 
-abbrev pub class_fall : Fall → Fall
-class_fall fall.Missing = fall.Missing
-class_fall (fall.Is r t) = fall.Is (rounded_rain r) t
+abbrev pub class_fall : Option Fall → Option Fall
+class_fall None = None
+class_fall (Some x) = Some (fall_of (rounded_rain x.amount) x.period)
 
 abbrev pub class_rainfall : Rainfall → Rainfall
 class_rainfall r = record { is = class_fall r.is }
@@ -62,7 +60,7 @@ class_layer l = record { amount = l.amount; cloud = l.cloud; height = class_heig
 
 -- the latitude before the quadrant is read
 abbrev pub unsigned_position : Position → Position
-unsigned_position p = record { latitude = signed.Is (pos (magnitude_of p.latitude)); longitude = signed.Missing }
+unsigned_position p = record { latitude = Some (pos (magnitude_of p.latitude)); longitude = None }
 
 -- the wind as Nddff leaves it, before 00fff is read
 abbrev pub in_two : ℕ → ℕ

@@ -1,17 +1,13 @@
 -- What the writer judges of each group, 11 before 7: "a value outside its range, a bad name, a required one missing, half of a pair, a count over its
 -- limit, a slot past its count" are 11; "agreement being judged on the figures it would write".
 -- Assumes nothing: these are definitions.
-use Rattle.std.specs.Prelude.{ℕ, Bool, true, false, cond, not, ◌&&◌, ◌||◌, length, take, drop, leb, ltb, eqb, ℤ, pos, negsuc, nat_abs}
+use Rattle.std.specs.Prelude.{⊤, ℕ, Bool, true, false, cond, not, ◌&&◌, ◌||◌, take, drop, leb, ltb, eqb, ℤ, pos, negsuc, nat_abs, None, Option, Result, Some}
+use Rattle.text.specs.declared.kinds.Refusal.{Refusal}
 use Rattle.std.specs.Int.Signed.{le_z}
 use Rattle.figures.specs.Figures.{is_figure, is_letter, every}
 use Rattle.figures.specs.Signed.{negative}
-use Rattle.text.specs.declared.kinds.Judged.{Judged}
 use Rattle.text.specs.Judge.{judge}
 use Rattle.scales.specs.Rounded.{rain_fits}
-use Rattle.record.specs.declared.values.Number.{Number}
-use Rattle.record.specs.declared.values.Number.TheVariants as number
-use Rattle.record.specs.declared.values.Tenths.{Tenths as Signed}
-use Rattle.record.specs.declared.values.Tenths.TheVariants as signed
 use Rattle.record.specs.declared.values.Direction.{Direction}
 use Rattle.record.specs.declared.values.Direction.TheVariants as direction
 use Rattle.record.specs.declared.values.Speed.{Speed}
@@ -32,46 +28,43 @@ use Rattle.record.specs.declared.surface.AtLevel.{AtLevel}
 use Rattle.record.specs.declared.surface.AtLevel.TheVariants as at_level
 use Rattle.record.specs.declared.surface.Level.{Level}
 use Rattle.record.specs.declared.surface.PressureChange.{PressureChange}
-use Rattle.record.specs.declared.surface.PressureChange.TheVariants as change
 use Rattle.record.specs.declared.surface.Tendency.{Tendency}
 use Rattle.record.specs.declared.surface.Fall.{Fall}
-use Rattle.record.specs.declared.surface.Fall.TheVariants as fall
 use Rattle.record.specs.declared.surface.Rainfall.{Rainfall}
 use Rattle.record.specs.declared.surface.Weather.{Weather}
 use Rattle.record.specs.declared.surface.Clouds.{Clouds}
 use Rattle.record.specs.declared.surface.Observed.{Observed}
-use Rattle.record.specs.declared.surface.Observed.TheVariants as observed
 use Rattle.record.specs.declared.surface.Clock.{Clock}
 use Rattle.record.specs.declared.surface.BaseHeight.{BaseHeight}
 use Rattle.record.specs.declared.surface.BaseHeight.TheVariants as height
 use Rattle.record.specs.declared.surface.CloudLayer.{CloudLayer}
 use Rattle.synop_groups.specs.Reads.{is_unit, is_level, agree}
-use Rattle.record.specs.Missing.{between, present, optional, no_speed, is_still, no_letters}
-use Rattle.record.specs.SilentSurface.{no_fall, no_weather, is_blank_layer}
+use Rattle.record.specs.Missing.{is_missing, between, present, optional, no_speed, is_still, no_letters}
+use Rattle.record.specs.SilentSurface.{no_weather, is_blank_layer}
 
 -- ---- ranges
 
-abbrev pub present_tenths : (ℤ → Bool) → Signed → Bool
-present_tenths ok signed.Missing = false
-present_tenths ok (signed.Is t) = ok t
+abbrev pub present_tenths : (ℤ → Bool) → Option ℤ → Bool
+present_tenths ok None = false
+present_tenths ok (Some t) = ok t
 
 -- "0 to 99,999 may be written"
 abbrev pub metres : ℕ → Bool
 metres m = leb m 99999
 
-abbrev pub unit_fits : Number → Bool
+abbrev pub unit_fits : Option ℕ → Bool
 unit_fits = present is_unit
 
 -- ---- the groups through Nddff
 
-unfoldable pub judge_time : Time → Judged
+unfoldable pub judge_time : Time → Result ⊤ Refusal
 judge_time t = judge (present (between 1 31) t.day && present (between 0 23) t.hour && unit_fits t.unit) true
 
 -- IIiii is 00000 to 99999
 abbrev pub is_station : ℕ → Bool
 is_station = between 0 99999
 
-unfoldable pub judge_station : Number → Judged
+unfoldable pub judge_station : Option ℕ → Result ⊤ Refusal
 judge_station n = judge (present is_station n) true
 
 -- a slot of a name: a letter or figure up to the count, blank past it
@@ -79,7 +72,7 @@ abbrev pub slot_fits : Bool → ℕ → Bool
 slot_fits filled b = cond filled (is_letter b || is_figure b) (eqb b 0)
 
 -- "a call sign of 3 to 9 letters and figures"; "a slot past its count .. that is not blank"
-unfoldable pub judge_sign : CallSign → Judged
+unfoldable pub judge_sign : CallSign → Result ⊤ Refusal
 judge_sign s =
     judge
     (between 3 9 s.length
@@ -88,13 +81,13 @@ judge_sign s =
     true
 
 -- "Latitude 000-900"; "a record's longitude runs from -179.9 to 180.0"
-abbrev pub latitude_fits : Signed → Bool
+abbrev pub latitude_fits : Option ℤ → Bool
 latitude_fits = present_tenths (λ t. leb (nat_abs t) 900)
 
-abbrev pub longitude_fits : Signed → Bool
+abbrev pub longitude_fits : Option ℤ → Bool
 longitude_fits = present_tenths (λ t. le_z (negsuc 1798) t && le_z t (pos 1800))
 
-unfoldable pub judge_position : Position → Judged
+unfoldable pub judge_position : Position → Result ⊤ Refusal
 judge_position p = judge (latitude_fits p.latitude && longitude_fits p.longitude) true
 
 abbrev pub sight_fits : Sight → Bool
@@ -102,7 +95,7 @@ sight_fits sight.Missing = true
 sight_fits (sight.Land m) = metres m
 sight_fits (sight.Sea m) = metres m
 
-unfoldable pub judge_indicators : Indicators → Judged
+unfoldable pub judge_indicators : Indicators → Result ⊤ Refusal
 judge_indicators i =
     judge (present (between 0 4) i.rain && present (between 1 7) i.weather && optional metres i.base && sight_fits i.sight) true
 
@@ -125,16 +118,16 @@ wind_agrees direction.Calm s = agree true (is_still s)
 wind_agrees direction.Variable s = agree false (is_still s)
 wind_agrees (direction.Degrees d) s = agree false (is_still s)
 
-unfoldable pub judge_wind : Wind → Judged
+unfoldable pub judge_wind : Wind → Result ⊤ Refusal
 judge_wind w = judge (optional (between 0 9) w.cover && wind_fits w.direction w.speed) (wind_agrees w.direction w.speed)
 
 -- ---- section 1
 
-abbrev pub tenths_fit : Signed → Bool
-tenths_fit signed.Missing = true
-tenths_fit (signed.Is t) = leb (nat_abs t) 999
+abbrev pub tenths_fit : Option ℤ → Bool
+tenths_fit None = true
+tenths_fit (Some t) = leb (nat_abs t) 999
 
-unfoldable pub judge_air : Air → Judged
+unfoldable pub judge_air : Air → Result ⊤ Refusal
 judge_air a = judge (tenths_fit a.temperature) true
 
 abbrev pub moist_fits : Moist → Bool
@@ -142,10 +135,10 @@ moist_fits moist.Missing = true
 moist_fits (moist.DewPoint t) = leb (nat_abs t) 999
 moist_fits (moist.Humidity u) = leb u 100
 
-unfoldable pub judge_moisture : Moisture → Judged
+unfoldable pub judge_moisture : Moisture → Result ⊤ Refusal
 judge_moisture m = judge (moist_fits m.is) true
 
-unfoldable pub judge_pressure : Pressure → Judged
+unfoldable pub judge_pressure : Pressure → Result ⊤ Refusal
 judge_pressure p = judge (optional (between 1000 10999) p.station) true
 
 abbrev pub level_fits : AtLevel → Bool
@@ -153,48 +146,48 @@ level_fits at_level.Missing = true
 level_fits (at_level.Pressure p) = between 9000 10999 p
 level_fits (at_level.Isobaric a h) = is_level a && leb h 999
 
-unfoldable pub judge_level : Level → Judged
+unfoldable pub judge_level : Level → Result ⊤ Refusal
 judge_level l = judge (level_fits l.is) true
 
-abbrev pub change_fits : PressureChange → Bool
-change_fits change.Missing = true
-change_fits (change.Is a c) = leb a 8 && leb (nat_abs c) 999
+abbrev pub change_fits : Option PressureChange → Bool
+change_fits None = true
+change_fits (Some x) = leb x.tendency 8 && leb (nat_abs x.change) 999
 
 -- "In a record a change against a is 7."
 abbrev pub change_suits : ℕ → ℤ → Bool
 change_suits a c = cond (ltb a 4) (not (negative c)) (cond (eqb a 4) (eqb (nat_abs c) 0) (negative c || eqb (nat_abs c) 0))
 
-abbrev pub change_agrees : PressureChange → Bool
-change_agrees change.Missing = true
-change_agrees (change.Is a c) = change_suits a c
+abbrev pub change_agrees : Option PressureChange → Bool
+change_agrees None = true
+change_agrees (Some x) = change_suits x.tendency x.change
 
-unfoldable pub judge_tendency : Tendency → Judged
+unfoldable pub judge_tendency : Tendency → Result ⊤ Refusal
 judge_tendency t = judge (change_fits t.is) (change_agrees t.is)
 
-abbrev pub fall_fits : Fall → Bool
-fall_fits fall.Missing = true
-fall_fits (fall.Is r t) = rain_fits r && optional (between 0 9) t
+abbrev pub fall_fits : Option Fall → Bool
+fall_fits None = true
+fall_fits (Some x) = rain_fits x.amount && optional (between 0 9) x.period
 
 -- forbidden: iR is not 0 or 1
-unfoldable pub judge_rainfall : Bool → Rainfall → Judged
-judge_rainfall forbidden r = judge (fall_fits r.is) (not forbidden || no_fall r.is)
+unfoldable pub judge_rainfall : Bool → Rainfall → Result ⊤ Refusal
+judge_rainfall forbidden r = judge (fall_fits r.is) (not forbidden || is_missing r.is)
 
 -- forbidden: ix is not 1, 4 or 7
-unfoldable pub judge_weather : Bool → Weather → Judged
+unfoldable pub judge_weather : Bool → Weather → Result ⊤ Refusal
 judge_weather forbidden w =
     judge (optional (between 0 99) w.present && optional (between 0 9) w.past && optional (between 0 9) w.past2) (not forbidden || no_weather w)
 
-unfoldable pub judge_clouds : Clouds → Judged
+unfoldable pub judge_clouds : Clouds → Result ⊤ Refusal
 judge_clouds c =
     judge
     (optional (between 0 9) c.amount && optional (between 0 9) c.low && optional (between 0 9) c.middle && optional (between 0 9) c.high)
     true
 
-abbrev pub clock_fits : Observed → Bool
-clock_fits observed.Missing = true
-clock_fits (observed.At h m) = leb h 23 && leb m 59
+abbrev pub clock_fits : Option Observed → Bool
+clock_fits None = true
+clock_fits (Some x) = leb x.hour 23 && leb x.minute 59
 
-unfoldable pub judge_clock : Clock → Judged
+unfoldable pub judge_clock : Clock → Result ⊤ Refusal
 judge_clock c = judge (clock_fits c.is) true
 
 -- ---- a layer of section 3: "a record's layer all missing is 11"

@@ -1,43 +1,38 @@
 -- "Lines that settle arguments": the rows marked *, as one list. Each row has the text that the definitions give and the text that the paper states. A figure
 -- is asked of its scale; a refusal is asked of the group's own definition. The list stands here because both are seen from here.
 -- Assumes nothing: these are definitions.
-use Rattle.std.specs.Prelude.{ℕ, cond, List, [], ◌∷◌, ◌++◌, pos, negsuc}
+use Rattle.std.specs.Prelude.{ℕ, cond, List, [], ◌∷◌, ◌++◌, pos, negsuc, None, Option, Some}
 use Rattle.figures.specs.Quote.{bytes}
 use Rattle.figures.specs.Figures.{figures}
 use Rattle.text.specs.Refusals.{number_of}
 use Rattle.scales.specs.Metres.{land, base, visibility, cloud, metres_figure, range_figure}
 use Rattle.scales.specs.Rounded.{rain_figure, direction_figure}
 use Rattle.scales.specs.Degrees.{degrees_of}
-use Rattle.scales.specs.declared.kinds.Figure.{Figure}
-use Rattle.scales.specs.declared.kinds.Figure.TheVariants as figure
 use Rattle.scales.specs.declared.kinds.Range.{Range}
 use Rattle.scales.specs.declared.kinds.Range.TheVariants.{Below, Exact, Above}
-use Rattle.scales.specs.declared.kinds.RangeFigure.{RangeFigure}
-use Rattle.scales.specs.declared.kinds.RangeFigure.TheVariants as range
 use Rattle.scales.specs.declared.kinds.Degrees.{Degrees}
-use Rattle.scales.specs.declared.kinds.Degrees.TheVariants as degrees
 use Rattle.scales.specs.declared.kinds.Rain.TheVariants as rain
 use Rattle.synop_groups.specs.declared.kinds.Said.{Said}
 use Rattle.synop_groups.specs.declared.kinds.Said.TheVariants as said
 use Rattle.synop_groups.specs.Reads.{said_air, said_indicators}
 
 -- ---- the texts of answers: figures at a width; what may not be written has no text
-abbrev as_figures : ℕ → Figure → List ℕ
-as_figures w (figure.Is f) = figures w f
-as_figures w figure.OutOfRange = []
+abbrev as_figures : ℕ → Option ℕ → List ℕ
+as_figures w (Some f) = figures w f
+as_figures w None = []
 
 abbrev as_range : Range → List ℕ
 as_range (Below f) = bytes "M" ++ figures 4 f
 as_range (Exact f) = figures 4 f
 as_range (Above f) = bytes "P" ++ figures 4 f
 
-abbrev of_range : RangeFigure → List ℕ
-of_range (range.Is r) = as_range r
-of_range range.OutOfRange = []
+abbrev of_range : Option Range → List ℕ
+of_range (Some r) = as_range r
+of_range None = []
 
-abbrev as_degrees : Degrees → List ℕ
-as_degrees (degrees.Is minus whole) = cond minus (bytes "M") [] ++ figures 2 whole
-as_degrees degrees.OutOfRange = []
+abbrev as_degrees : Option Degrees → List ℕ
+as_degrees (Some x) = cond x.minus (bytes "M") [] ++ figures 2 x.whole
+as_degrees None = []
 
 -- the number by which a group is refused; one that is read has none
 abbrev as_refusal : Said → List ℕ

@@ -1,7 +1,7 @@
 -- How each group of a SYNOP or SHIP is written: document 01's list, in its order. A part that is missing is slashes, "as many as letters"; "a group
 -- all of slashes after its first figure reads as absent, and the writer omits it, except that a required 6 or 7 group is written with slashes".
 -- Assumes nothing: these are definitions.
-use Rattle.std.specs.Prelude.{ℕ, ◌%◌, Bool, true, false, cond, List, [], ◌∷◌, ◌++◌, length, take, leb, ℤ, pos, nat_abs}
+use Rattle.std.specs.Prelude.{ℕ, ◌%◌, Bool, false, cond, List, [], ◌∷◌, ◌++◌, take, leb, ℤ, pos, nat_abs, None, Option, Some}
 use Rattle.figures.specs.declared.kinds.Field.{Field}
 use Rattle.figures.specs.declared.kinds.Field.TheVariants as field
 use Rattle.figures.specs.Quote.{bytes}
@@ -11,10 +11,6 @@ use Rattle.scales.specs.Metres.{land, sea, base, metres_figure}
 use Rattle.scales.specs.Layers.{layer_steps, layer_bands}
 use Rattle.scales.specs.Rounded.{rain_figure, direction_figure}
 use Rattle.scales.specs.Fields.{field_by}
-use Rattle.record.specs.declared.values.Number.{Number}
-use Rattle.record.specs.declared.values.Number.TheVariants as number
-use Rattle.record.specs.declared.values.Tenths.{Tenths as Signed}
-use Rattle.record.specs.declared.values.Tenths.TheVariants as signed
 use Rattle.record.specs.declared.values.Direction.{Direction}
 use Rattle.record.specs.declared.values.Direction.TheVariants as direction
 use Rattle.record.specs.declared.values.Speed.{Speed}
@@ -35,15 +31,12 @@ use Rattle.record.specs.declared.surface.AtLevel.{AtLevel}
 use Rattle.record.specs.declared.surface.AtLevel.TheVariants as at_level
 use Rattle.record.specs.declared.surface.Level.{Level}
 use Rattle.record.specs.declared.surface.PressureChange.{PressureChange}
-use Rattle.record.specs.declared.surface.PressureChange.TheVariants as change
 use Rattle.record.specs.declared.surface.Tendency.{Tendency}
 use Rattle.record.specs.declared.surface.Fall.{Fall}
-use Rattle.record.specs.declared.surface.Fall.TheVariants as fall
 use Rattle.record.specs.declared.surface.Rainfall.{Rainfall}
 use Rattle.record.specs.declared.surface.Weather.{Weather}
 use Rattle.record.specs.declared.surface.Clouds.{Clouds}
 use Rattle.record.specs.declared.surface.Observed.{Observed}
-use Rattle.record.specs.declared.surface.Observed.TheVariants as observed
 use Rattle.record.specs.declared.surface.Clock.{Clock}
 use Rattle.record.specs.declared.surface.BaseHeight.{BaseHeight}
 use Rattle.record.specs.declared.surface.BaseHeight.TheVariants as height
@@ -56,17 +49,17 @@ use Rattle.synop_groups.specs.Reads.{Group}
 -- ---- parts
 
 -- a number as a field
-abbrev pub field_of : Number → Field
-field_of number.Missing = field.Missing
-field_of (number.Is n) = field.Number n
+abbrev pub field_of : Option ℕ → Field
+field_of None = field.Missing
+field_of (Some n) = field.Number n
 
-abbrev pub magnitude_of : Signed → ℕ
-magnitude_of signed.Missing = 0
-magnitude_of (signed.Is t) = nat_abs t
+abbrev pub magnitude_of : Option ℤ → ℕ
+magnitude_of None = 0
+magnitude_of (Some t) = nat_abs t
 
-abbrev pub signed_value : Signed → ℤ
-signed_value signed.Missing = pos 0
-signed_value (signed.Is t) = t
+abbrev pub signed_value : Option ℤ → ℤ
+signed_value None = pos 0
+signed_value (Some t) = t
 
 -- sTTT: the sign's figure and three figures
 abbrev pub sign_text : ℤ → List ℕ
@@ -77,7 +70,7 @@ sign_text t = cond (negative t) (bytes "1") (bytes "0") ++ figures 3 (nat_abs t)
 unfoldable pub show_time : Time → Group
 show_time t = field_text 2 (field_of t.day) ++ field_text 2 (field_of t.hour) ++ field_text 1 (field_of t.unit)
 
-unfoldable pub show_station : Number → Group
+unfoldable pub show_station : Option ℕ → Group
 show_station n = field_text 5 (field_of n)
 
 unfoldable pub show_sign : CallSign → Group
@@ -89,9 +82,9 @@ show_latitude p = bytes "99" ++ figures 3 (magnitude_of p.latitude)
 unfoldable pub show_longitude : Position → Group
 show_longitude p = figures 1 (quadrant_of (signed_value p.latitude) (signed_value p.longitude)) ++ figures 4 (magnitude_of p.longitude)
 
-abbrev pub base_field : Number → Field
-base_field number.Missing = field.Missing
-base_field (number.Is m) = field_by (metres_figure base m)
+abbrev pub base_field : Option ℕ → Field
+base_field None = field.Missing
+base_field (Some m) = field_by (metres_figure base m)
 
 abbrev pub sight_field : Sight → Field
 sight_field sight.Missing = field.Missing
@@ -134,9 +127,9 @@ unfoldable pub show_speed : Wind → List Group
 show_speed w = speed_group w.speed
 
 -- a first figure and sTTT
-abbrev pub signed_group : ℕ → Signed → List Group
-signed_group first signed.Missing = []
-signed_group first (signed.Is t) = (first ∷ sign_text t) ∷ []
+abbrev pub signed_group : ℕ → Option ℤ → List Group
+signed_group first None = []
+signed_group first (Some t) = (first ∷ sign_text t) ∷ []
 
 unfoldable pub show_air : Air → List Group
 show_air a = signed_group 49 a.temperature
@@ -157,9 +150,9 @@ show_moisture m = moist_group m.is
 abbrev pub pressure_text : ℕ → List ℕ
 pressure_text p = figures 4 (p % 10000)
 
-abbrev pub pressure_group : Number → List Group
-pressure_group number.Missing = []
-pressure_group (number.Is p) = (bytes "3" ++ pressure_text p) ∷ []
+abbrev pub pressure_group : Option ℕ → List Group
+pressure_group None = []
+pressure_group (Some p) = (bytes "3" ++ pressure_text p) ∷ []
 
 unfoldable pub show_pressure : Pressure → List Group
 show_pressure p = pressure_group p.station
@@ -172,9 +165,9 @@ level_group (at_level.Isobaric a h) = (bytes "4" ++ figures 1 a ++ figures 3 h) 
 unfoldable pub show_level : Level → List Group
 show_level l = level_group l.is
 
-abbrev pub tendency_group : PressureChange → List Group
-tendency_group change.Missing = []
-tendency_group (change.Is a c) = (bytes "5" ++ figures 1 a ++ figures 3 (nat_abs c)) ∷ []
+abbrev pub tendency_group : Option PressureChange → List Group
+tendency_group None = []
+tendency_group (Some x) = (bytes "5" ++ figures 1 x.tendency ++ figures 3 (nat_abs x.change)) ∷ []
 
 unfoldable pub show_tendency : Tendency → List Group
 show_tendency t = tendency_group t.is
@@ -183,9 +176,9 @@ show_tendency t = tendency_group t.is
 abbrev pub if_required : Bool → Group → List Group
 if_required required g = cond required (g ∷ []) []
 
-abbrev pub rainfall_group : Bool → Fall → List Group
-rainfall_group required fall.Missing = if_required required (bytes "6////")
-rainfall_group required (fall.Is r t) = (bytes "6" ++ field_text 3 (field_by (rain_figure r)) ++ field_text 1 (field_of t)) ∷ []
+abbrev pub rainfall_group : Bool → Option Fall → List Group
+rainfall_group required None = if_required required (bytes "6////")
+rainfall_group required (Some x) = (bytes "6" ++ field_text 3 (field_by (rain_figure x.amount)) ++ field_text 1 (field_of x.period)) ∷ []
 
 unfoldable pub show_rainfall : Bool → Rainfall → List Group
 show_rainfall required r = rainfall_group required r.is
@@ -203,9 +196,9 @@ clouds_text c =
 unfoldable pub show_clouds : Clouds → List Group
 show_clouds c = cond (no_clouds c) [] (clouds_text c ∷ [])
 
-abbrev pub clock_group : Observed → List Group
-clock_group observed.Missing = []
-clock_group (observed.At h m) = (bytes "9" ++ figures 2 h ++ figures 2 m) ∷ []
+abbrev pub clock_group : Option Observed → List Group
+clock_group None = []
+clock_group (Some x) = (bytes "9" ++ figures 2 x.hour ++ figures 2 x.minute) ∷ []
 
 unfoldable pub show_clock : Clock → List Group
 show_clock c = clock_group c.is

@@ -7,32 +7,23 @@ ghost use Rattle.synop_groups.specs.Parts.{part_of, base_part, sight_for, sight_
 ghost use Rattle.synop_groups.specs.Reads.{wrong, disagrees, unless, read_latitude, position_of, pressure_of, level_is, tendency_is, wind_of, wind_by, air_is, moisture_is, rainfall_of, said_time, said_station, said_latitude, said_longitude, said_indicators, said_wind, said_speed, said_air, said_moisture, said_pressure, said_level, said_tendency, said_rainfall, said_weather, said_clouds, said_clock, said_layer};
 
 use crate::kinds::Said;
-use figures::kinds::{Field, Signed};
+use figures::kinds::Field;
 use figures::{field, signed};
 use record::surface::{
     Air, AtLevel, BaseHeight, Clock, CloudLayer, Clouds, Fall, Indicators, Level, Moist, Moisture,
     Observed, Position, Pressure, PressureChange, Rainfall, Sight, Tendency, Time, Weather, Wind,
 };
-use record::values::{Direction, Number, Speed, Tenths};
-use scales::kinds::{RainReading, Reading};
+use record::values::{Direction, Speed};
 use text::kinds::Refusal;
 
-// A part of a group that may be missing, or has a wrong figure.
-#[derive(Clone, Copy)]
-enum Part {
-    Known(Number),
-    Wrong,
-}
-
-fn part_at(g: &[u8], at: usize, width: usize) -> Part
+#[tactic(auto, unfolding(crate::specs::Parts::part_of))]
+fn part_at(g: &[u8], at: usize, width: usize) -> Option<Option<u32>>
     ensures { result ≡ part_of (field_at g.now at width) }
 {
-    let f = field(g, at, width);
-    match f {
-        Field::Number(n) => Part::Known(Number::Is(n)),
-        Field::Missing => Part::Known(Number::Missing),
-        Field::Mixed => Part::Wrong,
-        Field::Other => Part::Wrong,
+    match field(g, at, width) {
+        Field::Number(n) => Some(Some(n)),
+        Field::Missing => Some(None),
+        Field::Mixed | Field::Other => None,
     }
 }
 
@@ -56,6 +47,7 @@ fn unless_forbidden(forbidden: bool, s: Said) -> Said
 }
 
 // YYGGiw
+#[tactic(auto, unfolding(crate::specs::Reads::said_time, crate::specs::Reads::time_of))]
 pub fn read_time(g: &[u8]) -> Said
     ensures { result ≡ said_time g.now }
 {
@@ -71,9 +63,9 @@ pub fn read_time(g: &[u8]) -> Said
     let is_unit = (unit == 0) | (unit == 1) | (unit == 3) | (unit == 4);
     if (1 <= day) & (day <= 31) & (hour <= 23) & is_unit {
         Said::Time(Time {
-            day: Number::Is(day),
-            hour: Number::Is(hour),
-            unit: Number::Is(unit),
+            day: Some(day),
+            hour: Some(hour),
+            unit: Some(unit),
         })
     } else {
         wrong_figure()
@@ -81,6 +73,7 @@ pub fn read_time(g: &[u8]) -> Said
 }
 
 // IIiii
+#[tactic(auto, unfolding(crate::specs::Reads::said_station))]
 pub fn read_station(g: &[u8]) -> Said
     ensures { result ≡ said_station g.now }
 {
@@ -97,12 +90,13 @@ fn with_sign(minus: bool, n: u32) -> i32
 {
     let s = signed::signed_of(minus, n);
     match s {
-        Signed::Is(t) => t,
-        Signed::TooLarge => 0,
+        Some(t) => t,
+        None => 0,
     }
 }
 
 // 99LaLaLa: the latitude's magnitude, until the quadrant is read.
+#[tactic(auto, unfolding(crate::specs::Reads::said_latitude, crate::specs::Reads::latitude_is))]
 pub fn read_latitude(g: &[u8]) -> Said
     ensures { result ≡ said_latitude g.now }
 {
@@ -111,8 +105,8 @@ pub fn read_latitude(g: &[u8]) -> Said
     };
     if n <= 900 {
         Said::Position(Position {
-            latitude: Tenths::Is(with_sign(false, n)),
-            longitude: Tenths::Missing,
+            latitude: Some(with_sign(false, n)),
+            longitude: None,
         })
     } else {
         wrong_figure()
@@ -120,15 +114,16 @@ pub fn read_latitude(g: &[u8]) -> Said
 }
 
 // The magnitude of the latitude that was read before.
-fn magnitude_of(t: Tenths) -> u32
+fn magnitude_of(t: Option<i32>) -> u32
     ensures { result ≡ read_latitude t }
 {
     match t {
-        Tenths::Missing => 0,
-        Tenths::Is(t) => signed::magnitude(t),
+        None => 0,
+        Some(t) => signed::magnitude(t),
     }
 }
 
+#[tactic(auto, unfolding(crate::specs::Reads::position_of))]
 fn position_of(latitude: u32, quadrant: u32, longitude: u32) -> Said
     ensures { result ≡ position_of latitude quadrant longitude }
 {
@@ -142,8 +137,8 @@ fn position_of(latitude: u32, quadrant: u32, longitude: u32) -> Said
     let west = (quadrant == 5) | (quadrant == 7);
     if (quadrant == 1) | (quadrant == 3) | (quadrant == 5) | (quadrant == 7) {
         Said::Position(Position {
-            latitude: Tenths::Is(with_sign(south, latitude)),
-            longitude: Tenths::Is(with_sign(west & !(longitude == 1800), longitude)),
+            latitude: Some(with_sign(south, latitude)),
+            longitude: Some(with_sign(west & !(longitude == 1800), longitude)),
         })
     } else {
         wrong_figure()
@@ -151,6 +146,7 @@ fn position_of(latitude: u32, quadrant: u32, longitude: u32) -> Said
 }
 
 // QcLoLoLoLo, after the latitude.
+#[tactic(auto, unfolding(crate::specs::Reads::said_longitude))]
 pub fn read_longitude(p: Position, g: &[u8]) -> Said
     ensures { result ≡ said_longitude p g.now }
 {
@@ -165,59 +161,37 @@ pub fn read_longitude(p: Position, g: &[u8]) -> Said
 }
 
 // h, by table 1600.
-fn base_at(g: &[u8]) -> Part
+#[tactic(auto, unfolding(crate::specs::Parts::base_part))]
+fn base_at(g: &[u8]) -> Option<Option<u32>>
     ensures { result ≡ base_part (field_at g.now 2 1) }
 {
-    let f = field(g, 2, 1);
-    match f {
-        Field::Number(n) => {
-            let r = scales::metres::base_reading(n);
-            match r {
-                Reading::Is(m) => Part::Known(Number::Is(m)),
-                Reading::Unused => Part::Wrong,
-            }
-        }
-        Field::Missing => Part::Known(Number::Missing),
-        Field::Mixed => Part::Wrong,
-        Field::Other => Part::Wrong,
+    match field(g, 2, 1) {
+        Field::Number(n) => scales::metres::base_reading(n).map(Some),
+        Field::Missing => Some(None),
+        Field::Mixed | Field::Other => None,
     }
 }
 
-// A visibility that may be missing, or has a wrong figure.
-#[derive(Clone, Copy)]
-enum Seen {
-    Known(Sight),
-    Wrong,
-}
-
-fn sight_of(n: u32) -> Seen
+#[tactic(auto, unfolding(crate::specs::Parts::sight_for))]
+fn sight_of(n: u32) -> Option<Sight>
     ensures { result ≡ sight_for n }
 {
     if 90 <= n {
-        let r = scales::metres::sea_reading(n);
-        match r {
-            Reading::Is(m) => Seen::Known(Sight::Sea(m)),
-            Reading::Unused => Seen::Wrong,
-        }
+        scales::metres::sea_reading(n).map(Sight::Sea)
     } else {
-        let r = scales::metres::land_reading(n);
-        match r {
-            Reading::Is(m) => Seen::Known(Sight::Land(m)),
-            Reading::Unused => Seen::Wrong,
-        }
+        scales::metres::land_reading(n).map(Sight::Land)
     }
 }
 
 // VV, by table 4377.
-fn sight_at(g: &[u8]) -> Seen
+#[tactic(auto, unfolding(crate::specs::Parts::sight_part))]
+fn sight_at(g: &[u8]) -> Option<Sight>
     ensures { result ≡ sight_part (field_at g.now 3 2) }
 {
-    let f = field(g, 3, 2);
-    match f {
+    match field(g, 3, 2) {
         Field::Number(n) => sight_of(n),
-        Field::Missing => Seen::Known(Sight::Missing),
-        Field::Mixed => Seen::Wrong,
-        Field::Other => Seen::Wrong,
+        Field::Missing => Some(Sight::Missing),
+        Field::Mixed | Field::Other => None,
     }
 }
 
@@ -231,16 +205,16 @@ pub fn read_indicators(g: &[u8]) -> Said
     let Field::Number(weather) = field(g, 1, 1) else {
         return wrong_figure();
     };
-    let Part::Known(base) = base_at(g) else {
+    let Some(base) = base_at(g) else {
         return wrong_figure();
     };
-    let Seen::Known(sight) = sight_at(g) else {
+    let Some(sight) = sight_at(g) else {
         return wrong_figure();
     };
     if (rain <= 4) & (1 <= weather) & (weather <= 7) {
         Said::Indicators(Indicators {
-            rain: Number::Is(rain),
-            weather: Number::Is(weather),
+            rain: Some(rain),
+            weather: Some(weather),
             base,
             sight,
         })
@@ -250,7 +224,7 @@ pub fn read_indicators(g: &[u8]) -> Said
 }
 
 // A wind that is calm by its direction or not, where its speed agrees.
-fn wind_of(cover: Number, direction: Direction, calm: bool, speed: u32) -> Said
+fn wind_of(cover: Option<u32>, direction: Direction, calm: bool, speed: u32) -> Said
     ensures { result ≡ wind_of cover direction calm speed }
 {
     let still = speed == 0;
@@ -265,7 +239,8 @@ fn wind_of(cover: Number, direction: Direction, calm: bool, speed: u32) -> Said
     }
 }
 
-fn wind_by(cover: Number, tens: u32, speed: u32) -> Said
+#[tactic(auto, unfolding(crate::specs::Reads::wind_by))]
+fn wind_by(cover: Option<u32>, tens: u32, speed: u32) -> Said
     ensures { result ≡ wind_by cover tens speed }
 {
     if tens == 0 {
@@ -276,16 +251,17 @@ fn wind_by(cover: Number, tens: u32, speed: u32) -> Said
     }
     let r = scales::direction::direction_reading(tens);
     match r {
-        Reading::Is(d) => wind_of(cover, Direction::Degrees(d), false, speed),
-        Reading::Unused => wrong_figure(),
+        Some(d) => wind_of(cover, Direction::Degrees(d), false, speed),
+        None => wrong_figure(),
     }
 }
 
 // N dd ff
+#[tactic(auto, unfolding(crate::specs::Reads::said_wind, crate::specs::Parts::part_of))]
 pub fn read_wind(g: &[u8]) -> Said
     ensures { result ≡ said_wind g.now }
 {
-    let Part::Known(cover) = part_at(g, 0, 1) else {
+    let Some(cover) = part_at(g, 0, 1) else {
         return wrong_figure();
     };
     let tens = field(g, 1, 2);
@@ -312,6 +288,7 @@ pub fn read_wind(g: &[u8]) -> Said
 }
 
 // 00fff, where ff was 99 or not.
+#[tactic(auto, unfolding(crate::specs::Reads::said_speed, crate::specs::Reads::speed_is))]
 pub fn read_speed(due: bool, g: &[u8]) -> Said
     ensures { result ≡ said_speed due g.now }
 {
@@ -325,32 +302,33 @@ pub fn read_speed(due: bool, g: &[u8]) -> Said
     }
 }
 
+#[tactic(auto, unfolding(crate::specs::Reads::air_is))]
 fn air_of(n: u32) -> Said
     ensures { result ≡ air_is n }
 {
     let r = scales::degrees::signed_reading(n / 1000, n % 1000);
     match r {
-        scales::kinds::Tenths::Is(t) => Said::Air(Air {
-            temperature: Tenths::Is(t),
+        Some(t) => Said::Air(Air {
+            temperature: Some(t),
         }),
-        scales::kinds::Tenths::Unused => wrong_figure(),
+        None => wrong_figure(),
     }
 }
 
 // 1sTTT
+#[tactic(auto, unfolding(crate::specs::Reads::said_air))]
 pub fn read_air(g: &[u8]) -> Said
     ensures { result ≡ said_air g.now }
 {
     let f = field(g, 1, 4);
     match f {
         Field::Number(n) => air_of(n),
-        Field::Missing => Said::Air(Air {
-            temperature: Tenths::Missing,
-        }),
+        Field::Missing => Said::Air(Air { temperature: None }),
         _ => wrong_figure(),
     }
 }
 
+#[tactic(auto, unfolding(crate::specs::Reads::moisture_is))]
 fn moisture_of(n: u32) -> Said
     ensures { result ≡ moisture_is n }
 {
@@ -365,14 +343,15 @@ fn moisture_of(n: u32) -> Said
     }
     let r = scales::degrees::signed_reading(n / 1000, figures);
     match r {
-        scales::kinds::Tenths::Is(t) => Said::Moisture(Moisture {
+        Some(t) => Said::Moisture(Moisture {
             is: Moist::DewPoint(t),
         }),
-        scales::kinds::Tenths::Unused => wrong_figure(),
+        None => wrong_figure(),
     }
 }
 
 // 2sTTT or 29UUU
+#[tactic(auto, unfolding(crate::specs::Reads::said_moisture))]
 pub fn read_moisture(g: &[u8]) -> Said
     ensures { result ≡ said_moisture g.now }
 {
@@ -399,15 +378,14 @@ pub fn read_pressure(g: &[u8]) -> Said
     let f = field(g, 1, 4);
     match f {
         Field::Number(n) => Said::Pressure(Pressure {
-            station: Number::Is(pressure_of(n)),
+            station: Some(pressure_of(n)),
         }),
-        Field::Missing => Said::Pressure(Pressure {
-            station: Number::Missing,
-        }),
+        Field::Missing => Said::Pressure(Pressure { station: None }),
         _ => wrong_figure(),
     }
 }
 
+#[tactic(auto, unfolding(crate::specs::Reads::level_is))]
 fn level_of(n: u32) -> Said
     requires { n < 10000 }
     ensures { result ≡ level_is n }
@@ -444,6 +422,7 @@ pub fn read_level(g: &[u8]) -> Said
     }
 }
 
+#[tactic(auto, unfolding(crate::specs::Reads::tendency_is))]
 fn tendency_of(a: u32, p: u32) -> Said
     requires { p < 1000 }
     ensures { result ≡ tendency_is a p }
@@ -452,50 +431,50 @@ fn tendency_of(a: u32, p: u32) -> Said
         return wrong_figure();
     }
     Said::Tendency(Tendency {
-        is: PressureChange::Is {
+        is: Some(PressureChange {
             tendency: a,
             change: with_sign(4 < a, p),
-        },
+        }),
     })
 }
 
 // 5appp
+#[tactic(auto, unfolding(crate::specs::Reads::said_tendency))]
 pub fn read_tendency(g: &[u8]) -> Said
     ensures { result ≡ said_tendency g.now }
 {
     let f = field(g, 1, 4);
     match f {
         Field::Number(n) => tendency_of(n / 1000, n % 1000),
-        Field::Missing => Said::Tendency(Tendency {
-            is: PressureChange::Missing,
-        }),
+        Field::Missing => Said::Tendency(Tendency { is: None }),
         _ => wrong_figure(),
     }
 }
 
-fn rainfall_of(forbidden: bool, n: u32, period: Number) -> Said
+fn rainfall_of(forbidden: bool, n: u32, period: Option<u32>) -> Said
     ensures { result ≡ rainfall_of forbidden n period }
 {
     let r = scales::rain::rain_reading(n);
     match r {
-        RainReading::Is(amount) => unless_forbidden(
+        Some(amount) => unless_forbidden(
             forbidden,
             Said::Rainfall(Rainfall {
-                is: Fall::Is { amount, period },
+                is: Some(Fall { amount, period }),
             }),
         ),
-        RainReading::Unused => wrong_figure(),
+        None => wrong_figure(),
     }
 }
 
 // 6RRRt
+#[tactic(auto, unfolding(crate::specs::Reads::said_rainfall, crate::specs::Parts::part_of))]
 pub fn read_rainfall(forbidden: bool, g: &[u8]) -> Said
     ensures { result ≡ said_rainfall forbidden g.now }
 {
     let f = field(g, 1, 3);
     match f {
         Field::Number(n) => {
-            let Part::Known(period) = part_at(g, 4, 1) else {
+            let Some(period) = part_at(g, 4, 1) else {
                 return wrong_figure();
             };
             rainfall_of(forbidden, n, period)
@@ -504,23 +483,24 @@ pub fn read_rainfall(forbidden: bool, g: &[u8]) -> Said
             let Field::Missing = field(g, 4, 1) else {
                 return wrong_figure();
             };
-            unless_forbidden(forbidden, Said::Rainfall(Rainfall { is: Fall::Missing }))
+            unless_forbidden(forbidden, Said::Rainfall(Rainfall { is: None }))
         }
         _ => wrong_figure(),
     }
 }
 
 // 7wwWW
+#[tactic(auto, unfolding(crate::specs::Reads::said_weather, crate::specs::Parts::part_of))]
 pub fn read_weather(forbidden: bool, g: &[u8]) -> Said
     ensures { result ≡ said_weather forbidden g.now }
 {
-    let Part::Known(present) = part_at(g, 1, 2) else {
+    let Some(present) = part_at(g, 1, 2) else {
         return wrong_figure();
     };
-    let Part::Known(past) = part_at(g, 3, 1) else {
+    let Some(past) = part_at(g, 3, 1) else {
         return wrong_figure();
     };
-    let Part::Known(past2) = part_at(g, 4, 1) else {
+    let Some(past2) = part_at(g, 4, 1) else {
         return wrong_figure();
     };
     unless_forbidden(
@@ -534,19 +514,20 @@ pub fn read_weather(forbidden: bool, g: &[u8]) -> Said
 }
 
 // 8NCCC
+#[tactic(auto, unfolding(crate::specs::Reads::said_clouds, crate::specs::Parts::part_of))]
 pub fn read_clouds(g: &[u8]) -> Said
     ensures { result ≡ said_clouds g.now }
 {
-    let Part::Known(amount) = part_at(g, 1, 1) else {
+    let Some(amount) = part_at(g, 1, 1) else {
         return wrong_figure();
     };
-    let Part::Known(low) = part_at(g, 2, 1) else {
+    let Some(low) = part_at(g, 2, 1) else {
         return wrong_figure();
     };
-    let Part::Known(middle) = part_at(g, 3, 1) else {
+    let Some(middle) = part_at(g, 3, 1) else {
         return wrong_figure();
     };
-    let Part::Known(high) = part_at(g, 4, 1) else {
+    let Some(high) = part_at(g, 4, 1) else {
         return wrong_figure();
     };
     Said::Clouds(Clouds {
@@ -558,6 +539,7 @@ pub fn read_clouds(g: &[u8]) -> Said
 }
 
 // 9GGgg
+#[tactic(auto, unfolding(crate::specs::Reads::said_clock, crate::specs::Reads::clock_is))]
 pub fn read_clock(g: &[u8]) -> Said
     ensures { result ≡ said_clock g.now }
 {
@@ -569,48 +551,33 @@ pub fn read_clock(g: &[u8]) -> Said
     };
     if (hour <= 23) & (minute <= 59) {
         Said::Clock(Clock {
-            is: Observed::At { hour, minute },
+            is: Some(Observed { hour, minute }),
         })
     } else {
         wrong_figure()
     }
 }
 
-// The height of a layer's base that may be missing, or has a wrong figure.
-#[derive(Clone, Copy)]
-enum Based {
-    Known(BaseHeight),
-    Wrong,
-}
-
-fn height_of(n: u32) -> Based
+#[tactic(auto, unfolding(crate::specs::Parts::height_for))]
+fn height_of(n: u32) -> Option<BaseHeight>
     ensures { result ≡ height_for n }
 {
     if 90 <= n {
-        let r = scales::layers::bands_reading(n);
-        match r {
-            Reading::Is(m) => Based::Known(BaseHeight::Bands(m)),
-            Reading::Unused => Based::Wrong,
-        }
+        scales::layers::bands_reading(n).map(BaseHeight::Bands)
     } else {
-        let r = scales::layers::steps_reading(n);
-        match r {
-            Reading::Is(m) => Based::Known(BaseHeight::Steps(m)),
-            Reading::Unused => Based::Wrong,
-        }
+        scales::layers::steps_reading(n).map(BaseHeight::Steps)
     }
 }
 
 // hh, by table 1677.
-fn height_at(g: &[u8]) -> Based
+#[tactic(auto, unfolding(crate::specs::Parts::layer_part))]
+fn height_at(g: &[u8]) -> Option<BaseHeight>
     ensures { result ≡ layer_part (field_at g.now 3 2) }
 {
-    let f = field(g, 3, 2);
-    match f {
+    match field(g, 3, 2) {
         Field::Number(n) => height_of(n),
-        Field::Missing => Based::Known(BaseHeight::Missing),
-        Field::Mixed => Based::Wrong,
-        Field::Other => Based::Wrong,
+        Field::Missing => Some(BaseHeight::Missing),
+        Field::Mixed | Field::Other => None,
     }
 }
 
@@ -618,13 +585,13 @@ fn height_at(g: &[u8]) -> Based
 pub fn read_layer(g: &[u8]) -> Said
     ensures { result ≡ said_layer g.now }
 {
-    let Part::Known(amount) = part_at(g, 1, 1) else {
+    let Some(amount) = part_at(g, 1, 1) else {
         return wrong_figure();
     };
-    let Part::Known(cloud) = part_at(g, 2, 1) else {
+    let Some(cloud) = part_at(g, 2, 1) else {
         return wrong_figure();
     };
-    let Based::Known(height) = height_at(g) else {
+    let Some(height) = height_at(g) else {
         return wrong_figure();
     };
     Said::Layer(CloudLayer {

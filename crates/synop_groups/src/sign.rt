@@ -20,13 +20,5 @@ fn slot_fits(filled: bool, b: u8) -> bool
 pub fn slots_fit(filled: bool, s: &[u8]) -> bool
     ensures { result ≡ every (slot_fits filled) s.now }
 {
-    let mut i = 0;
-    while i < s.len() {
-        if slot_fits(filled, s[i]) {
-            i += 1;
-        } else {
-            return false;
-        }
-    }
-    true
+    s.iter().all(|b| slot_fits(filled, *b))
 }

@@ -13,40 +13,43 @@ use record::surface::{
     Moisture, Observed, Position, Pressure, PressureChange, Rainfall, Sight, Tendency, Time,
     Weather, Wind,
 };
-use record::values::{Direction, Number, Speed, Tenths};
+use record::values::{Direction, Speed, is_between, is_missing_or_between};
 use scales::kinds::Rain;
 use synop_groups::sign::slots_fit;
 use text::judge::judge;
-use text::kinds::Judged;
+use text::kinds::Refusal;
 
-fn unit_fits(n: Number) -> bool
+fn unit_fits(n: Option<u32>) -> bool
     ensures { result ≡ unit_fits n }
 {
     match n {
-        Number::Missing => false,
-        Number::Is(w) => (w == 0) | (w == 1) | (w == 3) | (w == 4),
+        None => false,
+        Some(w) => (w == 0) | (w == 1) | (w == 3) | (w == 4),
     }
 }
 
-pub fn judge_time(t: Time) -> Judged
+#[tactic(auto, unfolding(synop_groups::specs::Judge::judge_time))]
+pub fn judge_time(t: Time) -> Result<(), Refusal>
     ensures { result ≡ judge_time t }
 {
     let day = t.day;
     let hour = t.hour;
     let unit = t.unit;
     judge(
-        day.is_between(1, 31) & hour.is_between(0, 23) & unit_fits(unit),
+        is_between(day, 1, 31) & is_between(hour, 0, 23) & unit_fits(unit),
         true,
     )
 }
 
-pub fn judge_station(n: Number) -> Judged
+#[tactic(auto, unfolding(synop_groups::specs::Judge::judge_station))]
+pub fn judge_station(n: Option<u32>) -> Result<(), Refusal>
     ensures { result ≡ judge_station n }
 {
-    judge(n.is_between(0, 99999), true)
+    judge(is_between(n, 0, 99999), true)
 }
 
-pub fn judge_sign(s: CallSign) -> Judged
+#[tactic(auto, unfolding(synop_groups::specs::Judge::judge_sign))]
+pub fn judge_sign(s: CallSign) -> Result<(), Refusal>
     ensures { result ≡ judge_sign s }
 {
     let letters = s.letters;
@@ -56,26 +59,27 @@ pub fn judge_sign(s: CallSign) -> Judged
     judge((3 <= length) & (length <= 9) & name & blank, true)
 }
 
-fn latitude_fits(t: Tenths) -> bool
+fn latitude_fits(t: Option<i32>) -> bool
     ensures { result ≡ latitude_fits t }
 {
     match t {
-        Tenths::Missing => false,
-        Tenths::Is(t) => signed::magnitude(t) <= 900,
+        None => false,
+        Some(t) => signed::magnitude(t) <= 900,
     }
 }
 
 // The west's last tenth is -179.9: 180.0 is east.
-fn longitude_fits(t: Tenths) -> bool
+fn longitude_fits(t: Option<i32>) -> bool
     ensures { result ≡ longitude_fits t }
 {
     match t {
-        Tenths::Missing => false,
-        Tenths::Is(t) => (-1799 <= t) & (t <= 1800),
+        None => false,
+        Some(t) => (-1799 <= t) & (t <= 1800),
     }
 }
 
-pub fn judge_position(p: Position) -> Judged
+#[tactic(auto, unfolding(synop_groups::specs::Judge::judge_position))]
+pub fn judge_position(p: Position) -> Result<(), Refusal>
     ensures { result ≡ judge_position p }
 {
     let latitude = p.latitude;
@@ -93,7 +97,7 @@ fn sight_fits(s: Sight) -> bool
     }
 }
 
-pub fn judge_indicators(i: Indicators) -> Judged
+pub fn judge_indicators(i: Indicators) -> Result<(), Refusal>
     ensures { result ≡ judge_indicators i }
 {
     let rain = i.rain;
@@ -101,9 +105,9 @@ pub fn judge_indicators(i: Indicators) -> Judged
     let base = i.base;
     let sight = i.sight;
     judge(
-        rain.is_between(0, 4)
-            & weather.is_between(1, 7)
-            & base.is_missing_or_between(0, 99999)
+        is_between(rain, 0, 4)
+            & is_between(weather, 1, 7)
+            & is_missing_or_between(base, 0, 99999)
             & sight_fits(sight),
         true,
     )
@@ -144,28 +148,30 @@ fn wind_agrees(d: Direction, s: Speed) -> bool
     }
 }
 
-pub fn judge_wind(w: Wind) -> Judged
+#[tactic(auto, unfolding(synop_groups::specs::Judge::judge_wind))]
+pub fn judge_wind(w: Wind) -> Result<(), Refusal>
     ensures { result ≡ judge_wind w }
 {
     let cover = w.cover;
     let d = w.direction;
     let s = w.speed;
     judge(
-        cover.is_missing_or_between(0, 9) & wind_fits(d, s),
+        is_missing_or_between(cover, 0, 9) & wind_fits(d, s),
         wind_agrees(d, s),
     )
 }
 
-fn tenths_fit(t: Tenths) -> bool
+fn tenths_fit(t: Option<i32>) -> bool
     ensures { result ≡ tenths_fit t }
 {
     match t {
-        Tenths::Missing => true,
-        Tenths::Is(t) => signed::magnitude(t) <= 999,
+        None => true,
+        Some(t) => signed::magnitude(t) <= 999,
     }
 }
 
-pub fn judge_air(a: Air) -> Judged
+#[tactic(auto, unfolding(synop_groups::specs::Judge::judge_air))]
+pub fn judge_air(a: Air) -> Result<(), Refusal>
     ensures { result ≡ judge_air a }
 {
     let t = a.temperature;
@@ -182,18 +188,20 @@ fn moist_fits(m: Moist) -> bool
     }
 }
 
-pub fn judge_moisture(m: Moisture) -> Judged
+#[tactic(auto, unfolding(synop_groups::specs::Judge::judge_moisture))]
+pub fn judge_moisture(m: Moisture) -> Result<(), Refusal>
     ensures { result ≡ judge_moisture m }
 {
     let is = m.is;
     judge(moist_fits(is), true)
 }
 
-pub fn judge_pressure(p: Pressure) -> Judged
+#[tactic(auto, unfolding(synop_groups::specs::Judge::judge_pressure))]
+pub fn judge_pressure(p: Pressure) -> Result<(), Refusal>
     ensures { result ≡ judge_pressure p }
 {
     let station = p.station;
-    judge(station.is_missing_or_between(1000, 10999), true)
+    judge(is_missing_or_between(station, 1000, 10999), true)
 }
 
 fn level_fits(h: AtLevel) -> bool
@@ -209,19 +217,20 @@ fn level_fits(h: AtLevel) -> bool
     }
 }
 
-pub fn judge_level(l: Level) -> Judged
+#[tactic(auto, unfolding(synop_groups::specs::Judge::judge_level))]
+pub fn judge_level(l: Level) -> Result<(), Refusal>
     ensures { result ≡ judge_level l }
 {
     let is = l.is;
     judge(level_fits(is), true)
 }
 
-fn change_fits(c: PressureChange) -> bool
+fn change_fits(c: Option<PressureChange>) -> bool
     ensures { result ≡ change_fits c }
 {
     match c {
-        PressureChange::Missing => true,
-        PressureChange::Is { tendency, change } => (tendency <= 8)
+        None => true,
+        Some(PressureChange { tendency, change }) => (tendency <= 8)
             & (signed::magnitude(change) <= 999),
     }
 }
@@ -238,16 +247,17 @@ fn change_suits(tendency: u32, change: i32) -> bool
     if tendency == 4 { none } else { fall | none }
 }
 
-fn change_agrees(c: PressureChange) -> bool
+fn change_agrees(c: Option<PressureChange>) -> bool
     ensures { result ≡ change_agrees c }
 {
     match c {
-        PressureChange::Missing => true,
-        PressureChange::Is { tendency, change } => change_suits(tendency, change),
+        None => true,
+        Some(PressureChange { tendency, change }) => change_suits(tendency, change),
     }
 }
 
-pub fn judge_tendency(t: Tendency) -> Judged
+#[tactic(auto, unfolding(synop_groups::specs::Judge::judge_tendency))]
+pub fn judge_tendency(t: Tendency) -> Result<(), Refusal>
     ensures { result ≡ judge_tendency t }
 {
     let is = t.is;
@@ -263,37 +273,39 @@ fn amount_fits(r: Rain) -> bool
     }
 }
 
-fn fall_fits(f: Fall) -> bool
+fn fall_fits(f: Option<Fall>) -> bool
     ensures { result ≡ fall_fits f }
 {
     match f {
-        Fall::Missing => true,
-        Fall::Is { amount, period } => amount_fits(amount) & period.is_missing_or_between(0, 9),
+        None => true,
+        Some(Fall { amount, period }) => amount_fits(amount) & is_missing_or_between(period, 0, 9),
     }
 }
 
-pub fn judge_rainfall(forbidden: bool, r: Rainfall) -> Judged
+pub fn judge_rainfall(forbidden: bool, r: Rainfall) -> Result<(), Refusal>
     ensures { result ≡ judge_rainfall forbidden r }
 {
     let is = r.is;
-    judge(fall_fits(is), !forbidden | is.is_missing())
+    judge(fall_fits(is), !forbidden | is.is_none())
 }
 
-pub fn judge_weather(forbidden: bool, w: Weather) -> Judged
+#[tactic(auto, unfolding(synop_groups::specs::Judge::judge_weather))]
+pub fn judge_weather(forbidden: bool, w: Weather) -> Result<(), Refusal>
     ensures { result ≡ judge_weather forbidden w }
 {
     let present = w.present;
     let past = w.past;
     let past2 = w.past2;
     judge(
-        present.is_missing_or_between(0, 99)
-            & past.is_missing_or_between(0, 9)
-            & past2.is_missing_or_between(0, 9),
+        is_missing_or_between(present, 0, 99)
+            & is_missing_or_between(past, 0, 9)
+            & is_missing_or_between(past2, 0, 9),
         !forbidden | w.is_blank(),
     )
 }
 
-pub fn judge_clouds(c: Clouds) -> Judged
+#[tactic(auto, unfolding(synop_groups::specs::Judge::judge_clouds))]
+pub fn judge_clouds(c: Clouds) -> Result<(), Refusal>
     ensures { result ≡ judge_clouds c }
 {
     let amount = c.amount;
@@ -301,24 +313,25 @@ pub fn judge_clouds(c: Clouds) -> Judged
     let middle = c.middle;
     let high = c.high;
     judge(
-        amount.is_missing_or_between(0, 9)
-            & low.is_missing_or_between(0, 9)
-            & middle.is_missing_or_between(0, 9)
-            & high.is_missing_or_between(0, 9),
+        is_missing_or_between(amount, 0, 9)
+            & is_missing_or_between(low, 0, 9)
+            & is_missing_or_between(middle, 0, 9)
+            & is_missing_or_between(high, 0, 9),
         true,
     )
 }
 
-fn clock_fits(o: Observed) -> bool
+fn clock_fits(o: Option<Observed>) -> bool
     ensures { result ≡ clock_fits o }
 {
     match o {
-        Observed::Missing => true,
-        Observed::At { hour, minute } => (hour <= 23) & (minute <= 59),
+        None => true,
+        Some(Observed { hour, minute }) => (hour <= 23) & (minute <= 59),
     }
 }
 
-pub fn judge_clock(c: Clock) -> Judged
+#[tactic(auto, unfolding(synop_groups::specs::Judge::judge_clock))]
+pub fn judge_clock(c: Clock) -> Result<(), Refusal>
     ensures { result ≡ judge_clock c }
 {
     let is = c.is;
@@ -336,12 +349,13 @@ fn height_fits(h: BaseHeight) -> bool
 }
 
 // A layer of section 3 that says something, each part in its range.
+#[tactic(auto, unfolding(synop_groups::specs::Judge::layer_fits))]
 pub fn layer_fits(l: CloudLayer) -> bool
     ensures { result ≡ layer_fits l }
 {
     let amount = l.amount;
     let cloud = l.cloud;
     let height = l.height;
-    let told = !l.is_blank() & amount.is_missing_or_between(0, 9);
-    told & cloud.is_missing_or_between(0, 9) & height_fits(height)
+    let told = !l.is_blank() & is_missing_or_between(amount, 0, 9);
+    told & is_missing_or_between(cloud, 0, 9) & height_fits(height)
 }

@@ -21,36 +21,36 @@ use record::surface::{
     Moisture, Observed, Position, Pressure, PressureChange, Rainfall, Sight, Tendency, Time,
     Weather, Wind,
 };
-use record::values::{Direction, Number, Speed, Tenths};
+use record::values::{Direction, Speed};
 use scales::direction::direction_figure;
-use scales::kinds::{Figure, Rain};
+use scales::kinds::Rain;
 use scales::layers::{bands_figure, steps_figure};
 use scales::metres::{base_figure, land_figure, sea_figure};
 use scales::rain::rain_figure;
 use synop_groups_judge::slots::name_part;
 use text::write::{open_group, put_if};
 
-fn field_of(n: Number) -> Field
+fn field_of(n: Option<u32>) -> Field
     ensures { result ≡ field_of n }
 {
     match n {
-        Number::Missing => Field::Missing,
-        Number::Is(v) => Field::Number(v),
+        None => Field::Missing,
+        Some(v) => Field::Number(v),
     }
 }
 
 // The figure of a scale; a value out of its range has none.
-fn field_by(f: Figure) -> Field
+fn field_by(f: Option<u32>) -> Field
     ensures { result ≡ field_by f }
 {
     match f {
-        Figure::Is(n) => Field::Number(n),
-        Figure::OutOfRange => Field::Other,
+        Some(n) => Field::Number(n),
+        None => Field::Other,
     }
 }
 
 // A number that may be missing: as many slashes as figures.
-fn put_part(out: &mut [u8], at: usize, width: usize, n: Number) -> usize
+fn put_part(out: &mut [u8], at: usize, width: usize, n: Option<u32>) -> usize
     ensures { Put out.old at (field_text width (field_of n)) result out.new }
 {
     put_field(out, at, width, field_of(n))
@@ -97,7 +97,7 @@ pub fn put_time(out: &mut [u8], at: usize, t: Time) -> usize
 }
 
 // IIiii
-pub fn put_station(out: &mut [u8], at: usize, n: Number) -> usize
+pub fn put_station(out: &mut [u8], at: usize, n: Option<u32>) -> usize
     ensures { Put out.old at (written at (show_station n ∷ [])) result out.new }
 {
     let opened = open_group(out, at);
@@ -114,21 +114,21 @@ pub fn put_sign(out: &mut [u8], at: usize, s: CallSign) -> usize
     put_text(out, opened, name_part(&letters, length))
 }
 
-fn magnitude_of(t: Tenths) -> u32
+fn magnitude_of(t: Option<i32>) -> u32
     ensures { result ≡ magnitude_of t }
 {
     match t {
-        Tenths::Missing => 0,
-        Tenths::Is(t) => signed::magnitude(t),
+        None => 0,
+        Some(t) => signed::magnitude(t),
     }
 }
 
-fn is_minus(t: Tenths) -> bool
+fn is_minus(t: Option<i32>) -> bool
     ensures { result ≡ negative (signed_value t) }
 {
     match t {
-        Tenths::Missing => false,
-        Tenths::Is(t) => signed::is_negative(t),
+        None => false,
+        Some(t) => signed::is_negative(t),
     }
 }
 
@@ -163,12 +163,12 @@ pub fn put_longitude(out: &mut [u8], at: usize, p: Position) -> usize
     put_number(out, told, 4, magnitude_of(longitude))
 }
 
-fn base_field(base: Number) -> Field
+fn base_field(base: Option<u32>) -> Field
     ensures { result ≡ base_field base }
 {
     match base {
-        Number::Missing => Field::Missing,
-        Number::Is(m) => field_by(base_figure(m)),
+        None => Field::Missing,
+        Some(m) => field_by(base_figure(m)),
     }
 }
 
@@ -276,8 +276,8 @@ pub fn put_air(out: &mut [u8], at: usize, a: Air) -> usize
 {
     let temperature = a.temperature;
     match temperature {
-        Tenths::Missing => at,
-        Tenths::Is(t) => put_signed(out, at, b'1', t),
+        None => at,
+        Some(t) => put_signed(out, at, b'1', t),
     }
 }
 
@@ -299,8 +299,8 @@ pub fn put_pressure(out: &mut [u8], at: usize, p: Pressure) -> usize
 {
     let station = p.station;
     match station {
-        Number::Missing => at,
-        Number::Is(p) => put_coded(out, at, b"3", 4, p % 10000),
+        None => at,
+        Some(p) => put_coded(out, at, b"3", 4, p % 10000),
     }
 }
 
@@ -322,14 +322,14 @@ pub fn put_tendency(out: &mut [u8], at: usize, t: Tendency) -> usize
 {
     let is = t.is;
     match is {
-        PressureChange::Missing => at,
-        PressureChange::Is { tendency, change } => {
+        None => at,
+        Some(PressureChange { tendency, change }) => {
             put_two(out, at, b'5', 1, tendency, 3, signed::magnitude(change))
         }
     }
 }
 
-fn put_fall(out: &mut [u8], at: usize, amount: Rain, period: Number) -> usize
+fn put_fall(out: &mut [u8], at: usize, amount: Rain, period: Option<u32>) -> usize
     ensures { Put out.old at (written at ((bytes "6" ++ field_text 3 (field_by (rain_figure amount)) ++ field_text 1 (field_of period)) ∷ [])) result out.new }
 {
     let opened = open_group(out, at);
@@ -344,8 +344,8 @@ pub fn put_rainfall(out: &mut [u8], at: usize, required: bool, r: Rainfall) -> u
 {
     let is = r.is;
     match is {
-        Fall::Missing => put_if(out, at, required, b"6////"),
-        Fall::Is { amount, period } => put_fall(out, at, amount, period),
+        None => put_if(out, at, required, b"6////"),
+        Some(Fall { amount, period }) => put_fall(out, at, amount, period),
     }
 }
 
@@ -405,8 +405,8 @@ pub fn put_clock(out: &mut [u8], at: usize, c: Clock) -> usize
 {
     let is = c.is;
     match is {
-        Observed::Missing => at,
-        Observed::At { hour, minute } => put_two(out, at, b'9', 2, hour, 2, minute),
+        None => at,
+        Some(Observed { hour, minute }) => put_two(out, at, b'9', 2, hour, 2, minute),
     }
 }
 
@@ -418,8 +418,8 @@ pub fn put_minimum(out: &mut [u8], at: usize, a: Air) -> usize
 {
     let temperature = a.temperature;
     match temperature {
-        Tenths::Missing => at,
-        Tenths::Is(t) => put_signed(out, at, b'2', t),
+        None => at,
+        Some(t) => put_signed(out, at, b'2', t),
     }
 }
 

@@ -1,5 +1,6 @@
 -- The groups through Nddff as a whole: what is written of a record that is judged fine has the shape of its position and is read back.
 -- Assumes nothing.
+use Rattle.std.specs.Prelude.{Ok, Option}
 use Prim.Native.Nat.{ℕ}
 use native.Mathlib.Omega.{arith}
 use mathlib.Core.Path.{◌≡◌, refl}
@@ -8,17 +9,15 @@ use mathlib.Core.List.{List, [], ◌∷◌, ◌++◌}
 use lib.ListN.{length}
 use Rattle.figures.proofs.Impossible.{impossible}
 use Rattle.figures.specs.Quote.{bytes}
-use Rattle.text.specs.declared.kinds.Tail.{Tail}
 use Rattle.text.specs.Groups.{Piece}
 use Rattle.text.proofs.Judging.{and-then}
 use Rattle.shapes.specs.Pattern.{Pattern, low, high, has_pattern, clash}
 use Rattle.shapes.proofs.Patterns.{excluded}
-use Rattle.places.specs.Engine.{Group, Good, Outcome}
+use Rattle.places.specs.Engine.{Group, Outcome}
 use Rattle.places.proofs.ReadBack.{one-pattern, groups_of}
 use Rattle.places.proofs.Sizes.{Sized, sized-sign, measured, sized-any, Sizes, sizes-none, sizes-cons, sizes-more}
 use Rattle.record.specs.declared.surface.Synop.{Synop}
 use Rattle.synop_groups.specs.declared.kinds.Said.{Said}
-use Rattle.text.specs.declared.kinds.Judged.TheVariants as judged
 use Rattle.synop_groups.specs.Reads.{said_time, said_station, said_latitude, said_longitude, said_indicators, said_wind}
 use Rattle.synop_groups.specs.Judge.{judge_time, judge_station, judge_sign, judge_position, judge_indicators, judge_wind}
 use Rattle.synop_groups.proofs.RoundTripHead.{Stands, time-back, station-back, sign-back, latitude-back, longitude-back, indicators-back, wind-back}
@@ -33,7 +32,7 @@ use Rattle.synop.specs.Write.{judge_site}
 pub record Stood (p : Post) (r acc : Synop) : Type 0 where
   pub unlike : (p.nil && is_nil (p.show r)) ≡ false
   pub shaped : p.has (p.show r) ≡ true
-  pub reads : p.read (p.show r) acc ≡ Good (p.put r acc)
+  pub reads : p.read (p.show r) acc ≡ Ok (p.put r acc)
 
 abbrev pub StoodAll : List Post → Synop → Synop → Type 0
 StoodAll [] r acc = Unit {0}
@@ -48,7 +47,7 @@ put_posts [] r acc = acc
 put_posts (p ∷ ps) r acc = put_posts ps r (p.put r acc)
 
 -- Such groups are read, from any pieces that hold them, and reading goes on with the positions after them.
-pub walk-stood : (ps qs : List Post) (r acc : Synop) (tail : Tail) (end : ℕ) (gs : List Piece) (after : List Group) (x : Outcome Synop) → StoodAll ps r acc
+pub walk-stood : (ps qs : List Post) (r acc : Synop) (tail : Option ℕ) (end : ℕ) (gs : List Piece) (after : List Group) (x : Outcome Synop) → StoodAll ps r acc
     → groups_of gs ≡ shown ps r ++ after → ((hs : List Piece) → groups_of hs ≡ after → walk qs (put_posts ps r acc) tail end hs ≡ x)
     → walk (ps ++ qs) acc tail end gs ≡ x
 unfolding walk
@@ -64,7 +63,7 @@ abbrev post_of : Pattern → Bool → (Synop → Group → Said) → (Synop → 
 post_of shape nil says show put = record { has = λ g. has_pattern g shape; nil = nil; read = λ g r. with_head (says r g) r; show = show; put = put }
 
 stand : (says : Synop → Group → Said) {shape : Pattern} {nil : Bool} {show : Synop → Group} {put : Synop → Synop → Synop} {meant : Said} {r acc : Synop}
-    → Stands shape (says acc) meant (show r) → clash shape (bytes "NIL") ≡ true → with_head meant acc ≡ Good (put r acc)
+    → Stands shape (says acc) meant (show r) → clash shape (bytes "NIL") ≡ true → with_head meant acc ≡ Ok (put r acc)
     → Stood (post_of shape nil says show put) r acc
 stand says {shape} {nil} {show} {put} {meant} {r} {acc} s c e =
     record {
@@ -87,13 +86,13 @@ unfolding posts
 posts-are false = refl
 posts-are true = refl
 
-sign-stood : (r acc : Synop) → length r.site.sign.letters ≡ 9 → judge_sign r.site.sign ≡ judged.Fine → Stood sign_post r acc
+sign-stood : (r acc : Synop) → length r.site.sign.letters ≡ 9 → judge_sign r.site.sign ≡ Ok tt → Stood sign_post r acc
 unfolding sign_of
 sign-stood r acc nine e =
     let b = sign-back r.site.sign nine e in
     record { unlike = refl; shaped = b.0; reads = rw (b.1, b.2) }
 
-pub site-stood : (ship : Bool) (r : Synop) → r.ship ≡ ship → length r.site.sign.letters ≡ 9 → judge_site r ≡ judged.Fine
+pub site-stood : (ship : Bool) (r : Synop) → r.ship ≡ ship → length r.site.sign.letters ≡ 9 → judge_site r ≡ Ok tt
     → StoodAll (site_posts ship) r (begun ship)
 unfolding judge_site with_head with_said low high clash
 site-stood false r is nine e =
@@ -110,7 +109,7 @@ site-stood true r is nine e =
       ),
     )
 
-pub surface-stood : (ship : Bool) (r acc : Synop) → judge_indicators r.surface.indicators ≡ judged.Fine → judge_wind r.surface.wind ≡ judged.Fine
+pub surface-stood : (ship : Bool) (r acc : Synop) → judge_indicators r.surface.indicators ≡ Ok tt → judge_wind r.surface.wind ≡ Ok tt
     → StoodAll (surface_posts ship) r acc
 unfolding with_head with_said low high clash
 surface-stood ship r acc i w =

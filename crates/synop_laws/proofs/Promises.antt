@@ -1,9 +1,10 @@
 -- What the round trip promises, in document 01's words: each exact field comes back as it was, each rounded number as the reading of its class, near
 -- its value and never above it where the scale rounds down.
 -- Assumes nothing.
+use Rattle.std.specs.Prelude.{Ok, Option, None, Some}
 use Prim.Native.Nat.{ℕ}
 use mathlib.Core.Path.{◌≡◌, refl}
-use mathlib.Core.Bool.{true, false≢true}
+use mathlib.Core.Bool.{true}
 use mathlib.Core.List.{List, [], ◌∷◌, map}
 use lib.ListN.{length, take, drop}
 use lib.Dec.{leb, eqb}
@@ -16,22 +17,18 @@ use Rattle.scales.proofs.Down.{Down, down}
 use Rattle.scales.proofs.MetresLaws.{land-laws, sea-laws, base-laws}
 use Rattle.scales.proofs.LayersLaws.{steps-laws, bands-laws}
 use Rattle.scales.proofs.RainLaws.{RainNear, rain-kept}
-use Rattle.record.specs.declared.values.Number.{Number}
 use Rattle.record.specs.declared.values.Direction.{Direction}
 use Rattle.record.specs.declared.values.Direction.TheVariants as direction
 use Rattle.record.specs.declared.values.Speed.{Speed}
-use Rattle.record.specs.declared.values.Speed.TheVariants as speed
 use Rattle.record.specs.declared.surface.Sight.{Sight}
 use Rattle.record.specs.declared.surface.Sight.TheVariants as sight
 use Rattle.record.specs.declared.surface.Fall.{Fall}
-use Rattle.record.specs.declared.surface.Fall.TheVariants as fall
 use Rattle.record.specs.declared.surface.BaseHeight.{BaseHeight}
 use Rattle.record.specs.declared.surface.BaseHeight.TheVariants as height
 use Rattle.record.specs.declared.surface.CloudLayer.{CloudLayer}
 use Rattle.record.specs.declared.surface.Section3.{Section3}
 use Rattle.record.specs.declared.surface.Surface.{Surface}
 use Rattle.record.specs.declared.surface.Synop.{Synop}
-use Rattle.text.specs.declared.kinds.Judged.TheVariants as judged
 use Rattle.record.specs.Arrays.{SynopArrays}
 use Rattle.record.specs.Classes.{class_direction}
 use Rattle.record.proofs.Counted.{EachRead, none, more}
@@ -40,6 +37,7 @@ use Rattle.synop_groups.specs.Judge.{speed_fits, wind_fits}
 use Rattle.synop_groups.specs.Classes.{class_base, class_sight, class_fall, class_height, class_layer}
 use Rattle.text.specs.Groups.{groups_from}
 use Rattle.text.specs.Text.{tail_of}
+use Rattle.record.specs.Values.{fall_of}
 use Rattle.places.specs.Engine.{Done}
 use Rattle.section3.specs.Write.{class_section3}
 use Rattle.synop.specs.Read.{groups_read}
@@ -50,7 +48,7 @@ use Rattle.synop_laws.proofs.Sections.{classed_surface}
 -- ---- which number comes back, and how far off
 
 -- h and its reading
-pub base_read : (b : Number) → NumberDown base b (class_base b)
+pub base_read : (b : Option ℕ) → NumberDown base b (class_base b)
 base_read = number-down base-laws
 
 -- VV and its reading, on the same scale
@@ -73,13 +71,13 @@ pub rain-read : (r : Rain) → RainRead r (rounded_rain r)
 rain-read r = record { class = refl; near = rain-kept r }
 
 -- RRRt and its reading: the period is exact
-pub data FallRead : Fall → Fall → Type 0 where
-  no-fall : FallRead fall.Missing fall.Missing
-  fell : {r q : Rain} {t : Number} → RainRead r q → FallRead (fall.Is r t) (fall.Is q t)
+pub data FallRead : Option Fall → Option Fall → Type 0 where
+  no-fall : FallRead None None
+  fell : {r q : Rain} {t : Option ℕ} → RainRead r q → FallRead (Some (fall_of r t)) (Some (fall_of q t))
 
-pub fall-read : (f : Fall) → FallRead f (class_fall f)
-fall-read fall.Missing = no-fall
-fall-read (fall.Is r t) = fell (rain-read r)
+pub fall-read : (f : Option Fall) → FallRead f (class_fall f)
+fall-read None = no-fall
+fall-read (Some x) = fell (rain-read x.amount)
 
 -- a direction and its reading
 direction-fits : (d : Direction) (s : Speed) → wind_fits d s ≡ true → direction_fits d ≡ true
@@ -174,7 +172,7 @@ surface-read s w =
     }
 
 -- WHAT IS WRITTEN OF A RECORD THAT THE WRITER ACCEPTS IS READ, to the text's end, as a record that says the same.
-pub promise : (r : Synop) → SynopArrays r → judge_of r ≡ judged.Fine
+pub promise : (r : Synop) → SynopArrays r → judge_of r ≡ Ok tt
     → (groups_read r.ship (tail_of (canonical_of r)) (length (canonical_of r)) (drop 1 (groups_from (canonical_of r) 0)) ≡ Done (length (canonical_of r)) (classed_of r))
     × RecordRead r (classed_of r)
 unfolding classed_of

@@ -1,20 +1,20 @@
 -- Section 1 after Nddff, and section 3, as a whole: what is written of a surface and a section 3 that are judged fine is read back as their classes.
 -- Assumes nothing.
+use Rattle.std.specs.Prelude.{None, Ok}
 use Prim.Native.Nat.{ℕ, ◌≤◌, ◌<◌}
 use Prim.Native.String.{String}
 use native.Mathlib.Omega.{arith}
 use mathlib.Core.Path.{◌≡◌, refl, sym, ap, ◌∙◌}
-use mathlib.Core.Bool.{Bool, true, false, not, ◌&&◌, false≢true}
+use mathlib.Core.Bool.{Bool, true, false, not, false≢true}
 use mathlib.Core.List.{List, [], ◌∷◌, ◌++◌, append-nil}
 use mathlib.Core.Logic.{⊎_elim}
 use lib.ListN.{length, replicate}
 use borrow.Author.Tests.{le-leb, lt-leb}
 use Rattle.figures.specs.Quote.{bytes}
-use Rattle.text.specs.declared.kinds.Tail.TheVariants.{Clear}
 use Rattle.text.specs.Groups.{Piece}
 use Rattle.text.proofs.Judging.{and-then}
 use Rattle.shapes.specs.Pattern.{Pattern, low, high, fits, has_pattern, has_any}
-use Rattle.places.specs.Engine.{Group, Good, Done, Place, written, put_all}
+use Rattle.places.specs.Engine.{Group, Done, Place, written, put_all}
 use Rattle.places.specs.Parts.{Opens}
 use Rattle.places.proofs.ReadBack.{All, one-pattern, Served, groups_of, stops_any, plain}
 use Rattle.places.proofs.Sizes.{measured, sized-each, Sizes}
@@ -29,11 +29,9 @@ use Rattle.record.specs.declared.surface.Section3.{Section3}
 use Rattle.record.specs.Set.{set_surface, set_section3}
 use Rattle.record.specs.Blank.{blank_surface, blank_section3}
 use Rattle.synop_groups.specs.declared.kinds.Said.{Said}
-use Rattle.text.specs.declared.kinds.Judged.TheVariants as judged
 use Rattle.synop_groups.specs.Classes.{class_indicators, class_wind, class_rainfall}
 use Rattle.synop_groups.specs.Shows.{is_in_three, speed_group, show_speed, show_air, show_minimum}
 use Rattle.synop_groups.specs.Judge.{judge_wind, judge_air, judge_moisture, judge_pressure, judge_level, judge_tendency, judge_rainfall, judge_weather, judge_clouds, judge_clock}
-use Rattle.record.specs.SilentSurface.{no_fall}
 use Rattle.synop_groups.specs.Classes.{speed_in_two, wind_in_two}
 use Rattle.synop_groups.proofs.RoundTrip.{Back, none, one, Each, back-shaped, meant_speed, speed-back, air-back, moisture-back, moisture-covered, pressure-back, level-back, tendency-back, rainfall-back, weather-back, clouds-back, clock-back, rainfall-again, rainfall-classed}
 use Rattle.synop_row.specs.declared.kinds.Needs.{Needs}
@@ -61,16 +59,16 @@ each_all P Q (g ∷ gs) h j = ((h.0, j.0), each_all P Q gs h.1 j.1)
 -- A place for one group of five keeps what is written there: the group that stands says the part, and without one the part is blank.
 module _ {X : Type 0} (shape : String) {must : Bool} {says : Group → Said} {meant : X → Said} {blank x : X} where
   serves : {gs : List Group} (spoken : List Pattern) (show : Surface → List Group) (put : Surface → Surface → Surface) (acc after : Surface)
-      → Back (bytes shape) must says meant blank x gs → (0 < length gs → with_said (meant x) acc ≡ Good after) → (x ≡ blank → acc ≡ after)
+      → Back (bytes shape) must says meant blank x gs → (0 < length gs → with_said (meant x) acc ≡ Ok after) → (x ≡ blank → acc ≡ after)
       → Served (place_for shape spoken must says show put) gs acc after
   serves spoken show put acc after (none m e) full empty =
-      record { few = omega arith; there = λ t. absurd (false≢true (sym m ∙ t)); reads = ap Good (empty e) }
+      record { few = omega arith; there = λ t. absurd (false≢true (sym m ∙ t)); reads = ap Ok (empty e) }
   serves spoken show put acc after (one {g} h r) full empty =
       record { few = omega arith; there = λ t. omega arith; reads = rw (r, full (omega arith)) }
 
   keep : {spoken : List Pattern} {show : Surface → List Group} {put : Surface → Surface → Surface} {s acc : Surface} → measured 5 spoken ≡ true
       → Back (bytes shape) must says meant blank x (show s) → Each (λ g. has_any spoken g ≡ true) (show s)
-      → (0 < length (show s) → with_said (meant x) acc ≡ Good (put s acc)) → (x ≡ blank → acc ≡ put s acc)
+      → (0 < length (show s) → with_said (meant x) acc ≡ Ok (put s acc)) → (x ≡ blank → acc ≡ put s acc)
       → Kept (place_for shape spoken must says show put) 5 s acc
   keep {spoken} {show} {put} {s} {acc} five b spoke full empty =
       let shaped = each_all (λ g. has_pattern g (bytes shape) ≡ true) (λ g. has_any spoken g ≡ true) (show s) (back-shaped b) spoke in
@@ -126,17 +124,17 @@ put-row s = refl
 
 -- each group of section 1 is judged fine
 record Fine (n : Needs) (s : Surface) : Type 0 where
-  air : judge_air s.air ≡ judged.Fine
-  moisture : judge_moisture s.moisture ≡ judged.Fine
-  pressure : judge_pressure s.pressure ≡ judged.Fine
-  level : judge_level s.level ≡ judged.Fine
-  tendency : judge_tendency s.tendency ≡ judged.Fine
-  rainfall : judge_rainfall (not n.rain) s.rainfall ≡ judged.Fine
-  weather : judge_weather (not n.weather) s.weather ≡ judged.Fine
-  clouds : judge_clouds s.clouds ≡ judged.Fine
-  clock : judge_clock s.clock ≡ judged.Fine
+  air : judge_air s.air ≡ Ok tt
+  moisture : judge_moisture s.moisture ≡ Ok tt
+  pressure : judge_pressure s.pressure ≡ Ok tt
+  level : judge_level s.level ≡ Ok tt
+  tendency : judge_tendency s.tendency ≡ Ok tt
+  rainfall : judge_rainfall (not n.rain) s.rainfall ≡ Ok tt
+  weather : judge_weather (not n.weather) s.weather ≡ Ok tt
+  clouds : judge_clouds s.clouds ≡ Ok tt
+  clock : judge_clock s.clock ≡ Ok tt
 
-section-fine : (n : Needs) (s : Surface) → judge_section n s ≡ judged.Fine → Fine n s
+section-fine : (n : Needs) (s : Surface) → judge_section n s ≡ Ok tt → Fine n s
 unfolding judge_section
 section-fine n s e =
     let a = and-then (judge_air s.air) _ e in
@@ -159,7 +157,7 @@ section-fine n s e =
       clock = c.1;
     }
 
-speed-meant : (x : Speed) (s : Surface) → 0 < length (speed_group x) → with_said (meant_speed x) s ≡ Good (set_speed x s)
+speed-meant : (x : Speed) (s : Surface) → 0 < length (speed_group x) → with_said (meant_speed x) s ≡ Ok (set_speed x s)
 unfolding with_said
 speed-meant speed.Missing s h = absurd (omega arith)
 speed-meant (speed.Is n) s h = refl
@@ -169,7 +167,7 @@ speed-meant (speed.Above n) s h = absurd (omega arith)
 abbrev fives : List ℕ
 fives = replicate 10 5
 
-pub kept_row : (s : Surface) → judge_wind s.wind ≡ judged.Fine → judge_section (needs_of s) s ≡ judged.Fine → KeptRow fives (row (needs_of s)) s (begun_surface s)
+pub kept_row : (s : Surface) → judge_wind s.wind ≡ Ok tt → judge_section (needs_of s) s ≡ Ok tt → KeptRow fives (row (needs_of s)) s (begun_surface s)
 unfolding row needs_of with_said show_speed low high
 kept_row s w e =
     let f = section-fine (needs_of s) s e in
@@ -207,7 +205,7 @@ unfolding needs_of
 needs-kept s = rw (three-kept s.wind.speed)
 
 -- the first part of a report keeps the surface
-first-kept : (s : Surface) (takes : Surface → Synop) → judge_wind s.wind ≡ judged.Fine → judge_section (needs_of s) s ≡ judged.Fine
+first-kept : (s : Surface) (takes : Surface → Synop) → judge_wind s.wind ≡ Ok tt → judge_section (needs_of s) s ≡ Ok tt
     → KeptPart (first_part (needs_of s) takes) s (begun_surface s)
 first-kept s takes w e =
     let k = kept_row s w e in
@@ -235,7 +233,7 @@ third-stops : has_any stop_words section3_word ≡ true
 unfolding stop_words has_any has_pattern fits low high
 third-stops = refl
 
-third-opens : word_of section3_word ≡ Opens (Good (record { kind = tt; start = blank_section3 }))
+third-opens : word_of section3_word ≡ Opens (Ok (record { kind = tt; start = blank_section3 }))
 unfolding has_pattern fits low high
 third-opens = refl
 
@@ -243,7 +241,7 @@ unjoined-third : (its : List Group) → unjoined parts tt its ≡ true
 unjoined-third [] = refl
 unjoined-third (g ∷ gs) = refl
 
-module _ (s : Surface) (r : Synop) (end : ℕ) (gs : List Piece) (w : judge_wind s.wind ≡ judged.Fine) (e : judge_section (needs_of s) s ≡ judged.Fine) where
+module _ (s : Surface) (r : Synop) (end : ℕ) (gs : List Piece) (w : judge_wind s.wind ≡ Ok tt) (e : judge_section (needs_of s) s ≡ Ok tt) where
   abbrev takes : Surface → Synop
   takes u = set_surface u r
 
@@ -251,14 +249,14 @@ module _ (s : Surface) (r : Synop) (end : ℕ) (gs : List Piece) (w : judge_wind
   module _ (xs : List (Saying Section3 Opened)) (few : length xs ≤ 1) (last : Last parts (first_part (needs_of s) takes) s xs)
       (kept : KeptAll parts (has_any stop_words) (λ t g. word_of g) (set_surface (classed_surface s) r) xs) (lasts : LastAll parts (set_surface (classed_surface s) r) xs)
       (are : groups_of gs ≡ written (row (needs_of s)) s ++ said_all parts (set_surface (classed_surface s) r) xs) where
-    both-back : section (set_surface (begun_surface s) r) Clear end gs ≡ Done end (taken_all parts (set_surface (classed_surface s) r) xs)
+    both-back : section (set_surface (begun_surface s) r) None end gs ≡ Done end (taken_all parts (set_surface (classed_surface s) r) xs)
     unfolding section row
     both-back =
         rw (needs-kept s) (report-back parts xs end 1 (first_part (needs_of s) takes) s (begun_surface s) gs (first-kept s takes w e) last kept lasts few are)
 
 -- SECTION 1 AND SECTION 3 THAT ARE JUDGED FINE ARE READ BACK, from any pieces that hold their groups.
-module _ (s : Surface) (x : Section3) (r : Synop) (end : ℕ) (gs : List Piece) (blank : r.section3 ≡ blank_section3) (w : judge_wind s.wind ≡ judged.Fine)
-    (e : judge_section (needs_of s) s ≡ judged.Fine) (four : length x.layers.items ≡ 4) (f : judge_section3 x ≡ judged.Fine)
+module _ (s : Surface) (x : Section3) (r : Synop) (end : ℕ) (gs : List Piece) (blank : r.section3 ≡ blank_section3) (w : judge_wind s.wind ≡ Ok tt)
+    (e : judge_section (needs_of s) s ≡ Ok tt) (four : length x.layers.items ≡ 4) (f : judge_section3 x ≡ Ok tt)
     (are : groups_of gs ≡ written (row (needs_of s)) s ++ show_section3 x) where
   abbrev report : Synop
   report = set_surface (classed_surface s) r
@@ -268,7 +266,7 @@ module _ (s : Surface) (x : Section3) (r : Synop) (end : ℕ) (gs : List Piece) 
   unfolding show_section3 row3 show_air show_minimum show_layers
   none_written = refl
 
-  silent : is_silent x ≡ true → section (set_surface (begun_surface s) r) Clear end gs ≡ Done end (set_section3 (class_section3 x) report)
+  silent : is_silent x ≡ true → section (set_surface (begun_surface s) r) None end gs ≡ Done end (set_section3 (class_section3 x) report)
   silent h =
       let b = silent-blank x four f h in
       both-back s r end gs w e [] (omega arith) tt tt tt (are ∙ ap (λ (l : List Group). written (row (needs_of s)) s ++ l) (ap show_section3 b ∙ none_written))
@@ -281,31 +279,31 @@ module _ (s : Surface) (x : Section3) (r : Synop) (end : ℕ) (gs : List Piece) 
   opens : Opening parts (has_any stop_words) (λ t g. word_of g) report tt blank_section3 (written row3 x ++ []) (section3_word ∷ [])
   opens = one_word third-stops third-opens (unjoined-third (written row3 x ++ []))
 
-  spoken : is_silent x ≡ false → section (set_surface (begun_surface s) r) Clear end gs ≡ Done end (set_section3 (class_section3 x) report)
+  spoken : is_silent x ≡ false → section (set_surface (begun_surface s) r) None end gs ≡ Done end (set_section3 (class_section3 x) report)
   spoken h =
       both-back s r end gs w e (third x ∷ []) (omega arith) (first-lasts (needs_of s) s) (opens, kept-section3 x four f (λ u. set_section3 u report), tt) (tt, tt)
       (are ∙ ap (λ (l : List Group). written (row (needs_of s)) s ++ l) (some_written h))
       ∙ ap (λ (u : Section3). Done end (set_section3 u report)) (put-section3 x)
 
-  pub section-back : section (set_surface (begun_surface s) r) Clear end gs ≡ Done end (set_section3 (class_section3 x) report)
+  pub section-back : section (set_surface (begun_surface s) r) None end gs ≡ Done end (set_section3 (class_section3 x) report)
   section-back = go (is_silent x) refl
     where
-      go : (b : Bool) → is_silent x ≡ b → section (set_surface (begun_surface s) r) Clear end gs ≡ Done end (set_section3 (class_section3 x) report)
+      go : (b : Bool) → is_silent x ≡ b → section (set_surface (begun_surface s) r) None end gs ≡ Done end (set_section3 (class_section3 x) report)
       go true h = silent h
       go false h = spoken h
 
 -- They take at most sixty bytes.
-pub section-sizes : (s : Surface) → judge_wind s.wind ≡ judged.Fine → judge_section (needs_of s) s ≡ judged.Fine → Sizes 60 (written (row (needs_of s)) s)
+pub section-sizes : (s : Surface) → judge_wind s.wind ≡ Ok tt → judge_section (needs_of s) s ≡ Ok tt → Sizes 60 (written (row (needs_of s)) s)
 section-sizes s w e = unfold row in kept-sizes (kept_row s w e)
 
 -- The surface that is read back is written alike, and judged fine.
-pub section-again : (s : Surface) → judge_section (needs_of s) s ≡ judged.Fine
+pub section-again : (s : Surface) → judge_section (needs_of s) s ≡ Ok tt
     → written (row (needs_of (classed_surface s))) (classed_surface s) ≡ written (row (needs_of s)) s
 unfolding row needs_of show_speed
 section-again s e =
     rw (rainfall-again (needs_of s).rain (not (needs_of s).rain) s.rainfall (section-fine (needs_of s) s e).rainfall)
 
-pub section-classed : (s : Surface) → judge_section (needs_of s) s ≡ judged.Fine → judge_section (needs_of (classed_surface s)) (classed_surface s) ≡ judged.Fine
+pub section-classed : (s : Surface) → judge_section (needs_of s) s ≡ Ok tt → judge_section (needs_of (classed_surface s)) (classed_surface s) ≡ Ok tt
 unfolding judge_section needs_of
 section-classed s e =
     let f = section-fine (needs_of s) s e in

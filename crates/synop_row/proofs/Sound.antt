@@ -1,7 +1,7 @@
 -- No written group of section 1 can be taken at another place or for a stop word: one computed test over the row; and every group with a place's shape fits
 -- what covers it.
 -- Assumes nothing.
-use mathlib.Core.Path.{◌≡◌, refl}
+use mathlib.Core.Path.{◌≡◌}
 use mathlib.Core.Bool.{true, ◌&&◌, or-true}
 use Rattle.shapes.specs.Pattern.{low, high, clash, clash_each, all_apart}
 use Rattle.places.proofs.ReadBack.{one-pattern, sound, Covered}

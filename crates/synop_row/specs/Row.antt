@@ -1,13 +1,12 @@
 -- Section 1 of SYNOP and SHIP after Nddff as a row of places: "in this order; the first two are required, the rest follow by rising first figure",
 -- 00fff at once after Nddff. What iR, ix and ff said before decides which places must have a group and which must not.
 -- Assumes nothing: these are definitions.
-use Rattle.std.specs.Prelude.{ℕ, ◌≡◌, Bool, false, not, ◌||◌, List, [], ◌∷◌, eqb}
+use Rattle.std.specs.Prelude.{ℕ, Bool, false, not, ◌||◌, List, [], ◌∷◌, eqb, Err, None, Ok, Option, Result, Some}
+use Rattle.text.specs.declared.kinds.Refusal.{Refusal}
 use Prim.Native.String.{String}
 use Rattle.figures.specs.Quote.{bytes}
 use Rattle.shapes.specs.Pattern.{Pattern, has_pattern}
-use Rattle.places.specs.Engine.{Group, Read, Good, Bad, Place, mosts_of}
-use Rattle.record.specs.declared.values.Number.{Number}
-use Rattle.record.specs.declared.values.Number.TheVariants as number
+use Rattle.places.specs.Engine.{Group, Place}
 use Rattle.record.specs.declared.values.Speed.{Speed}
 use Rattle.record.specs.declared.values.Speed.TheVariants as speed
 use Rattle.record.specs.declared.surface.Surface.{Surface}
@@ -27,9 +26,9 @@ rain_due r = eqb r 0 || eqb r 1
 abbrev pub weather_due : ℕ → Bool
 weather_due x = eqb x 1 || eqb x 4 || eqb x 7
 
-abbrev pub figure_is : (ℕ → Bool) → Number → Bool
-figure_is test number.Missing = false
-figure_is test (number.Is n) = test n
+abbrev pub figure_is : (ℕ → Bool) → Option ℕ → Bool
+figure_is test None = false
+figure_is test (Some n) = test n
 
 unfoldable pub needs_of : Surface → Needs
 needs_of s =
@@ -44,24 +43,24 @@ abbrev pub set_speed : Speed → Surface → Surface
 set_speed x s = set_wind (record { cover = s.wind.cover; direction = s.wind.direction; speed = x }) s
 
 -- the surface with what a group says, or the group's refusal; what names the place and time, and a layer of section 3, is no part of it
-unfoldable pub with_said : Said → Surface → Read Surface
-with_said (said.Refused f) s = Bad f
-with_said (said.Time t) s = Good s
-with_said (said.Station n) s = Good s
-with_said (said.Position p) s = Good s
-with_said (said.Indicators i) s = Good (set_indicators i s)
-with_said (said.Wind w) s = Good (set_wind w s)
-with_said (said.Speed n) s = Good (set_speed (speed.Is n) s)
-with_said (said.Air a) s = Good (set_air a s)
-with_said (said.Moisture m) s = Good (set_moisture m s)
-with_said (said.Pressure p) s = Good (set_pressure p s)
-with_said (said.Level l) s = Good (set_level l s)
-with_said (said.Tendency t) s = Good (set_tendency t s)
-with_said (said.Rainfall r) s = Good (set_rainfall r s)
-with_said (said.Weather w) s = Good (set_weather w s)
-with_said (said.Clouds c) s = Good (set_clouds c s)
-with_said (said.Clock c) s = Good (set_clock c s)
-with_said (said.Layer l) s = Good s
+unfoldable pub with_said : Said → Surface → Result Surface Refusal
+with_said (said.Refused f) s = Err f
+with_said (said.Time t) s = Ok s
+with_said (said.Station n) s = Ok s
+with_said (said.Position p) s = Ok s
+with_said (said.Indicators i) s = Ok (set_indicators i s)
+with_said (said.Wind w) s = Ok (set_wind w s)
+with_said (said.Speed n) s = Ok (set_speed (speed.Is n) s)
+with_said (said.Air a) s = Ok (set_air a s)
+with_said (said.Moisture m) s = Ok (set_moisture m s)
+with_said (said.Pressure p) s = Ok (set_pressure p s)
+with_said (said.Level l) s = Ok (set_level l s)
+with_said (said.Tendency t) s = Ok (set_tendency t s)
+with_said (said.Rainfall r) s = Ok (set_rainfall r s)
+with_said (said.Weather w) s = Ok (set_weather w s)
+with_said (said.Clouds c) s = Ok (set_clouds c s)
+with_said (said.Clock c) s = Ok (set_clock c s)
+with_said (said.Layer l) s = Ok s
 
 -- a place for one group: its pattern, the patterns of what is written there, whether a group must stand there, what the group says, how it is written,
 -- and what it is read back as
@@ -100,7 +99,3 @@ stop_words = bytes "222??" ∷ bytes "333" ∷ bytes "444" ∷ bytes "555" ∷ [
 -- document 02, No. 10: "Group 333 no longer stops reading": section 1 ends there, and section 3 follows
 abbrev pub section3_word : Pattern
 section3_word = bytes "333"
-
--- how many groups may stand at each place, whatever was read before
-abbrev pub Mosts : List ℕ → Type 0
-Mosts ms = (n : Needs) → ms ≡ mosts_of (row n)

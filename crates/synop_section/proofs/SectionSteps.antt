@@ -1,5 +1,6 @@
 -- The laws of section 1: its row, and what a group says at a place.
 -- Assumes nothing.
+use Rattle.std.specs.Prelude.{Err, Ok, Result}
 use Prim.Native.Nat.{ℕ, ◌+◌, zero-le}
 use mathlib.Core.Path.{◌≡◌, refl, sym, ap, ◌∙◌}
 use mathlib.Core.Bool.{Bool, true, false, or-false}
@@ -9,14 +10,14 @@ use types.Run.{OneOf, miss}
 use denote.Enum.Declared.{tag_of}
 use Rattle.text.specs.declared.kinds.Refusal.{Refusal}
 use Rattle.text.specs.declared.kinds.Refusal.TheVariants as refusal
-use Rattle.text.specs.declared.kinds.Verdict.{Verdict}
-use Rattle.text.specs.declared.kinds.Verdict.TheVariants as verdict
+use Rattle.text.specs.declared.kinds.Refused.{Refused}
 use Rattle.text.specs.Groups.{Piece, groups_from, part_of}
 use Rattle.text.specs.Text.{tail_of}
 use Rattle.text.proofs.Groups.{Follows}
+use Rattle.text.specs.Refusals.{refused_with}
 use Rattle.shapes.specs.Pattern.{has_pattern, has_any}
 use Rattle.places.specs.Seek.{owed}
-use Rattle.places.specs.Engine.{Group, Read, Good, Bad, Place, nowhere, place_at, musts_of, onward, Outcome}
+use Rattle.places.specs.Engine.{Group, Place, nowhere, place_at, musts_of, onward}
 use Rattle.places.specs.declared.kinds.Turn.{Turn}
 use Rattle.places.specs.declared.kinds.Turn.TheVariants as turn
 use Rattle.places.specs.Answer.{outcome_of, end_verdict}
@@ -49,7 +50,7 @@ module _ (text : List ℕ) (from : ℕ) (r : Synop) (x : SectionRead) (n : Needs
   unfolding section report_of
   taken = rw (← needs) (done (λ s. set_surface s r))
 
-  pub answered-end : {v : Verdict} → x.next ≡ next.End v
+  pub answered-end : {v : Result ℕ Refused} → x.next ≡ next.End v
       → answer (outcome_of v (set_surface x.surface r)) ≡ answer (section r (tail_of text) (length text) (groups_from text from))
   answered-end {v} is =
       let t : section r (tail_of text) (length text) (groups_from text from) ≡ outcome_of v (set_surface x.surface r) = taken ∙ rw is in
@@ -66,7 +67,7 @@ module _ (text : List ℕ) (from : ℕ) (r : Synop) (x : SectionRead) (n : Needs
 
 -- what the word comes to, where nothing is owed and where something is
 module _ (g : Group) (start end : ℕ) (n : Needs) (c k : ℕ) {o : Bool} (is : o ≡ owed k (drop c (musts_of (row n)))) where
-  pub leaves-owed : o ≡ true → Leaves g start end n c k (next.End (verdict.Refused refusal.Absence start))
+  pub leaves-owed : o ≡ true → Leaves g start end n c k (next.End (Err (refused_with refusal.Absence start)))
   leaves-owed e text r = rw (← is, e)
 
   pub leaves-third : o ≡ false → has_pattern g section3_word ≡ true → Leaves g start end n c k (next.Section3 end)
@@ -78,7 +79,7 @@ module _ (g : Group) (start end : ℕ) (n : Needs) (c k : ℕ) {o : Bool} (is : 
       begins-third [] = refl
       begins-third (p ∷ gs) = refl
 
-  pub leaves-rest : o ≡ false → has_pattern g section3_word ≡ false → Leaves g start end n c k (next.End (verdict.Accepted start))
+  pub leaves-rest : o ≡ false → has_pattern g section3_word ≡ false → Leaves g start end n c k (next.End (Ok start))
   leaves-rest e w text r = rw (← is, e, w)
 
 -- what is owed is all that section 1 needs
@@ -111,14 +112,14 @@ module _ (text : List ℕ) (from : ℕ) (n : Needs) (earlier : Surface) (c k : �
         ∙ ap (λ (b : Bool). unless b start (turned (later text 1) (takes s) (record { start = start; bytes = g }) (groups_from text end) (word_of g))) (only-owed n takes c k s)
         ∙ leaves text (takes s))
 
-    pub done-fault : {x : SectionRead} {f : Refusal} → x ≡ record { next = next.End (verdict.Refused f start); surface = s } → u ≡ turn.Refused f → SectionDone text from n earlier x
+    pub done-fault : {x : SectionRead} {f : Refusal} → x ≡ record { next = next.End (Err (refused_with f start)); surface = s } → u ≡ turn.Refused f → SectionDone text from n earlier x
     done-fault p e = hands p (λ takes. reads-fault (first_part n takes) (later text 1) text c k s at follows cut is e)
 
     module _ {i j : ℕ} (e : u ≡ turn.At i j) where
-      pub done-bad : {x : SectionRead} {f : Refusal} → x ≡ record { next = next.End (verdict.Refused f start); surface = s } → (place_at (row n) i).read j g s ≡ Bad f → SectionDone text from n earlier x
+      pub done-bad : {x : SectionRead} {f : Refusal} → x ≡ record { next = next.End (Err (refused_with f start)); surface = s } → (place_at (row n) i).read j g s ≡ Err f → SectionDone text from n earlier x
       done-bad p bad = hands p (λ takes. reads-bad (first_part n takes) (later text 1) text c k s at follows cut is e bad)
 
-      pub goes_on : {s' : Surface} {p : ℕ} → (place_at (row n) i).read j g s ≡ Good s' → p ≡ onward (row n) i
+      pub goes_on : {s' : Surface} {p : ℕ} → (place_at (row n) i).read j g s ≡ Ok s' → p ≡ onward (row n) i
           → (takes : Surface → Synop) → reading (first_part n takes) (later text 1) text 0 0 earlier from ≡ reading (first_part n takes) (later text 1) text p (j + 1) s' end
       goes_on good past takes = inv takes ∙ reads_on (first_part n takes) (later text 1) text c k s at follows cut is e good past
 
@@ -145,11 +146,11 @@ unfolding with_said
 says_nothing n i g others = λ m s. ap (λ (p : Place Surface). p.read m g s) (get_or-eq_default (row n) nowhere (rw (row-length n) (beyond 0 10 i zero-le others)))
 
 -- what is read at a place, by what the group was found to say
-pub said-reads : (n : Needs) (i k : ℕ) (g : Group) (s : Surface) {x y : Said} {z : Read Surface} → Says n i g x → x ≡ y → with_said y s ≡ z → (place_at (row n) i).read k g s ≡ z
+pub said-reads : (n : Needs) (i k : ℕ) (g : Group) (s : Surface) {x y : Said} {z : Result Surface Refusal} → Says n i g x → x ≡ y → with_said y s ≡ z → (place_at (row n) i).read k g s ≡ z
 said-reads n i k g s says is put = says k s ∙ rw is put
 
 -- whatever is no refusal is added: what is of one of several variants, where a refusal, number 0, is of none of them
-pub added-among : (ks : List ℕ) → (OneOf ks 0 → ⊥) → (x : Said) → OneOf ks (tag_of saids.the_type x) → (s : Surface) → with_said x s ≡ Good (said_onto x s)
+pub added-among : (ks : List ℕ) → (OneOf ks 0 → ⊥) → (x : Said) → OneOf ks (tag_of saids.the_type x) → (s : Surface) → with_said x s ≡ Ok (said_onto x s)
 unfolding with_said
 added-among ks none (said.Refused f) told s = absurd (none told)
 added-among ks none (said.Time t) told s = refl
@@ -173,5 +174,5 @@ added-among ks none (said.Layer l) told s = refl
 abbrev pub right : List ℕ
 right = 1 ∷ 2 ∷ 3 ∷ 4 ∷ 5 ∷ 6 ∷ 7 ∷ 8 ∷ 9 ∷ 10 ∷ 11 ∷ 12 ∷ 13 ∷ 14 ∷ 15 ∷ 16 ∷ []
 
-pub added : (x : Said) → OneOf right (tag_of saids.the_type x) → (s : Surface) → with_said x s ≡ Good (said_onto x s)
+pub added : (x : Said) → OneOf right (tag_of saids.the_type x) → (s : Surface) → with_said x s ≡ Ok (said_onto x s)
 added = added-among right (miss right 0 tt)

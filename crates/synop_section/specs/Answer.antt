@@ -1,12 +1,11 @@
 -- What section 1 of a report, with section 3, is read as, and the answer to a text: a verdict beside the record.
 -- Assumes nothing: these are definitions.
-use Rattle.std.specs.Prelude.{ℕ, Bool, false, cond, List}
+use Rattle.std.specs.Prelude.{ℕ, Bool, false, cond, List, Ok, Option, Result}
 use Rattle.text.specs.declared.kinds.Refusal.{Refusal}
-use Rattle.text.specs.declared.kinds.Tail.{Tail}
-use Rattle.text.specs.declared.kinds.Verdict.{Verdict}
+use Rattle.text.specs.declared.kinds.Refused.{Refused}
 use Rattle.text.specs.Groups.{Piece}
 use Rattle.shapes.specs.Pattern.{has_pattern, has_any}
-use Rattle.places.specs.Engine.{Group, Good, Outcome}
+use Rattle.places.specs.Engine.{Group, Outcome}
 use Rattle.places.specs.Parts.{Word, Ends, Opens, Part, Parts, report_of}
 use Rattle.places.specs.Answer.{accepted_as, refused_as, answer_of}
 use Rattle.record.specs.declared.surface.Surface.{Surface}
@@ -28,7 +27,7 @@ begun ship = record { ship = ship; site = blank_synop.site; surface = blank_syno
 
 -- 333 opens section 3; at any other stop word the unread rest begins
 abbrev pub word_of : Group → Word Opened Section3
-word_of g = cond (has_pattern g section3_word) (Opens (Good (record { kind = tt; start = blank_section3 }))) Ends
+word_of g = cond (has_pattern g section3_word) (Opens (Ok (record { kind = tt; start = blank_section3 }))) Ends
 
 -- section 1, held to its row by what was read before it; the report takes its surface in by `takes`
 abbrev pub first_part : Needs → (Surface → Synop) → Part Synop Section3 Opened Surface
@@ -42,11 +41,11 @@ abbrev pub parts : Parts Synop Section3 Opened
 parts = record { part = λ r w. third_part r; joins = λ w g. false; joined = λ w. w }
 
 -- section 1 after Nddff, then section 3 at most once
-unfoldable pub section : Synop → Tail → ℕ → List Piece → Outcome Synop
+unfoldable pub section : Synop → Option ℕ → ℕ → List Piece → Outcome Synop
 section r tail end gs = report_of tail end parts 1 (first_part (needs_of r.surface) (λ s. set_surface s r)) r.surface gs
 
 -- a verdict beside the record; a refused text leaves a blank one
-abbrev pub reading : Verdict → Synop → Reading
+abbrev pub reading : Result ℕ Refused → Synop → Reading
 reading v r = record { verdict = v; report = r }
 
 abbrev pub accepted : ℕ → Synop → Reading

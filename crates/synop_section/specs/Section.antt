@@ -1,10 +1,11 @@
 -- What the functions that read section 1 answer, in terms of its row.
 -- Assumes nothing: these are definitions.
-use Rattle.std.specs.Prelude.{ℕ, ◌≡◌, List, length, drop}
+use Rattle.std.specs.Prelude.{ℕ, ◌≡◌, List, length, drop, Err, Ok, Result}
+use Rattle.text.specs.declared.kinds.Refusal.{Refusal}
 use Rattle.text.specs.Groups.{groups_from}
 use Rattle.text.specs.Text.{tail_of}
 use Rattle.places.specs.Seek.{owed}
-use Rattle.places.specs.Engine.{Group, Read, Good, Bad, place_at, musts_of, Outcome}
+use Rattle.places.specs.Engine.{Group, place_at, musts_of, Outcome}
 use Rattle.places.specs.Answer.{outcome_of}
 use Rattle.places.specs.Parts.{Further, turned, unless, part_from, further}
 use Rattle.record.specs.declared.surface.Surface.{Surface}
@@ -25,9 +26,9 @@ abbrev pub Says : Needs → ℕ → Group → Said → Type 0
 Says n i g x = (k : ℕ) (s : Surface) → (place_at (row n) i).read k g s ≡ with_said x s
 
 -- what is read; a refusal leaves it as it was
-abbrev pub or_else : {R : Type 0} → R → Read R → R
-or_else s (Good x) = x
-or_else s (Bad f) = s
+abbrev pub or_else : {R : Type 0} → R → Result R Refusal → R
+or_else s (Ok x) = x
+or_else s (Err f) = s
 
 -- the surface with what a group says
 abbrev pub said_onto : Said → Surface → Surface

@@ -6,7 +6,7 @@ ghost use Rattle.synop_section.specs.Answer.{begun, accepted, refused, answer};
 use crate::kinds::Reading;
 use record::blank_surface::{blank_section3, blank_site, blank_surface, blank_synop};
 use record::surface::Synop;
-use text::kinds::{Refusal, Verdict};
+use text::kinds::{Refusal, Refused};
 
 // A blank record of a land station's or a ship's report.
 pub fn begin(ship: bool) -> Synop
@@ -28,7 +28,7 @@ pub fn refuse(refusal: Refusal, place: usize) -> Reading
 {
     let report = blank_synop();
     Reading {
-        verdict: Verdict::Refused { refusal, place },
+        verdict: Err(Refused { refusal, place }),
         report,
     }
 }
@@ -37,22 +37,18 @@ pub fn accept(rest: usize, report: Synop) -> Reading
     ensures { result ≡ accepted rest report }
 {
     Reading {
-        verdict: Verdict::Accepted { rest },
+        verdict: Ok(rest),
         report,
     }
 }
 
 // The answer by a verdict: the report that it accepts, or its refusal. There is one way out, with the blank record put over the report where the text is
 // refused: of two ways out, each with a record of its own, the compiler makes many more copies.
-pub fn by_verdict(verdict: Verdict, report: Synop) -> Reading
+pub fn by_verdict(verdict: Result<usize, Refused>, report: Synop) -> Reading
     ensures { result ≡ answer (outcome_of verdict report) }
 {
     let mut whole = report;
-    if let Verdict::Refused {
-        refusal: _,
-        place: _,
-    } = verdict
-    {
+    if let Err(_) = verdict {
         whole = blank_synop();
     }
     Reading {

@@ -1,18 +1,18 @@
 // What the reader of SYNOP and SHIP answers, and what it holds on the way.
 use record::surface::{Surface, Synop};
-use text::kinds::Verdict;
+use text::kinds::Refused;
 
 // The record is blank where the text is refused.
 #[derive(Clone, Copy)]
 pub struct Reading {
-    pub verdict: Verdict,
+    pub verdict: Result<usize, Refused>,
     pub report: Synop,
 }
 
 // What follows section 1: the end of the reading, or section 3, `at` behind 333.
 #[derive(Clone, Copy)]
 pub enum Next {
-    End(Verdict),
+    End(Result<usize, Refused>),
     Section3 { at: usize },
 }
 

@@ -1,8 +1,8 @@
 // Section 1 after Nddff: 00fff and the groups 1 to 9, each read at its place of the row, up to a stop word or the end.
-ghost use Rattle.std.specs.Prelude.{◌≡◌, length, drop};
-ghost use Rattle.text.specs.declared.kinds.Verdict.TheVariants as verdict;
+ghost use Rattle.std.specs.Prelude.{◌≡◌, length, drop, Err};
 ghost use Rattle.text.specs.Text.{tail_of};
 ghost use Rattle.text.specs.Groups.{groups_from};
+ghost use Rattle.text.specs.Refusals.{refused_with};
 ghost use Rattle.shapes.specs.Pattern.{has_any};
 ghost use Rattle.places.specs.Seek.{owed};
 ghost use Rattle.places.specs.Engine.{musts_of};
@@ -24,7 +24,7 @@ use synop_groups::kinds::Said;
 use synop_groups::read;
 use synop_row::kinds::Needs;
 use synop_row::row;
-use text::kinds::{Cut, Refusal, Verdict};
+use text::kinds::{Cut, Refusal, Refused};
 
 // What the group says at its place.
 fn said_at(place: usize, needs: Needs, g: &[u8]) -> Said
@@ -97,15 +97,15 @@ fn leave(g: &[u8], start: usize, end: usize, needs: Needs, place: usize, count: 
 {
     let must = row::musts_of(needs);
     if places::is_owed(&must, place, count) {
-        return Next::End(Verdict::Refused {
+        return Next::End(Err(Refused {
             refusal: Refusal::Absence,
             place: start,
-        });
+        }));
     }
     if row::is_section3(g) {
         Next::Section3 { at: end }
     } else {
-        Next::End(Verdict::Accepted { rest: start })
+        Next::End(Ok(start))
     }
 }
 
@@ -126,12 +126,12 @@ fn end_section(next: Next, surface: Surface) -> SectionRead
 }
 
 fn refuse_section(refusal: Refusal, place: usize, surface: Surface) -> SectionRead
-    ensures { result ≡ record { next = next.End (verdict.Refused refusal place); surface = surface } }
+    ensures { result ≡ record { next = next.End (Err (refused_with refusal place)); surface = surface } }
 {
-    end_section(Next::End(Verdict::Refused { refusal, place }), surface)
+    end_section(Next::End(Err(Refused { refusal, place })), surface)
 }
 
-// The groups of section 1 from a position of the text on: `here` is the place of the last one read, `standing` how many groups stand there. The surface is
+// The groups of section 1 from a position of the text on, by position, since where reading stops is the answer: `here` is the place of the last one read, `standing` how many groups stand there. The surface is
 // the loop's own, and nothing of it is asked to find a group's place. What a group says is stored where it belongs, so that the surface is not copied for
 // it; 00fff alone, which changes a part of the wind, is left to `with_said`.
 fn read_groups(text: &[u8], from: usize, needs: Needs, earlier: Surface) -> SectionRead

@@ -1,5 +1,6 @@
 -- EACH GROUP THAT WAS TAKEN AMONG THE LAYERS of an accepted SYNOP or SHIP is 8////, which is no layer, or the source of one of the four layers.
 -- Assumes nothing.
+use Rattle.std.specs.Prelude.{Ok}
 use Prim.Native.Nat.{ℕ, suc, ◌+◌, ◌≤◌, ◌<◌}
 use native.Mathlib.Omega.{arith}
 use mathlib.Core.Path.{◌≡◌, refl, sym}
@@ -13,7 +14,7 @@ use Rattle.text.specs.Groups.{Piece, groups_from}
 use Rattle.text.specs.Text.{tail_of}
 use Rattle.shapes.specs.Pattern.{low, high, clash, has_pattern}
 use Rattle.shapes.proofs.Patterns.{excluded}
-use Rattle.places.specs.Engine.{Group, Good, place_at, Done}
+use Rattle.places.specs.Engine.{Group, place_at, Done}
 use Rattle.record.specs.declared.surface.Section3.{Section3}
 use Rattle.record.specs.declared.surface.Synop.{Synop}
 use Rattle.section3.specs.Row as third
@@ -60,7 +61,7 @@ all_found (x ∷ xs) =
 abbrev Counted : Bool → Section3 → Section3 → Type 0
 Counted says a a' = (cond says (suc a.layers.count) a.layers.count ≡ a'.layers.count) × (a'.layers.count ≤ 4)
 
-count-step : (j m : ℕ) (g : Group) (a a' : Section3) → (place_at third.row j).read m g a ≡ Good a' → a.layers.count ≤ 4
+count-step : (j m : ℕ) (g : Group) (a a' : Section3) → (place_at third.row j).read m g a ≡ Ok a' → a.layers.count ≤ 4
     → Counted (says_layer 1 (eqb j layers_place) g) a a'
 unfolding third.row
 count-step j m g a a' e h = go (eqb j layers_place) refl

@@ -1,16 +1,15 @@
 -- THE GROUPS KNOWN BY POSITION, of a text whose groups come to a record: those of a land station, up to NIL or Nddff, and those of a ship.
 -- Assumes nothing.
+use Rattle.std.specs.Prelude.{Err, None, Ok, Option, Result, Some}
+use Rattle.text.specs.declared.kinds.Refusal.{Refusal}
 use Prim.Native.Nat.{ℕ}
 use mathlib.Core.Path.{◌≡◌, refl, sym, subst, ◌∙◌}
 use mathlib.Core.Bool.{Bool, true, false, cond, ◌&&◌, false≢true}
 use mathlib.Core.List.{List, [], ◌∷◌}
 use Rattle.figures.proofs.Impossible.{impossible}
 use Rattle.text.specs.declared.kinds.Refusal.TheVariants as refusal
-use Rattle.text.specs.declared.kinds.Tail.{Tail}
-use Rattle.text.specs.declared.kinds.Tail.TheVariants.{Clear, Junk}
 use Rattle.text.specs.Groups.{Piece}
-use Rattle.places.specs.Engine.{Group, Read, Good, Bad, Done, Fault}
-use Rattle.record.specs.declared.values.Number.TheVariants as number
+use Rattle.places.specs.Engine.{Group, Done, Fault}
 use Rattle.record.specs.declared.surface.CallSign.{CallSign}
 use Rattle.record.specs.declared.surface.Position.{Position}
 use Rattle.record.specs.declared.surface.Time.{Time}
@@ -39,7 +38,7 @@ abbrev pub behind : Bool → Site → Indicators → Wind → Synop
 behind ship site i w = record { ship = ship; site = site; surface = set_wind w (set_indicators i blank_surface); section3 = blank_section3 }
 
 abbrev pub land_site : Time → ℕ → Site
-land_site x n = set_station (number.Is n) (set_time x blank_site)
+land_site x n = set_station (Some n) (set_time x blank_site)
 
 abbrev pub ship_site : CallSign → Time → Position → Site
 ship_site s x p = set_position p (set_time x (set_sign s blank_site))
@@ -59,32 +58,32 @@ pub data Report (end rest : ℕ) (whole : Synop) : Bool → List Piece → Type 
       → said_indicators g₄.bytes ≡ said.Indicators i → said_wind g₅.bytes ≡ said.Wind w → InTwo w
       → Sections end rest (behind true (ship_site (sign_of g₀.bytes) x q) i w) whole gs → Report end rest whole true (g₀ ∷ g₁ ∷ g₂ ∷ g₃ ∷ g₄ ∷ g₅ ∷ gs)
 
-module _ (tail : Tail) (end rest : ℕ) (whole : Synop) where
+module _ (tail : Option ℕ) (end rest : ℕ) (whole : Synop) where
   -- ---- one group after the other
 
   data PostDone (p : Post) (ps : List Post) (r : Synop) : List Piece → Type 0 where
     ends : {g : Piece} → p.nil ≡ true → is_nil g.bytes ≡ true → rest ≡ end → whole ≡ set_site (set_nil true r.site) r → PostDone p ps r (g ∷ [])
-    goes : {g : Piece} {gs : List Piece} {r' : Synop} → (p.nil && is_nil g.bytes) ≡ false → p.read g.bytes r ≡ Good r' → walk ps r' tail end gs ≡ Done rest whole
+    goes : {g : Piece} {gs : List Piece} {r' : Synop} → (p.nil && is_nil g.bytes) ≡ false → p.read g.bytes r ≡ Ok r' → walk ps r' tail end gs ≡ Done rest whole
         → PostDone p ps r (g ∷ gs)
 
   post-done : (p : Post) (ps : List Post) (r : Synop) (gs : List Piece) → walk (p ∷ ps) r tail end gs ≡ Done rest whole → PostDone p ps r gs
   unfolding walk
   post-done p ps r [] e = short tail e
     where
-      short : (u : Tail) → cut_short u end ≡ Done rest whole → PostDone p ps r []
-      short (Junk at) e = impossible (cc)
-      short Clear e = impossible (cc)
+      short : (u : Option ℕ) → cut_short u end ≡ Done rest whole → PostDone p ps r []
+      short (Some at) e = impossible (cc)
+      short None e = impossible (cc)
   post-done p ps r (g ∷ gs) e = nil p.nil refl (is_nil g.bytes) refl e
     where
-      over : (u : Tail) (gs : List Piece) → p.nil ≡ true → is_nil g.bytes ≡ true → after_nil u end r gs ≡ Done rest whole → PostDone p ps r (g ∷ gs)
-      over (Junk at) [] a b e = impossible (cc)
-      over Clear [] a b e = let (x, y) = done-same e in ends a b x y
-      over (Junk at) (h ∷ gs) a b e = impossible (cc)
-      over Clear (h ∷ gs) a b e = impossible (cc)
+      over : (u : Option ℕ) (gs : List Piece) → p.nil ≡ true → is_nil g.bytes ≡ true → after_nil u end r gs ≡ Done rest whole → PostDone p ps r (g ∷ gs)
+      over (Some at) [] a b e = impossible (cc)
+      over None [] a b e = let (x, y) = done-same e in ends a b x y
+      over (Some at) (h ∷ gs) a b e = impossible (cc)
+      over None (h ∷ gs) a b e = impossible (cc)
 
-      on : (p.nil && is_nil g.bytes) ≡ false → (x : Read Synop) → p.read g.bytes r ≡ x → onward x g.start (λ r'. walk ps r' tail end gs) ≡ Done rest whole → PostDone p ps r (g ∷ gs)
-      on n (Good r') is e = goes n is e
-      on n (Bad f) is e = impossible (cc)
+      on : (p.nil && is_nil g.bytes) ≡ false → (x : Result Synop Refusal) → p.read g.bytes r ≡ x → onward x g.start (λ r'. walk ps r' tail end gs) ≡ Done rest whole → PostDone p ps r (g ∷ gs)
+      on n (Ok r') is e = goes n is e
+      on n (Err f) is e = impossible (cc)
 
       has : (p.nil && is_nil g.bytes) ≡ false → (b : Bool)
           → cond b (onward (p.read g.bytes r) g.start (λ r'. walk ps r' tail end gs)) (Fault refusal.Shape g.start) ≡ Done rest whole → PostDone p ps r (g ∷ gs)
@@ -100,7 +99,7 @@ module _ (tail : Tail) (end rest : ℕ) (whole : Synop) where
 
   -- a group that NIL cannot stand for, with what it says, and then the others
   next : {A : Type 0} {make : A → Said} {P : A → Type 0} {says : Group → Said} (p : Post) (ps : List Post) (r : Synop) (put : A → Synop) (gs : List Piece) → p.nil ≡ false
-      → ((g : Group) → p.read g r ≡ with_head (says g) r) → ((a : A) → with_head (make a) r ≡ Good (put a)) → ((g : Group) → Tells make P (says g)) → (X : List Piece → Type 0)
+      → ((g : Group) → p.read g r ≡ with_head (says g) r) → ((a : A) → with_head (make a) r ≡ Ok (put a)) → ((g : Group) → Tells make P (says g)) → (X : List Piece → Type 0)
       → ((g : Piece) (others : List Piece) (v : A) → says g.bytes ≡ make v → P v → walk ps (put v) tail end others ≡ Done rest whole → X (g ∷ others))
       → walk (p ∷ ps) r tail end gs ≡ Done rest whole → X gs
   unfolding with_head with_said

@@ -1,5 +1,6 @@
 -- Each place of sections 1 and 3 touches its own field alone, and each item is what its group says.
 -- Assumes nothing.
+use Rattle.std.specs.Prelude.{Ok}
 use Prim.Native.Nat.{ℕ, ◌≤◌}
 use mathlib.Core.Path.{◌≡◌, refl, sym, ap, subst, ◌∙◌}
 use mathlib.Core.Bool.{Bool, true, false, cond, not}
@@ -12,7 +13,7 @@ use Rattle.figures.proofs.Impossible.{impossible}
 use Rattle.text.specs.declared.kinds.Refusal.TheVariants as refusal
 use Rattle.text.specs.Groups.{Piece}
 use Rattle.shapes.specs.Pattern.{has_pattern, has_any}
-use Rattle.places.specs.Engine.{Group, Good, Place, place_at}
+use Rattle.places.specs.Engine.{Group, Place, place_at}
 use Rattle.record.specs.declared.values.Speed.{Speed}
 use Rattle.record.specs.declared.values.Speed.TheVariants as speed
 use Rattle.record.specs.declared.surface.Indicators.{Indicators}
@@ -61,19 +62,19 @@ fields s =
     s.wind & s.air & s.moisture & s.pressure & s.level & s.tendency & s.rainfall & s.weather & s.clouds & s.clock & s.indicators & tt
 
 module _ (n : Needs) (g : Group) (a a' : Surface) where
-  speed-put : with_said (said_speed n.speed g) a ≡ Good a' → Made said.Speed (λ m. (n.speed ≡ true) × (99 ≤ m) × (m ≤ 999)) (λ m. set_speed (speed.Is m) a) (said_speed n.speed g) a'
+  speed-put : with_said (said_speed n.speed g) a ≡ Ok a' → Made said.Speed (λ m. (n.speed ≡ true) × (99 ≤ m) × (m ≤ 999)) (λ m. set_speed (speed.Is m) a) (said_speed n.speed g) a'
   unfolding with_said
   speed-put e = made (λ x. with_said x a) (λ m. set_speed (speed.Is m) a) (λ m. refl) (λ f. refl) (speed-told n.speed g) e
 
   -- any other
-  put-by : {A : Type 0} {make : A → Meaning} {P : A → Type 0} {x : Meaning} (put : A → Surface) → ((v : A) → with_said (make v) a ≡ Good (put v)) → Tells make P x → with_said x a ≡ Good a'
+  put-by : {A : Type 0} {make : A → Meaning} {P : A → Type 0} {x : Meaning} (put : A → Surface) → ((v : A) → with_said (make v) a ≡ Ok (put v)) → Tells make P x → with_said x a ≡ Ok a'
       → Made make P put x a'
   unfolding with_said
   put-by put is law e = made (λ x. with_said x a) put is (λ f. refl) law e
 
 module _ (n : Needs) where
   abbrev OnlyAt : ℕ → Place Surface → Type 0
-  OnlyAt j p = (m : ℕ) (g : Group) (a a' : Surface) → p.read m g a ≡ Good a' → Only fs fields j a a'
+  OnlyAt j p = (m : ℕ) (g : Group) (a a' : Surface) → p.read m g a ≡ Ok a' → Only fs fields j a a'
 
   only-rows : Rows OnlyAt 0 (row n)
   unfolding row with_said
@@ -171,14 +172,14 @@ module _ (n : Needs) where
       go (speed.Is s) e = rw (le-leb 99 m low, e)
       go (speed.Above s) e = impossible (cc)
 
-  place_kept : (j m : ℕ) (g : Group) (a a' : Surface) → (place_at (row n) j).read m g a ≡ Good a' → n.speed ≡ is_in_three a.wind.speed → Kept a a'
+  place_kept : (j m : ℕ) (g : Group) (a a' : Surface) → (place_at (row n) j).read m g a ≡ Ok a' → n.speed ≡ is_in_three a.wind.speed → Kept a a'
   unfolding row
   place_kept j m g a a' e due = let (x, y) = wind (eqb 0 j) refl in (indicators (eqb 10 j) refl, x, y)
     where
       indicators : (b : Bool) → eqb 10 j ≡ b → a'.indicators ≡ a.indicators
       indicators true is = let same = eqb-true 10 j is in absurd (none (rw (← same) at e))
         where
-          none : (place_at (row n) 10).read m g a ≡ Good a' → ⊥
+          none : (place_at (row n) 10).read m g a ≡ Ok a' → ⊥
           none e = impossible (cc)
       indicators false is = row-only j m g a a' e 10 is
 
@@ -210,30 +211,30 @@ pub data LayerDone (g : Group) (s : Section3) : Section3 → Type 0 where
   no-layer : has_pattern g (bytes "8////") ≡ true → LayerDone g s s
   layer : {l : CloudLayer} → has_pattern g (bytes "8////") ≡ false → leb 4 s.layers.count ≡ false → said_layer g ≡ said.Layer l → LayerDone g s (set_layers (add_layer l s.layers) s)
 
-pub layer-done : (g : Group) (s s' : Section3) → with_told (layer_at s.layers g) s ≡ Good s' → LayerDone g s s'
+pub layer-done : (g : Group) (s s' : Section3) → with_told (layer_at s.layers g) s ≡ Ok s' → LayerDone g s s'
 unfolding layer_at
 layer-done g s s' e = some (has_pattern g (bytes "8////")) refl (leb 4 s.layers.count) refl e
   where
     up : {x : Meaning} {l : CloudLayer} → x ≡ said.Layer l → said_layer g ≡ x → has_pattern g (bytes "8////") ≡ false → leb 4 s.layers.count ≡ false → (b : Bool)
-        → with_told (cond b (told.Layer l) (told.Refused refusal.Disagreement)) s ≡ Good s' → LayerDone g s s'
+        → with_told (cond b (told.Layer l) (told.Refused refusal.Disagreement)) s ≡ Ok s' → LayerDone g s s'
     up p q filled few true e = subst (LayerDone g s) (sym (same_good e)) (layer filled few (q ∙ p))
     up p q filled few false e = impossible (cc)
 
     judges : (x : Meaning) → Tells said.Layer (λ l. Unit {0}) x → said_layer g ≡ x → has_pattern g (bytes "8////") ≡ false → leb 4 s.layers.count ≡ false
-        → with_told (risen s.layers (told_by (air_by false) x)) s ≡ Good s' → LayerDone g s s'
+        → with_told (risen s.layers (told_by (air_by false) x)) s ≡ Ok s' → LayerDone g s s'
     judges _ (tells.told {a = l} p) is filled few e = up refl is filled few (rises (take s.layers.count s.layers.items) l) e
     judges _ tells.refused is filled few e = impossible (cc)
 
     some : (a : Bool) → has_pattern g (bytes "8////") ≡ a → (b : Bool) → leb 4 s.layers.count ≡ b
-        → with_told (cond a told.Nothing (cond b (told.Refused refusal.Limit) (risen s.layers (told_by (air_by false) (said_layer g))))) s ≡ Good s' → LayerDone g s s'
+        → with_told (cond a told.Nothing (cond b (told.Refused refusal.Limit) (risen s.layers (told_by (air_by false) (said_layer g))))) s ≡ Ok s' → LayerDone g s s'
     some true p b q e = subst (LayerDone g s) (sym (same_good e)) (no-layer p)
     some false p true q e = impossible (cc)
     some false p false q e = judges (said_layer g) (layer-plain g) refl p q e
 
 abbrev OnlyThird : ℕ → Place Section3 → Type 0
-OnlyThird j p = (m : ℕ) (g : Group) (a a' : Section3) → p.read m g a ≡ Good a' → Only fs₃ fields₃ j a a'
+OnlyThird j p = (m : ℕ) (g : Group) (a a' : Section3) → p.read m g a ≡ Ok a' → Only fs₃ fields₃ j a a'
 
-air-put : (lowest : Bool) (put : Air → Section3) (g : Group) (a a' : Section3) → ((v : Air) → with_told (air_by lowest v) a ≡ Good (put v)) → with_told (told_by (air_by lowest) (said_air g)) a ≡ Good a'
+air-put : (lowest : Bool) (put : Air → Section3) (g : Group) (a a' : Section3) → ((v : Air) → with_told (air_by lowest v) a ≡ Ok (put v)) → with_told (told_by (air_by lowest) (said_air g)) a ≡ Ok a'
     → Made said.Air (λ v. Unit {0}) put (said_air g) a'
 air-put lowest put g a a' is e =
     let d = made (λ x. with_told (told_by (air_by lowest) x) a) put is (λ f. refl) (air-told g) e in

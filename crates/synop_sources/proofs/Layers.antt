@@ -1,5 +1,6 @@
 -- THE LAYERS OF SECTION 3: each is what its group says, 8//// passed over.
 -- Assumes nothing.
+use Rattle.std.specs.Prelude.{Ok}
 use Prim.Native.Nat.{ℕ, zero, suc, ◌+◌, ◌-◌, ◌≤◌, ◌<◌}
 use native.Mathlib.Omega.{arith}
 use mathlib.Core.Path.{◌≡◌, refl, sym, ap, subst, ◌∙◌}
@@ -13,7 +14,7 @@ use Rattle.figures.specs.Quote.{bytes}
 use Rattle.figures.proofs.Impossible.{impossible}
 use Rattle.text.specs.Groups.{Piece}
 use Rattle.shapes.specs.Pattern.{has_pattern}
-use Rattle.places.specs.Engine.{Group, Good, place_at}
+use Rattle.places.specs.Engine.{Group, place_at}
 use Rattle.record.specs.declared.surface.CloudLayer.{CloudLayer}
 use Rattle.record.specs.declared.surface.CloudLayers.{CloudLayers}
 use Rattle.record.specs.declared.surface.Section3.{Section3}
@@ -41,7 +42,7 @@ data LayerStep (j : ℕ) (g : Group) (a a' : Section3) : Type 0 where
   adds : {l : CloudLayer} → speaks j g ≡ true → a.layers.count < 4 → said_layer g ≡ said.Layer l
       → a'.layers ≡ record { items = set a.layers.items a.layers.count l; count = a.layers.count + 1 } → LayerStep j g a a'
 
-layer-step : (j m : ℕ) (g : Group) (a a' : Section3) → (place_at third.row j).read m g a ≡ Good a' → LayerStep j g a a'
+layer-step : (j m : ℕ) (g : Group) (a a' : Section3) → (place_at third.row j).read m g a ≡ Ok a' → LayerStep j g a a'
 unfolding third.row
 layer-step j m g a a' e = go (eqb j layers_place) refl
   where

@@ -1,6 +1,6 @@
 -- What the proofs of several functions use, and the laws for other crates.
 pub mod Steps
-pub mod LayerWalks
+pub mod Walks
 pub mod Tells
 pub mod Sections
 pub mod Items

@@ -1,5 +1,6 @@
 -- SECTIONS 1 AND 3 OF A TEXT WHOSE GROUPS COME TO A RECORD, group by group; and that the walk takes each group where the reader did, whatever iR, ix and ff require.
 -- Assumes nothing.
+use Rattle.std.specs.Prelude.{Ok, Option}
 use Prim.Native.Nat.{ℕ, zero, suc, ◌+◌, ◌<◌}
 use native.Mathlib.Omega.{arith}
 use mathlib.Core.Path.{◌≡◌, refl, ap, ◌∙◌}
@@ -10,7 +11,6 @@ use lib.Dec.{eqb, leb, ltb}
 use borrow.Author.Tests.{ne_eqb, lt-leb}
 use Rattle.figures.proofs.Impossible.{impossible}
 use Rattle.text.specs.declared.kinds.Refusal.TheVariants as refusal
-use Rattle.text.specs.declared.kinds.Tail.{Tail}
 use Rattle.text.specs.Groups.{Piece}
 use Rattle.shapes.specs.Pattern.{has_pattern, has_any}
 use Rattle.places.specs.declared.kinds.Found.{Found}
@@ -18,7 +18,7 @@ use Rattle.places.specs.declared.kinds.Found.TheVariants.{Take, Skips, Full, Ear
 use Rattle.places.specs.declared.kinds.Turn.{Turn}
 use Rattle.places.specs.declared.kinds.Turn.TheVariants as turn
 use Rattle.places.specs.Seek.{Stand, seek, anywhere, or_earlier, find_of}
-use Rattle.places.specs.Engine.{Group, Good, Place, stands_of, Done}
+use Rattle.places.specs.Engine.{Group, Place, stands_of, Done}
 use Rattle.places.specs.Turn.{turn_by, turn_at}
 use Rattle.places.specs.Parts.{Ends, Opens, Further, turned, part_from, begins, further, report_of}
 use Rattle.record.specs.declared.surface.Surface.{Surface}
@@ -76,7 +76,7 @@ pub record Sections (end rest : ℕ) (r whole : Synop) (gs : List Piece) : Type 
   pub third : Third end rest s₃ left taken
   pub is : whole ≡ record { ship = r.ship; site = r.site; surface = s₁; section3 = s₃ }
 
-module _ (tail : Tail) (end rest : ℕ) (whole : Synop) where
+module _ (tail : Option ℕ) (end rest : ℕ) (whole : Synop) where
   abbrev more : ℕ → Further Synop Section3 Opened
   more n = further tail end parts n
 
@@ -104,7 +104,7 @@ module _ (tail : Tail) (end rest : ℕ) (whole : Synop) where
           record { place = d.place; count = d.count; s = d.record'; left = g ∷ hs; entries = d.entries; went = rw is d.went; halted = h; begins = a; is = b }
 
   word_read : (t : Synop) (g : Piece) (gs : List Piece) → has_pattern g.bytes section3_word ≡ true
-      → turned (more 1) t g gs (Opens (Good (record { kind = tt; start = blank_section3 }))) ≡ Done rest whole → ThirdRead t gs
+      → turned (more 1) t g gs (Opens (Ok (record { kind = tt; start = blank_section3 }))) ≡ Done rest whole → ThirdRead t gs
   unfolding further
   word_read t g [] is e = third-read t [] e
   word_read t g (h ∷ gs) is e = third-read t (h ∷ gs) e
@@ -135,7 +135,7 @@ module _ (tail : Tail) (end rest : ℕ) (whole : Synop) where
       go d (g ∷ hs) is (word-met h e) = word (has_pattern g.bytes section3_word) refl e
         where
           word : (b : Bool) → has_pattern g.bytes section3_word ≡ b
-              → turned (more 1) (set_surface d.record' r) g hs (cond b (Opens (Good (record { kind = tt; start = blank_section3 }))) Ends) ≡ Done rest whole → Sections end rest r whole gs
+              → turned (more 1) (set_surface d.record' r) g hs (cond b (Opens (Ok (record { kind = tt; start = blank_section3 }))) Ends) ≡ Done rest whole → Sections end rest r whole gs
           word true w e =
               let x = word_read (set_surface d.record' r) g hs w e in
               record {

@@ -6,6 +6,7 @@ use mathlib.Core.Path.{◌≡◌, refl, sym, ap, subst, ◌∙◌}
 use mathlib.Core.Bool.{Bool, true, false, ◌&&◌, cond}
 use mathlib.Core.List.{List, []}
 use lib.Dec.{eqb}
+use borrow.Author.Tests.{eqb-true}
 use Rattle.figures.proofs.Impossible.{impossible}
 use Rattle.text.specs.declared.kinds.Refusal.{Refusal}
 use Rattle.text.specs.declared.kinds.Cut.{Cut}
@@ -13,6 +14,7 @@ use Rattle.text.specs.declared.kinds.Cut.TheVariants as cut
 use Rattle.text.specs.Groups.{groups_from, next_of, part_of}
 use Rattle.text.proofs.Groups.{Follows, when-group, when-end}
 use Rattle.shapes.specs.Pattern.{has_pattern, has_any}
+use Rattle.shapes.proofs.Patterns.{both}
 use Rattle.places.specs.declared.kinds.Turn.{Turn}
 use Rattle.places.specs.declared.kinds.Turn.TheVariants as turn
 use Rattle.places.specs.Engine.{Group}
@@ -24,10 +26,7 @@ use Rattle.section3.specs.Row as third
 use Rattle.section3.specs.Step.{Opened}
 use Rattle.section3.proofs.Turns as thirds
 use Rattle.synop.specs.Read.{is_nil}
-use Rattle.sources.specs.declared.kinds.Spot.{Spot}
-use Rattle.sources.specs.declared.kinds.Source.TheVariants as source
-use Rattle.sources.specs.Trail.{Mark, Move, Takes, Opens, Ends, origin_in, trail}
-use Rattle.sources.proofs.Walks.{looked}
+use Rattle.sources.specs.Trail.{Mark, Move, Takes, Opens, Ends, trail}
 use Rattle.synop_sources.specs.declared.kinds.Met.{Met}
 use Rattle.synop_sources.specs.declared.kinds.Met.TheVariants as met
 use Rattle.synop_sources.specs.Trail.{name_place, sign_place, time_place, station_place, latitude_place, longitude_place, indicators_place, wind_place, head_turn, free, in_head, turn_in, mark_at, move_by, move, met_move, met_cut, met_of}
@@ -93,6 +92,7 @@ module _ (t : List ℕ) (from : ℕ) (ship : Bool) (part c k : ℕ) where
   pub record Began (s e : ℕ) : Type 0 where
     pub follows : Follows t from s e
     pub moves : move ship m (part_of t s e) ≡ Opens tt
+    pub first : part ≡ 0
 
   abbrev MetSo : Met → Type 0
   MetSo met.Over = trail (move ship) m (groups_from t from) ≡ []
@@ -117,11 +117,11 @@ module _ (t : List ℕ) (from : ℕ) (ship : Bool) (part c k : ℕ) where
     where
       by_turn : (s e : ℕ) → Follows t from s e → (u : Turn) → turn_in ship part c k (part_of t s e) ≡ u → MetSo (met_move s e (move_by part (part_of t s e) u))
       by_turn s e f (turn.At i n) is = record { follows = f; moves = moved s e (turn.At i n) is; few = turn-few ship part c k (part_of t s e) i n is }
-      by_turn s e f turn.Halt is = word (eqb part 0 && has_pattern (part_of t s e) section3_word) (moved s e turn.Halt is)
+      by_turn s e f turn.Halt is = word (eqb part 0 && has_pattern (part_of t s e) section3_word) refl (moved s e turn.Halt is)
         where
-          word : (b : Bool) → move ship m (part_of t s e) ≡ cond b (Opens tt) Ends → MetSo (met_move s e (cond b (Opens tt) Ends))
-          word true moves = record { follows = f; moves = moves }
-          word false moves = ended f moves
+          word : (b : Bool) → (eqb part 0 && has_pattern (part_of t s e) section3_word) ≡ b → move ship m (part_of t s e) ≡ cond b (Opens tt) Ends → MetSo (met_move s e (cond b (Opens tt) Ends))
+          word true c moves = record { follows = f; moves = moves; first = eqb-true part 0 (both (eqb part 0) _ c).0 }
+          word false c moves = ended f moves
       by_turn s e f (turn.Refused r) is = ended f (moved s e (turn.Refused r) is)
 
       go : (x : Cut) → next_of t from ≡ x → MetSo (met_cut t ship m x)
@@ -132,10 +132,6 @@ module _ (t : List ℕ) (from : ℕ) (ship : Bool) (part c k : ℕ) where
 
   pub was-over : {x : Met} → x ≡ met_of t from ship m → x ≡ met.Over → trail (move ship) m (groups_from t from) ≡ []
   was-over a b = subst MetSo (sym a ∙ b) met-so
-
-  pub over_none : {x : Met} → x ≡ met_of t from ship m → x ≡ met.Over → (q : ℕ) (p : Spot) → source.None ≡ looked (move ship) q p t m from
-  unfolding looked origin_in
-  over_none a b q p = rw (was-over a b)
 
   pub was-taken : {x : Met} {i n s e : ℕ} → x ≡ met_of t from ship m → x ≡ met.Takes i n s e → Took i n s e
   was-taken a b = subst MetSo (sym a ∙ b) met-so

@@ -1,5 +1,6 @@
 -- What a group of a SYNOP or SHIP tells, where it is not refused, beside what the laws of accepted records say of it.
 -- Assumes nothing.
+use Rattle.std.specs.Prelude.{Err, None, Ok, Option, Result, Some}
 use Prim.Native.Nat.{ℕ, ◌<◌}
 use native.Mathlib.Omega.{arith}
 use mathlib.Core.Path.{◌≡◌, refl, sym, ap, ◌∙◌}
@@ -14,12 +15,10 @@ use Rattle.text.specs.declared.kinds.Refusal.{Refusal}
 use Rattle.scales.specs.Metres.{metres_reading}
 use Rattle.scales.specs.Layers.{layer_steps, layer_bands}
 use Rattle.scales.specs.Rounded.{rain_reading, direction_reading}
-use Rattle.places.specs.Engine.{Group, Read, Good, Bad}
-use Rattle.record.specs.declared.values.Number.{Number}
+use Rattle.places.specs.Engine.{Group}
 use Rattle.record.specs.declared.values.Direction.{Direction}
 use Rattle.record.specs.declared.values.Direction.TheVariants as direction
 use Rattle.record.specs.declared.values.Speed.TheVariants as speed
-use Rattle.record.specs.declared.values.Tenths.TheVariants as tenths
 use Rattle.record.specs.declared.surface.Position.{Position}
 use Rattle.record.specs.declared.surface.BaseHeight.{BaseHeight}
 use Rattle.record.specs.declared.surface.Wind.{Wind}
@@ -40,18 +39,18 @@ pub record Made {A R : Type 0} (make : A → Said) (P : A → Type 0) (put : A �
   pub so : P value
   pub puts : r ≡ put value
 
-pub same_good : {R : Type 0} {r s : R} → Good s ≡ Good r → r ≡ s
+pub same_good : {R : Type 0} {r s : R} → ◌≡◌ {A = Result R Refusal} (Ok s) (Ok r) → r ≡ s
 same_good e = cc
 
-pub made : {A R : Type 0} {make : A → Said} {P : A → Type 0} (with : Said → Read R) (put : A → R) {x : Said} {r : R} → ((a : A) → with (make a) ≡ Good (put a))
-    → ((f : Refusal) → with (said.Refused f) ≡ Bad f) → Tells make P x → with x ≡ Good r → Made make P put x r
+pub made : {A R : Type 0} {make : A → Said} {P : A → Type 0} (with : Said → Result R Refusal) (put : A → R) {x : Said} {r : R} → ((a : A) → with (make a) ≡ Ok (put a))
+    → ((f : Refusal) → with (said.Refused f) ≡ Err f) → Tells make P x → with x ≡ Ok r → Made make P put x r
 made with put goods bads (told {a} p) e = record { value = a; is = refl; so = p; puts = same_good (sym (goods a) ∙ e) }
 made with put goods bads (refused {f}) e = let no = sym (bads f) ∙ e in impossible (cc)
 
 -- ---- 99LaLaLa has a latitude without its sign, and QcLoLoLoLo keeps it but for the sign
 
 abbrev pub plain : Position → Position
-plain p = record { latitude = tenths.Is (pos (read_latitude p.latitude)); longitude = tenths.Missing }
+plain p = record { latitude = Some (pos (read_latitude p.latitude)); longitude = None }
 
 pub latitude-plain : (g : Group) → Tells said.Position (λ p. plain p ≡ p) (said_latitude g)
 unfolding said_latitude latitude_is
@@ -70,14 +69,14 @@ pub record InTwo (w : Wind) : Type 0 where
   pub two : speed_in_two w.speed ≡ w.speed
   pub over : over99 w.speed ≡ speed.Missing
 
-in_two : (n : Number) (d : Direction) (ff : ℕ) → ff < 100 → InTwo (record { cover = n; direction = d; speed = speed.Is ff })
+in_two : (n : Option ℕ) (d : Direction) (ff : ℕ) → ff < 100 → InTwo (record { cover = n; direction = d; speed = speed.Is ff })
 in_two n d ff few = record { two = ap speed.Is (go (leb 99 ff) refl); over = rw (le-leb ff 99 (omega arith)) }
   where
     go : (b : Bool) → leb 99 ff ≡ b → cond b 99 ff ≡ ff
     go true e = let h = leb-true 99 ff e in omega arith
     go false e = refl
 
-wind-by : (n : Number) (dd ff : ℕ) → ff < 100 → Tells said.Wind InTwo (wind_by n dd ff)
+wind-by : (n : Option ℕ) (dd ff : ℕ) → ff < 100 → Tells said.Wind InTwo (wind_by n dd ff)
 unfolding wind_by
 wind-by n dd ff few =
     tells-cond (eqb dd 0) (λ z. tells-cond (eqb ff 0) (λ s. told (in_two n direction.Calm ff few)) (λ s. refused))
@@ -106,7 +105,7 @@ weather-allowed forbidden g =
     (λ w a. tells-part g 3 1 9 (λ p. part (field_at g 4 1) (λ q. said-so w p q)) (omega arith)
     (λ p b. tells-part g 4 1 9 (λ q. said-so w p q) (omega arith) (λ q c. tells-unless forbidden (λ may. told may))))
   where
-    said-so : Number → Number → Number → Said
+    said-so : Option ℕ → Option ℕ → Option ℕ → Said
     said-so w p q = unless forbidden (said.Weather (record { present = w; past = p; past2 = q }))
 
 -- ---- 8NChh
@@ -119,5 +118,5 @@ layer-plain g =
     (λ c b. tells-may-miss (field_at g 3 2) (λ m. told tt)
     (λ k e. tells-cond (leb 90 k) (λ s. tells-used (metres_reading layer_bands k) (λ m r. told tt)) (λ s. tells-used (metres_reading layer_steps k) (λ m r. told tt)))))
   where
-    said-so : Number → Number → BaseHeight → Said
+    said-so : Option ℕ → Option ℕ → BaseHeight → Said
     said-so n c h = said.Layer (record { amount = n; cloud = c; height = h })

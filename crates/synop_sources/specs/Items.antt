@@ -1,14 +1,10 @@
 -- THE ITEMS OF A SYNOP OR SHIP: where each stands in the record, at which place its group is taken, and what the definition of that group says of its bytes.
 -- Assumes nothing: these are definitions.
-use Rattle.std.specs.Prelude.{ℕ, zero, suc, ◌≡◌, Bool, true, false, cond, not, ◌&&◌, List, [], ◌∷◌, get_or, eqb, leb, pos, nat_abs}
+use Rattle.std.specs.Prelude.{ℤ, ℕ, zero, suc, ◌≡◌, Bool, true, false, cond, not, ◌&&◌, List, [], ◌∷◌, get_or, eqb, leb, pos, nat_abs, None, Option, Some}
 use Rattle.figures.specs.Quote.{bytes}
 use Rattle.text.specs.Groups.{Piece}
 use Rattle.shapes.specs.Pattern.{has_pattern}
 use Rattle.places.specs.Engine.{Group}
-use Rattle.record.specs.declared.values.Number.{Number}
-use Rattle.record.specs.declared.values.Number.TheVariants as number
-use Rattle.record.specs.declared.values.Tenths.{Tenths}
-use Rattle.record.specs.declared.values.Tenths.TheVariants as tenths
 use Rattle.record.specs.declared.values.Speed.{Speed}
 use Rattle.record.specs.declared.values.Speed.TheVariants as speed
 use Rattle.record.specs.declared.surface.CallSign.{CallSign}
@@ -93,12 +89,12 @@ spot_of e = spot.At (place_of e) 0
 -- ---- values that two groups say together
 
 -- A ship's position as 99LaLaLa leaves it: the latitude without its sign, which QcLoLoLoLo says with the longitude.
-abbrev pub unsigned : Tenths → Tenths
-unsigned tenths.Missing = tenths.Missing
-unsigned (tenths.Is t) = tenths.Is (pos (nat_abs t))
+abbrev pub unsigned : Option ℤ → Option ℤ
+unsigned None = None
+unsigned (Some t) = Some (pos (nat_abs t))
 
 abbrev pub northern : Position → Position
-northern p = record { latitude = unsigned p.latitude; longitude = tenths.Missing }
+northern p = record { latitude = unsigned p.latitude; longitude = None }
 
 -- The wind as Nddff leaves it: a speed of 99 or more is its ff 99. And a speed over 99, which 00fff alone says. Both together are the wind of the record.
 abbrev pub wind_in_two : Wind → Wind
@@ -115,7 +111,7 @@ abbrev pub Value : Element → Type 0
 Value element.Name = Bool
 Value element.Sign = CallSign
 Value element.Time = Time
-Value element.Station = Number
+Value element.Station = Option ℕ
 Value element.Latitude = Position
 Value element.Longitude = Position
 Value element.Nil = Bool
@@ -158,8 +154,8 @@ value_of element.Maximum r = r.section3.maximum
 value_of element.Minimum r = r.section3.minimum
 
 -- a station's number
-pub data StationSaid (g : Group) : Number → Type 0 where
-  says : {n : ℕ} → said_station g ≡ said.Station n → StationSaid g (number.Is n)
+pub data StationSaid (g : Group) : Option ℕ → Type 0 where
+  says : {n : ℕ} → said_station g ≡ said.Station n → StationSaid g (Some n)
 
 -- 00fff after ff 99
 pub data SpeedSaid (g : Group) : Speed → Type 0 where

@@ -3,15 +3,16 @@
 
 pub mod kinds;
 
-ghost use Rattle.std.specs.Prelude.{◌-◌, ◌≡◌, cond, eqb};
+ghost use Rattle.std.specs.Prelude.{◌≡◌, eqb};
 ghost use Rattle.shapes.specs.Pattern.{has_any};
 ghost use Rattle.places.specs.Turn.{turn_at};
 ghost use Rattle.synop_row.specs.Row.{row, stop_words};
 ghost use Rattle.sources.specs.Trail.{origin_in, source_of};
-ghost use Rattle.synop_sources.specs.Items.{part_of, place_of, layers_place, says_layer, layer_in};
+ghost use Rattle.synop_sources.specs.Items.{part_of, place_of, layers_place, says_layer, is_layer, layer_in};
 ghost use Rattle.synop_sources.specs.Trail.{head_at, head_turn, free, section_turn, in_head, turn_in, mark_at, word_move, ship_in, trail_of, met_move, met_of};
+ghost use Rattle.synop_sources.specs.Walk.{left, taken_of, Stepped};
 
-use kinds::{Element, Met};
+use kinds::{Element, Met, Step, Walk};
 use places::kinds::Turn;
 use places::turn_by;
 use shapes::has_pattern;
@@ -33,35 +34,20 @@ fn head_at(place: usize) -> Turn
 fn head_turn(ship: bool, place: usize, count: usize, g: &[u8]) -> Turn
     ensures { result ≡ head_turn ship place count g.now }
 {
-    if place == 10 {
-        if count == 0 {
-            return head_at(10);
-        }
-        return if ship { head_at(11) } else { head_at(12) };
+    match place {
+        10 if count == 0 => head_at(10),
+        10 if ship => head_at(11),
+        10 => head_at(12),
+        11 => head_at(12),
+        12 if ship => head_at(14),
+        12 => head_at(13),
+        13 if has_pattern(g, b"NIL") => head_at(16),
+        13 => head_at(17),
+        14 => head_at(15),
+        15 => head_at(17),
+        17 => head_at(18),
+        _ => Turn::Refused(Refusal::Shape),
     }
-    if place == 11 {
-        return head_at(12);
-    }
-    if place == 12 {
-        return if ship { head_at(14) } else { head_at(13) };
-    }
-    if place == 13 {
-        return if has_pattern(g, b"NIL") {
-            head_at(16)
-        } else {
-            head_at(17)
-        };
-    }
-    if place == 14 {
-        return head_at(15);
-    }
-    if place == 15 {
-        return head_at(17);
-    }
-    if place == 17 {
-        return head_at(18);
-    }
-    Turn::Refused(Refusal::Shape)
 }
 
 // The group's turn by the row of section 1. What is required there decides no place.
@@ -154,43 +140,69 @@ fn is_ship(text: &[u8]) -> bool
     has_pattern(text::part(text, start, end), b"BBXX")
 }
 
-// The group that was taken at a spot of a part, in a text that is accepted as a SYNOP or SHIP.
-pub fn find(text: &[u8], part: usize, spot: Spot) -> Source
-    ensures { result ≡ source_of (origin_in part spot (trail_of text.now)) }
+// The walk at the text's beginning, where the name is still to come.
+#[tactic(auto, unfolding(crate::specs::Trail::trail_of))]
+fn begin(text: &[u8]) -> Walk
+    ensures { left text.now result ≡ trail_of text.now }
 {
-    let ship = is_ship(text);
-    let mut here = 0;
-    let mut stand = 10;
-    let mut stood = 0;
-    let mut from = 0;
-    loop {
-        let met = meet(text, from, ship, here, stand, stood);
-        match met {
-            Met::Over => return Source::None,
-            Met::Takes {
-                place,
-                count,
-                start,
-                end,
-            } => {
-                if (part == here) & is_same(spot, Spot::At { place, count }) {
-                    return Source::Group { start, end };
-                }
-                stand = place;
-                stood = count + 1;
-                from = end;
-            }
-            Met::Opens { start, end } => {
-                here += 1;
-                if (part == here) & is_same(spot, Spot::Opening) {
-                    return Source::Group { start, end };
-                }
-                stand = 0;
-                stood = 0;
-                from = end;
-            }
+    Walk {
+        ship: is_ship(text),
+        part: 0,
+        place: 10,
+        count: 0,
+        from: 0,
+    }
+}
+
+// The walk goes on to the next group, if there is one.
+fn step(text: &[u8], walk: &mut Walk) -> Option<Step>
+    ensures { Stepped text.now walk.old walk.new result }
+{
+    let met = meet(
+        text, walk.from, walk.ship, walk.part, walk.place, walk.count,
+    );
+    match met {
+        Met::Over => None,
+        Met::Takes {
+            place,
+            count,
+            start,
+            end,
+        } => {
+            walk.place = place;
+            walk.count = count + 1;
+            walk.from = end;
+            Some(Step {
+                part: walk.part,
+                spot: Spot::At { place, count },
+                source: Source { start, end },
+            })
+        }
+        Met::Opens { start, end } => {
+            walk.part = 1;
+            walk.place = 0;
+            walk.count = 0;
+            walk.from = end;
+            Some(Step {
+                part: 1,
+                spot: Spot::Opening,
+                source: Source { start, end },
+            })
         }
     }
+}
+
+// The group that was taken at a spot of a part, in a text that is accepted as a SYNOP or SHIP.
+pub fn find(text: &[u8], part: usize, spot: Spot) -> Option<Source>
+    ensures { result ≡ source_of (origin_in part spot (trail_of text.now)) }
+{
+    let mut walk = begin(text);
+    while let Some(met) = step(text, &mut walk) {
+        if (part == met.part) & is_same(spot, met.spot) {
+            return Some(met.source);
+        }
+    }
+    None
 }
 
 // Does a group of a part, taken at a place, say a layer?
@@ -201,54 +213,35 @@ fn says_layer(part: usize, place: usize, g: &[u8]) -> bool
     (part == 1) & (place == 2) & !none
 }
 
-// How many layers are still to be passed over, behind a group that says one or says none.
-fn count_down(more: usize, says: bool) -> usize
-    ensures { result ≡ cond says (more - 1) more }
+// Does the group that the walk came by say a layer?
+fn is_layer(text: &[u8], met: Step) -> bool
+    ensures { result ≡ is_layer (taken_of text.now met) }
 {
-    if says {
-        if 0 < more { more - 1 } else { 0 }
-    } else {
-        more
+    match met.spot {
+        Spot::At { place, count: _ } => says_layer(
+            met.part,
+            place,
+            text::part(text, met.source.start, met.source.end),
+        ),
+        _ => false,
     }
 }
 
 // The group that says a layer of section 3, the one with so many before it, in a text that is accepted as a SYNOP or SHIP.
-pub fn find_layer(text: &[u8], number: usize) -> Source
+pub fn find_layer(text: &[u8], number: usize) -> Option<Source>
     ensures { result ≡ source_of (layer_in number (trail_of text.now)) }
 {
-    let ship = is_ship(text);
+    let mut walk = begin(text);
     let mut more = number;
-    let mut here = 0;
-    let mut stand = 10;
-    let mut stood = 0;
-    let mut from = 0;
-    loop {
-        let met = meet(text, from, ship, here, stand, stood);
-        match met {
-            Met::Over => return Source::None,
-            Met::Takes {
-                place,
-                count,
-                start,
-                end,
-            } => {
-                let says = says_layer(here, place, text::part(text, start, end));
-                if says & (more == 0) {
-                    return Source::Group { start, end };
-                }
-                more = count_down(more, says);
-                stand = place;
-                stood = count + 1;
-                from = end;
+    while let Some(met) = step(text, &mut walk) {
+        if is_layer(text, met) {
+            if more == 0 {
+                return Some(met.source);
             }
-            Met::Opens { start: _, end } => {
-                here += 1;
-                stand = 0;
-                stood = 0;
-                from = end;
-            }
+            more -= 1;
         }
     }
+    None
 }
 
 // The part of the report that an item's group is in: 1 is section 3.
@@ -256,8 +249,7 @@ pub fn part_of(element: Element) -> usize
     ensures { result ≡ part_of element }
 {
     match element {
-        Element::Maximum => 1,
-        Element::Minimum => 1,
+        Element::Maximum | Element::Minimum => 1,
         _ => 0,
     }
 }

@@ -1,10 +1,9 @@
 // A record written as its canonical text, over a lent buffer: all of it, or nothing.
-ghost use Rattle.std.specs.Prelude.{◌≡◌, cond, ◌∷◌, [], ◌++◌, length};
+ghost use Rattle.std.specs.Prelude.{◌≡◌, cond, ◌∷◌, [], ◌++◌, length, Ok};
 ghost use Rattle.figures.specs.Put.{Put};
 ghost use Rattle.figures.specs.Quote.{bytes};
 ghost use Rattle.text.specs.Groups.{written};
 ghost use Rattle.places.specs.Engine.{written as groups_at};
-ghost use Rattle.text.specs.declared.kinds.Judged.TheVariants as judged;
 ghost use Rattle.synop_groups.specs.Shows.{show_time, show_station, show_sign, show_latitude, show_longitude};
 ghost use Rattle.synop_row.specs.Row.{row};
 ghost use Rattle.section3.specs.Write.{show_section3};
@@ -20,7 +19,7 @@ use synop_groups_write::write::{
 };
 use synop_row::kinds::Needs;
 use synop_row::row::needs_of;
-use text::kinds::{Judged, Written};
+use text::kinds::Refusal;
 use text::write::{close_report, deliver, put_group};
 
 // AAXX YYGGiw IIiii
@@ -125,8 +124,8 @@ fn put_report(out: &mut [u8], r: Synop) -> usize
 }
 
 // A record that is judged fine: its text, at most 145 bytes, is made first, so that its length is known before the lent buffer is touched.
-fn write_fine(r: Synop, out: &mut [u8]) -> Written
-    requires { judge_of r ≡ judged.Fine }
+fn write_fine(r: Synop, out: &mut [u8]) -> Result<usize, Refusal>
+    requires { judge_of r ≡ Ok tt }
     ensures { (result ≡ written_of r (length out.old)) × (out.new ≡ buffer_of r out.old) }
 {
     let mut text = [0u8; 160];
@@ -134,12 +133,10 @@ fn write_fine(r: Synop, out: &mut [u8]) -> Written
     deliver(&text[..end], out)
 }
 
-pub fn write(r: Synop, out: &mut [u8]) -> Written
+#[tactic(auto, unfolding(synop::specs::Write::written_of, synop::specs::Write::buffer_of))]
+pub fn write(r: Synop, out: &mut [u8]) -> Result<usize, Refusal>
     ensures { (result ≡ written_of r (length out.old)) × (out.new ≡ buffer_of r out.old) }
 {
-    let verdict = judge(r);
-    match verdict {
-        Judged::Fine => write_fine(r, out),
-        Judged::Refused(refusal) => Written::Refused(refusal),
-    }
+    judge(r)?;
+    write_fine(r, out)
 }

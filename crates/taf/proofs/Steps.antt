@@ -1,5 +1,6 @@
 -- The laws of one group of a TAF's part: what it says goes into the part as its place reads it.
 -- Assumes nothing.
+use Rattle.std.specs.Prelude.{Ok}
 use Prim.Native.Nat.{ℕ, ◌≤◌}
 use mathlib.Core.Path.{◌≡◌, refl}
 use mathlib.Core.Bool.{Bool, true, false, not}
@@ -8,7 +9,7 @@ use lib.Dec.{T}
 use types.Run.{OneOf}
 use denote.Enum.Declared.{tag_of}
 use Rattle.text.specs.declared.kinds.Refusal.TheVariants as refusal
-use Rattle.places.specs.Engine.{Group, Good, then, place_at}
+use Rattle.places.specs.Engine.{Group, then, place_at}
 use Rattle.record.specs.declared.aerodrome.Body.{Body}
 use Rattle.record.specs.declared.aerodrome.Leg.{Leg}
 use Rattle.record.specs.declared.aerodrome.Edition.{Edition}
@@ -51,7 +52,7 @@ module _ (e : Edition) (w : Part) (k : ℕ) (g : Group) (b : Body) where
   seen r = r.body ≡ b
 
   pub says-body : (i j : ℕ) {x : Said} → BodySays true (not (is_main w)) false j k g b x
-      → ((r : Leg) → (place_at (row e w) i).read k g r ≡ then ((place_at (body_row (forecast_in w)) j).read k g r.body) (λ b. Good (set_body b r))) → Says e w i k g b x
+      → ((r : Leg) → (place_at (row e w) i).read k g r ≡ then ((place_at (body_row (forecast_in w)) j).read k g r.body) (λ b. Ok (set_body b r))) → Says e w i k g b x
   says-body i j s reads = body-says (row e w) part_said seen k g (λ r. r.body) set_body b (λ r is. is) (of-body k g) i s (λ r is. (is_whole w, false, reads r))
 
   pub says-time : Says e w 3 k g b (as_said said.Time (read_time g))

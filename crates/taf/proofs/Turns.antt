@@ -1,5 +1,6 @@
 -- The laws of a TAF's parts: what a change word opens, how a part is read from group to group, what is read from a change on, and the groups behind the name.
 -- Assumes nothing.
+use Rattle.std.specs.Prelude.{Option, Result, Err, Ok}
 use Prim.Native.Nat.{ℕ, suc, ◌+◌, ◌-◌, ◌≤◌, ◌<◌}
 use native.Mathlib.Omega.{arith}
 use native.Mathlib.Numerals.{add-one}
@@ -11,8 +12,7 @@ use lib.Seq.{sets, set_comm}
 use borrow.Author.Tests.{lt-ltb}
 use Rattle.text.specs.declared.kinds.Refusal.{Refusal}
 use Rattle.text.specs.declared.kinds.Refusal.TheVariants as refusal
-use Rattle.text.specs.declared.kinds.Tail.{Tail}
-use Rattle.text.specs.declared.kinds.Verdict.{Verdict}
+use Rattle.text.specs.declared.kinds.Refused.{Refused}
 use Rattle.text.specs.Groups.{Piece, groups_from, part_of as bytes_of}
 use Rattle.text.specs.Text.{tail_of}
 use Rattle.text.proofs.Groups.{Follows}
@@ -41,7 +41,6 @@ use Rattle.body.proofs.Parts.{Reached as PartReached, reads_over, reads_word, wo
 use Rattle.taf_row.specs.declared.kinds.Part.{Part}
 use Rattle.taf_row.specs.declared.kinds.Part.TheVariants as part
 use Rattle.taf.specs.declared.kinds.Opened.{Opened}
-use Rattle.taf.specs.declared.kinds.Opened.TheVariants as opening
 use Rattle.taf.specs.declared.kinds.Next.TheVariants as next
 use Rattle.taf.specs.declared.kinds.PartRead.{PartRead}
 use Rattle.taf.specs.declared.kinds.Ahead.{Ahead}
@@ -50,17 +49,17 @@ use Rattle.taf_row.specs.Row.{word, row, change_words}
 use Rattle.taf_row.specs.Tests.{joins, owes_in}
 use Rattle.taf.specs.Said.{part_said}
 use Rattle.taf.specs.Read.{probable_group, from_group, opened_by, after_probable, part_of, change_of, part_in, change_part, changes, groups_read, behind_name, answer}
-use Rattle.taf.specs.Step.{begun_by, BeginsIn, EndedPart, more_after, part_by, change_from, body_from, refused_at, after_part, MetWord, PartDone, none_ahead, ReadAhead}
+use Rattle.taf.specs.Step.{begun_by, BeginsIn, EndedPart, more_after, part_by, change_from, body_from, refused_at, after_part, MetWord, PartDone, none_ahead, ReadAhead, opened_with}
 
 -- ---- what a change word opens
 
 module _ (e : Edition) (g : Group) where
-  pub opens-becoming : word "BECMG" g ≡ true → begun_by (opening.Good kind.Becoming blank_period) ≡ opened_by e g
+  pub opens-becoming : word "BECMG" g ≡ true → begun_by (Ok (opened_with kind.Becoming blank_period)) ≡ opened_by e g
   unfolding opened_by
   opens-becoming a = rw a
 
   module _ (a : word "BECMG" g ≡ false) where
-    pub opens-temporary : word "TEMPO" g ≡ true → begun_by (opening.Good kind.Temporary blank_period) ≡ opened_by e g
+    pub opens-temporary : word "TEMPO" g ≡ true → begun_by (Ok (opened_with kind.Temporary blank_period)) ≡ opened_by e g
     unfolding opened_by
     opens-temporary b = rw (a, b)
 
@@ -89,24 +88,21 @@ module _ (text : List ℕ) (o : Opening) (at : ℕ) where
 -- ---- a change word ends a part
 
 module _ (e : Edition) (g : Group) (start end n : ℕ) where
-  pub meets-lacking : MetWord e g start end n true (refused_at refusal.Absence start)
-  meets-lacking = record { reads = λ text t. refl; ahead = λ o q to z. impossible (cc) }
-
   pub meets-full : 16 ≤ n → MetWord e g start end n false (refused_at refusal.Limit start)
   meets-full h = record { reads = λ text t. no_room (tail_of text) (length text) (changes e) 16 n t _ (opened_by e g) (groups_from text end) h; ahead = λ o q to z. impossible (cc) }
 
-  module _ (few : n < 16) (x : Opened) (begun : begun_by x ≡ opened_by e g) where
+  module _ (few : n < 16) (x : Result Opened Refusal) (begun : begun_by x ≡ opened_by e g) where
     abbrev opens : List ℕ → Taf → Outcome Taf
     opens text t = opened (tail_of text) (length text) (changes e) (more_after e text (n + 1)) t (record { start = start; bytes = g }) (begun_by x) (groups_from text end)
 
     room : (text : List ℕ) (t : Taf) → more_after e text n t (record { start = start; bytes = g }) (opened_by e g) (groups_from text end) ≡ opens text t
     room text t = rw begun (one_more (tail_of text) (length text) (changes e) 16 n t _ (opened_by e g) (groups_from text end) few)
 
-    pub meets-good : (o : Opening) (p : Period) → x ≡ opening.Good o p → MetWord e g start end n false (next.Change o p end)
+    pub meets-good : (o : Opening) (p : Period) → x ≡ Ok (opened_with o p) → MetWord e g start end n false (next.Change o p end)
     unfolding change_from
     meets-good o p is = record { reads = λ text t. rw is at (room text t); ahead = λ o' q to z. let same : end ≡ to = cc in (sym same, few) }
 
-    pub meets-bad : {f : Refusal} → x ≡ opening.Bad f → MetWord e g start end n false (refused_at f start)
+    pub meets-bad : {f : Refusal} → x ≡ Err f → MetWord e g start end n false (refused_at f start)
     meets-bad is = record { reads = λ text t. rw is at (room text t); ahead = λ o q to z. impossible (cc) }
 
 -- ---- a part, from group to group
@@ -162,7 +158,7 @@ module _ (e : Edition) (text : List ℕ) (n : ℕ) (o : Opening) (p : Period) (a
       let with_it : (change_part e t o).takes read.leg ≡ takes t = rw (q, lt-ltb n 16 few, made) in
       (rw held at (done.reads (λ r. (change_part e t o).takes r))) ∙ ap (λ (x : Taf). after_part e text (n + 1) x read.next) with_it
 
-  pub body-ends : {v : Verdict} {a : Ahead} → read.next ≡ next.End v → a ≡ none_ahead v (n + 1)
+  pub body-ends : {v : Result ℕ Refused} {a : Ahead} → read.next ≡ next.End v → a ≡ none_ahead v (n + 1)
       → ReadAhead n (body_from e text n o p at) (record { verdict = a.verdict; items = set a.items n c; count = a.count })
   body-ends is none =
       record {
@@ -200,7 +196,7 @@ module _ {e : Edition} {text : List ℕ} {at : ℕ} {read : PartRead} (done : Pa
   unfolding behind_name part_by
   main-reads = done.reads (λ r. record { edition = e; leg = r; changes = blank_taf.changes })
 
-  pub main-ends : {v : Verdict} → read.next ≡ next.End v → answer (outcome_of v (record { edition = e; leg = read.leg; changes = blank_taf.changes })) ≡ whole
+  pub main-ends : {v : Result ℕ Refused} → read.next ≡ next.End v → answer (outcome_of v (record { edition = e; leg = read.leg; changes = blank_taf.changes })) ≡ whole
   main-ends is = ap answer (sym (rw is at main-reads))
 
   pub main-goes : {o : Opening} {p : Period} {to : ℕ} {a : Ahead} → read.next ≡ next.Change o p to → ReadAhead 0 (change_from e text 0 o p to) a
@@ -226,7 +222,7 @@ module _ (e : Edition) (g : Group) (is : word "TAF" g ≡ true) where
   taken-first = stands-first
 
 -- BEHIND THE NAME the groups come to what all groups come to.
-pub past-name : (e : Edition) (tail : Tail) (end : ℕ) (g : Piece) (gs : List Piece) → word "TAF" g.bytes ≡ true
+pub past-name : (e : Edition) (tail : Option ℕ) (end : ℕ) (g : Piece) (gs : List Piece) → word "TAF" g.bytes ≡ true
     → groups_read e tail end (g ∷ gs) ≡ behind_name e tail end gs
 unfolding groups_read behind_name report_of run_to
 past-name e tail end g gs is = rw (taken-first e g.bytes is)

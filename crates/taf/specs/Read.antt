@@ -1,17 +1,14 @@
 -- Reading a TAF: a report of parts (places, Parts), its main part, then its change groups, each with a part of its own.
 -- Assumes nothing: these are definitions.
-use Rattle.std.specs.Prelude.{ℕ, ◌+◌, Bool, cond, not, ◌&&◌, ◌||◌, List, set, ltb, eqb}
+use Rattle.std.specs.Prelude.{ℕ, ◌+◌, Bool, cond, not, ◌&&◌, ◌||◌, List, set, ltb, eqb, None, Ok, Option, Result, Some}
 use Rattle.figures.specs.Figures.{field_at}
 use Rattle.text.specs.declared.kinds.Refusal.{Refusal}
-use Rattle.text.specs.declared.kinds.Tail.{Tail}
-use Rattle.text.specs.declared.kinds.Verdict.{Verdict}
+use Rattle.text.specs.declared.kinds.Refused.{Refused}
 use Rattle.text.specs.Groups.{Piece}
 use Rattle.shapes.specs.Pattern.{has_any}
-use Rattle.places.specs.Engine.{Group, Read, Good, Outcome}
+use Rattle.places.specs.Engine.{Group, Outcome}
 use Rattle.places.specs.Parts.{Begun, Opens, Part as ReportPart, Parts, part_from, further, report_of}
 use Rattle.places.specs.Answer.{accepted_as, refused_as, answer_of}
-use Rattle.record.specs.declared.values.Number.{Number}
-use Rattle.record.specs.declared.values.Number.TheVariants as number
 use Rattle.record.specs.declared.aerodrome.Opening.{Opening}
 use Rattle.record.specs.declared.aerodrome.Opening.TheVariants as opening
 use Rattle.record.specs.declared.aerodrome.Leg.{Leg}
@@ -31,32 +28,32 @@ use Rattle.taf_row.specs.Tests.{joins}
 
 -- ---- what a change word opens: "BECMG, TEMPO, PROB30, PROB40, .. or FMYYGGgg"
 
-abbrev pub opened : Opening → Leg → Read (Begun Opening Leg)
-opened o r = Good (record { kind = o; start = r })
+abbrev pub opened : Opening → Leg → Result (Begun Opening Leg) Refusal
+opened o r = Ok (record { kind = o; start = r })
 
 -- FMYYGGgg, FMGGgg: the part begins at that time
-abbrev pub opened_from : Number → ℕ → ℕ → Read (Begun Opening Leg)
+abbrev pub opened_from : Option ℕ → ℕ → ℕ → Result (Begun Opening Leg) Refusal
 opened_from day h m =
-    opened opening.From (set_period (record { from = record { day = day; hour = number.Is h; minute = number.Is m }; to = blank_instant }) blank_leg)
+    opened opening.From (set_period (record { from = record { day = day; hour = Some h; minute = Some m }; to = blank_instant }) blank_leg)
 
-abbrev pub from_group : Edition → Group → Read (Begun Opening Leg)
+abbrev pub from_group : Edition → Group → Result (Begun Opening Leg) Refusal
 from_group edition.Present g =
     figured (field_at g 2 2)
     (λ d. figured (field_at g 4 2)
     (λ h. figured (field_at g 6 2)
-    (λ m. provided (is_day d && is_hour h && is_minute m) (opened_from (number.Is d) h m))))
+    (λ m. provided (is_day d && is_hour h && is_minute m) (opened_from (Some d) h m))))
 from_group edition.Of2005 g =
-    figured (field_at g 2 2) (λ h. figured (field_at g 4 2) (λ m. provided (is_hour h && is_minute m) (opened_from number.Missing h m)))
+    figured (field_at g 2 2) (λ h. figured (field_at g 4 2) (λ m. provided (is_hour h && is_minute m) (opened_from None h m)))
 
 -- PROB30, PROB40
 abbrev pub is_chance : ℕ → Bool
 is_chance n = eqb n 30 || eqb n 40
 
-abbrev pub probable_group : Group → Read (Begun Opening Leg)
+abbrev pub probable_group : Group → Result (Begun Opening Leg) Refusal
 probable_group g =
     figured (field_at g 4 2) (λ n. provided (is_chance n) (opened (opening.Probable n) blank_leg))
 
-unfoldable pub opened_by : Edition → Group → Read (Begun Opening Leg)
+unfoldable pub opened_by : Edition → Group → Result (Begun Opening Leg) Refusal
 opened_by e g =
     cond (word "BECMG" g) (opened opening.Becoming blank_leg)
     (cond (word "TEMPO" g) (opened opening.Temporary blank_leg) (cond (word "PROB##" g) (probable_group g) (from_group e g)))
@@ -114,15 +111,15 @@ changes e = record { part = change_part e; joins = joins; joined = after_probabl
 
 -- WHAT THE GROUPS OF A TAF COME TO in an edition, its name first, which stands at the first place of the main part's row: "up to .. 16 change groups". What follows the
 -- "=", and the text's length.
-unfoldable pub groups_read : Edition → Tail → ℕ → List Piece → Outcome Taf
+unfoldable pub groups_read : Edition → Option ℕ → ℕ → List Piece → Outcome Taf
 groups_read e tail end gs = report_of tail end (changes e) 16 (main_part e) blank_leg gs
 
 -- the groups behind the name, where that has stood
-unfoldable pub behind_name : Edition → Tail → ℕ → List Piece → Outcome Taf
+unfoldable pub behind_name : Edition → Option ℕ → ℕ → List Piece → Outcome Taf
 behind_name e tail end gs = part_from tail end (main_part e) (further tail end (changes e) 16) 0 1 blank_leg gs
 
 -- a reading with its verdict; the record is blank where the text is refused
-abbrev pub reading : Verdict → Taf → Reading
+abbrev pub reading : Result ℕ Refused → Taf → Reading
 reading v r = record { verdict = v; report = r }
 
 abbrev pub accepted : ℕ → Taf → Reading

@@ -1,13 +1,13 @@
 -- What the functions that read a TAF answer, in terms of its parts: what a change word opens, a part, and what is read from a change on.
 -- Assumes nothing: these are definitions.
-use Rattle.std.specs.Prelude.{ℕ, ◌+◌, ◌-◌, ◌≤◌, ◌<◌, ◌≡◌, Bool, List, length}
+use Rattle.std.specs.Prelude.{ℕ, ◌+◌, ◌-◌, ◌≤◌, ◌<◌, ◌≡◌, Bool, List, length, Err, Ok, Option, Result, Some}
 use Rattle.std.proofs.lemmas.List.Edits.{sets}
 use Rattle.text.specs.declared.kinds.Refusal.{Refusal}
-use Rattle.text.specs.declared.kinds.Verdict.{Verdict}
-use Rattle.text.specs.declared.kinds.Verdict.TheVariants as verdict
+use Rattle.text.specs.declared.kinds.Refused.{Refused}
 use Rattle.text.specs.Groups.{groups_from}
 use Rattle.text.specs.Text.{tail_of}
-use Rattle.places.specs.Engine.{Group, Read, Good, Bad, Outcome}
+use Rattle.text.specs.Refusals.{refused_with}
+use Rattle.places.specs.Engine.{Group, Outcome}
 use Rattle.places.specs.Answer.{outcome_of, end_verdict}
 use Rattle.places.specs.Parts.{Begun, Further, unless, part_from, begins, further}
 use Rattle.record.specs.declared.aerodrome.Period.{Period}
@@ -17,13 +17,10 @@ use Rattle.record.specs.declared.aerodrome.Opening.TheVariants as opening
 use Rattle.record.specs.declared.aerodrome.Change.{Change}
 use Rattle.record.specs.declared.aerodrome.Edition.{Edition}
 use Rattle.record.specs.declared.aerodrome.Taf.{Taf}
-use Rattle.record.specs.declared.values.Number.{Number}
-use Rattle.record.specs.declared.values.Number.TheVariants as number
 use Rattle.record.specs.Taf.{blank_instant, blank_leg, blank_taf, set_period}
 use Rattle.taf_row.specs.declared.kinds.Part.{Part}
 use Rattle.taf_row.specs.Tests.{owes_in}
 use Rattle.taf.specs.declared.kinds.Opened.{Opened}
-use Rattle.taf.specs.declared.kinds.Opened.TheVariants as opened
 use Rattle.taf.specs.declared.kinds.Start.{Start}
 use Rattle.taf.specs.declared.kinds.Next.{Next}
 use Rattle.taf.specs.declared.kinds.Next.TheVariants as next
@@ -33,13 +30,16 @@ use Rattle.taf.specs.Read.{opened_by, part_in, change_part, changes}
 
 -- ---- what a change word opens
 
-abbrev pub begun_by : Opened → Read (Begun Opening Leg)
-begun_by (opened.Good o p) = Good (record { kind = o; start = set_period p blank_leg })
-begun_by (opened.Bad f) = Bad f
+abbrev pub begun_by : Result Opened Refusal → Result (Begun Opening Leg) Refusal
+begun_by (Ok x) = Ok (record { kind = x.opening; start = set_period x.period blank_leg })
+begun_by (Err f) = Err f
+
+abbrev pub opened_with : Opening → Period → Opened
+opened_with opening period = record { opening = opening; period = period }
 
 -- a part that begins at the time of FMYYGGgg or FMGGgg
-abbrev pub from_time : Number → ℕ → ℕ → Opened
-from_time day h m = opened.Good opening.From (record { from = record { day = day; hour = number.Is h; minute = number.Is m }; to = blank_instant })
+abbrev pub from_time : Option ℕ → ℕ → ℕ → Result Opened Refusal
+from_time day h m = Ok (opened_with opening.From (record { from = record { day = day; hour = Some h; minute = Some m }; to = blank_instant }))
 
 -- behind the word that opens a change: whatever was read before, its part is read from `s` on, which is past TEMPO where that joins PROB
 pub record Begins (e : Edition) (text : List ℕ) (o : Opening) (at : ℕ) (s : Start) : Type 0 where
@@ -73,7 +73,7 @@ body_from e text n o p at t = part_from (tail_of text) (length text) (change_par
 -- ---- what follows a part
 
 abbrev pub refused_at : Refusal → ℕ → Next
-refused_at f at = next.End (verdict.Refused f at)
+refused_at f at = next.End (Err (refused_with f at))
 
 -- the text is over, where k groups stand at place c of the part r
 abbrev pub EndedPart : List ℕ → Part → ℕ → ℕ → Leg → PartRead → Type 0
@@ -96,7 +96,7 @@ pub record PartDone (e : Edition) (text : List ℕ) (w : Part) (n k : ℕ) (r : 
 
 -- ---- what is read from a change on
 
-abbrev pub none_ahead : Verdict → ℕ → Ahead
+abbrev pub none_ahead : Result ℕ Refused → ℕ → Ahead
 none_ahead v n = record { verdict = v; items = blank_taf.changes.items; count = n }
 
 -- Read with n changes before it: the changes that are read, in their places; and for every report with n changes the verdict, with those changes added.

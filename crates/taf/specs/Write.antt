@@ -1,11 +1,9 @@
 -- Writing a TAF: what the writer judges, the canonical text, and the record that it is read back as.
 -- Assumes nothing: these are definitions.
-use Rattle.std.specs.Prelude.{ℕ, Bool, true, false, cond, not, ◌&&◌, ◌||◌, List, [], ◌∷◌, ◌++◌, map, take, drop, leb}
+use Rattle.std.specs.Prelude.{⊤, ℕ, Bool, true, false, cond, not, ◌&&◌, ◌||◌, List, [], ◌∷◌, ◌++◌, map, take, drop, leb, Ok, Result}
+use Rattle.text.specs.declared.kinds.Refusal.{Refusal}
 use Rattle.figures.specs.Quote.{bytes}
 use Rattle.figures.specs.Figures.{number_text, field_text, every}
-use Rattle.text.specs.declared.kinds.Judged.{Judged}
-use Rattle.text.specs.declared.kinds.Judged.TheVariants as judged
-use Rattle.text.specs.declared.kinds.Written.{Written}
 use Rattle.text.specs.Judge.{judge, and_then}
 use Rattle.text.specs.Write.{answer_by, buffer_by}
 use Rattle.text.specs.Groups.{join}
@@ -35,7 +33,7 @@ use Rattle.taf.specs.Read.{is_chance, part_of, change_of}
 
 -- ---- a part: its body in written order; "A change body needs one element, under FM wind and visibility."
 
-unfoldable pub judge_part : Part → Body → Judged
+unfoldable pub judge_part : Part → Body → Result ⊤ Refusal
 judge_part w b = and_then (judge_body (forecast_in w) b) (judge (element_stands w b) true)
 
 -- ---- periods and what opens a change
@@ -70,14 +68,14 @@ opening_fits e opening.From p = from_fits e p.from && no_instant p.to
 abbrev pub leg_of : Change → Leg
 leg_of c = set_body c.body (set_period c.period blank_leg)
 
-unfoldable pub judge_change : Edition → Change → Judged
+unfoldable pub judge_change : Edition → Change → Result ⊤ Refusal
 judge_change e c = and_then (judge (opening_fits e c.opening c.period) true) (judge_part (part_of c.opening) c.body)
 
-abbrev pub judge_each : Edition → List Change → Judged
-judge_each e [] = judged.Fine
+abbrev pub judge_each : Edition → List Change → Result ⊤ Refusal
+judge_each e [] = Ok tt
 judge_each e (c ∷ cs) = and_then (judge_change e c) (judge_each e cs)
 
-unfoldable pub judge_changes : Edition → Changes → Judged
+unfoldable pub judge_changes : Edition → Changes → Result ⊤ Refusal
 judge_changes e cs = and_then (judge (leb cs.count 16 && every is_blank_change (drop cs.count cs.items)) true) (judge_each e (take cs.count cs.items))
 
 -- ---- foreign fields: a NIL report has nothing after its time, a cancelled one nothing after its period
@@ -90,17 +88,17 @@ foreign_blank t =
 -- ---- "The writer judges foreign fields first, then the others in written order, 11 before 7 at each"
 
 -- a record by its own edition
-unfoldable pub judge_of : Taf → Judged
+unfoldable pub judge_of : Taf → Result ⊤ Refusal
 judge_of t =
     and_then (judge (foreign_blank t) true)
     (and_then (judge_station t.leg.station)
     (and_then (judge_time t.leg.time)
-    (cond t.leg.nil judged.Fine
+    (cond t.leg.nil (Ok tt)
     (and_then (judge (period_fits (own_form t.edition) t.leg.period) true)
-    (cond t.leg.cancelled judged.Fine (and_then (judge_part part.Main t.leg.body) (judge_changes t.edition t.changes)))))))
+    (cond t.leg.cancelled (Ok tt) (and_then (judge_part part.Main t.leg.body) (judge_changes t.edition t.changes)))))))
 
 -- "11 for a record that is no TAF of the edition": the writer of one edition refuses a record of the other with the foreign fields, NIL and CNL too
-unfoldable pub judge_in : Edition → Taf → Judged
+unfoldable pub judge_in : Edition → Taf → Result ⊤ Refusal
 judge_in e t = and_then (judge (is_same_edition e t.edition) true) (judge_of t)
 
 -- ---- the canonical text
@@ -159,7 +157,7 @@ classed_of t =
 -- ---- the writer's answer, and the lent buffer afterwards
 
 -- in an edition
-unfoldable pub written_in : Edition → Taf → ℕ → Written
+unfoldable pub written_in : Edition → Taf → ℕ → Result ℕ Refusal
 written_in e t room = answer_by (judge_in e t) (canonical_of t) room
 
 unfoldable pub buffer_in : Edition → Taf → List ℕ → List ℕ

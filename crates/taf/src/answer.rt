@@ -5,15 +5,14 @@ ghost use Rattle.taf.specs.Read.{accepted, refused};
 use crate::kinds::Reading;
 use record::aerodrome::Taf;
 use record::blank_aerodrome::blank_taf;
-use text::kinds::{Refusal, Verdict};
+use text::kinds::{Refusal, Refused};
 
 pub fn refuse(refusal: Refusal, place: usize) -> Reading
     ensures { result ≡ refused refusal place }
 {
-    let report = blank_taf();
     Reading {
-        verdict: Verdict::Refused { refusal, place },
-        report,
+        verdict: Err(Refused { refusal, place }),
+        report: blank_taf(),
     }
 }
 
@@ -21,7 +20,7 @@ pub fn accept(rest: usize, report: Taf) -> Reading
     ensures { result ≡ accepted rest report }
 {
     Reading {
-        verdict: Verdict::Accepted { rest },
+        verdict: Ok(rest),
         report,
     }
 }

@@ -15,7 +15,6 @@ use figures::kinds::Field;
 use places::kinds::Turn;
 use places::turn_by;
 use record::aerodrome::{Body, Correction, Edition, Instant, Period};
-use record::values::Number;
 use shapes::has_pattern;
 use taf_row::kinds::{Form, Part};
 use taf_row::row::{change_form, find, is_change_word, is_end_hour, is_main, own_form};
@@ -53,9 +52,9 @@ fn hour_of(day: u32, hour: u32) -> Instant
     ensures { result ≡ hour_of day hour }
 {
     Instant {
-        day: Number::Is(day),
-        hour: Number::Is(hour),
-        minute: Number::Missing,
+        day: Some(day),
+        hour: Some(hour),
+        minute: None,
     }
 }
 
@@ -63,13 +62,14 @@ fn hour_alone(hour: u32) -> Instant
     ensures { result ≡ hour_alone hour }
 {
     Instant {
-        day: Number::Missing,
-        hour: Number::Is(hour),
-        minute: Number::Missing,
+        day: None,
+        hour: Some(hour),
+        minute: None,
     }
 }
 
 // GGGeGe
+#[tactic(auto, unfolding(taf_row::specs::Row::read_period))]
 fn read_hours(g: &[u8]) -> Said
     ensures { result ≡ as_period (read_period form.NoDay g.now) }
 {
@@ -79,17 +79,18 @@ fn read_hours(g: &[u8]) -> Said
     let Field::Number(end) = field(g, 2, 2) else {
         return Said::Refused(Refusal::Figure);
     };
-    let ends = is_end_hour(Form::NoDay, end);
-    if (hour <= 23) & ends {
-        let from = hour_alone(hour);
-        let to = hour_alone(end);
-        Said::Period(Period { from, to })
+    if (hour <= 23) & is_end_hour(Form::NoDay, end) {
+        Said::Period(Period {
+            from: hour_alone(hour),
+            to: hour_alone(end),
+        })
     } else {
         Said::Refused(Refusal::Figure)
     }
 }
 
 // Y1Y1G1G1G2G2
+#[tactic(auto, unfolding(taf_row::specs::Row::read_period))]
 fn read_first_day(g: &[u8]) -> Said
     ensures { result ≡ as_period (read_period form.FirstDay g.now) }
 {
@@ -102,17 +103,18 @@ fn read_first_day(g: &[u8]) -> Said
     let Field::Number(end) = field(g, 4, 2) else {
         return Said::Refused(Refusal::Figure);
     };
-    let ends = is_end_hour(Form::FirstDay, end);
-    if ((1 <= day) & (day <= 31)) & (hour <= 23) & ends {
-        let from = hour_of(day, hour);
-        let to = hour_alone(end);
-        Said::Period(Period { from, to })
+    if ((1 <= day) & (day <= 31)) & (hour <= 23) & is_end_hour(Form::FirstDay, end) {
+        Said::Period(Period {
+            from: hour_of(day, hour),
+            to: hour_alone(end),
+        })
     } else {
         Said::Refused(Refusal::Figure)
     }
 }
 
 // YYGG/YYGG
+#[tactic(auto, unfolding(taf_row::specs::Row::read_period))]
 fn read_both_days(g: &[u8]) -> Said
     ensures { result ≡ as_period (read_period form.BothDays g.now) }
 {
@@ -129,9 +131,10 @@ fn read_both_days(g: &[u8]) -> Said
         return Said::Refused(Refusal::Figure);
     };
     if (1 <= day) & (day <= 31) & (hour <= 23) & ((1 <= last) & (last <= 31)) & (end <= 24) {
-        let from = hour_of(day, hour);
-        let to = hour_of(last, end);
-        Said::Period(Period { from, to })
+        Said::Period(Period {
+            from: hour_of(day, hour),
+            to: hour_of(last, end),
+        })
     } else {
         Said::Refused(Refusal::Figure)
     }

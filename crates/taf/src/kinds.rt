@@ -1,13 +1,13 @@
 // What the reader and writer of TAF answer, and what they hold on the way.
 use record::aerodrome::{Change, Leg, Opening, Period, Taf};
 use taf_row::kinds::Part;
-use text::kinds::{Refusal, Verdict};
+use text::kinds::Refused;
 
 // What a change word opens, with the period that FMYYGGgg or FMGGgg gives, or the word's refusal.
 #[derive(Clone, Copy)]
-pub enum Opened {
-    Good { opening: Opening, period: Period },
-    Bad(Refusal),
+pub struct Opened {
+    pub opening: Opening,
+    pub period: Period,
 }
 
 // What opens a change, TEMPO with PROB30 or PROB40 too, and where its part begins.
@@ -28,7 +28,7 @@ pub struct Outset {
 // What follows a part: the end of the reading, or a change, `at` behind its word.
 #[derive(Clone, Copy)]
 pub enum Next {
-    End(Verdict),
+    End(Result<usize, Refused>),
     Change {
         opening: Opening,
         period: Period,
@@ -45,7 +45,7 @@ pub struct PartRead {
 // What is read from a change on: the verdict on the text, and the changes, those before it still blank.
 #[derive(Clone, Copy)]
 pub struct Ahead {
-    pub verdict: Verdict,
+    pub verdict: Result<usize, Refused>,
     pub items: [Change; 16],
     pub count: usize,
 }
@@ -53,6 +53,6 @@ pub struct Ahead {
 // The record is blank where the text is refused.
 #[derive(Clone, Copy)]
 pub struct Reading {
-    pub verdict: Verdict,
+    pub verdict: Result<usize, Refused>,
     pub report: Taf,
 }

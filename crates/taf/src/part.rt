@@ -1,7 +1,7 @@
 // The groups of one part, the main part too, up to the change word that opens the next one or up to the end of the text.
 ghost use Rattle.std.specs.Prelude.{◌≡◌};
 ghost use Rattle.text.specs.Groups.{part_of};
-ghost use Rattle.record.specs.Taf.{blank_leg, set_correction, set_period, set_body};
+ghost use Rattle.record.specs.Taf.{blank_leg, set_period, set_body};
 ghost use Rattle.shapes.specs.Pattern.{has_any};
 ghost use Rattle.body.specs.Met.{Meets};
 ghost use Rattle.taf_row.specs.Row.{row, change_words};
@@ -18,19 +18,19 @@ use body::read::{meet_said, put};
 use elements::kinds::Said;
 use places::end_verdict;
 use places::kinds::Turn;
-use record::aerodrome::{Body, Correction, Edition, Leg, Period};
+use record::aerodrome::{Body, Edition, Leg, Period};
 use record::blank_aerodrome::blank_leg;
 use sky::read::add_layer;
 use taf_row::kinds::Part;
 use taf_row::row::go_past;
 use taf_row::tests::{is_full, owes};
-use text::kinds::{Cut, Refusal, Verdict};
+use text::kinds::{Cut, Refusal, Refused};
 use weather::read::add_weather;
 
 fn refuse(refusal: Refusal, place: usize) -> Next
     ensures { result ≡ refused_at refusal place }
 {
-    Next::End(Verdict::Refused { refusal, place })
+    Next::End(Err(Refused { refusal, place }))
 }
 
 // A change word from start up to end, n changes before it: the part before it must lack nothing, and there must be room.
@@ -43,14 +43,13 @@ fn after_word(edition: Edition, g: &[u8], start: usize, end: usize, n: usize, la
     if is_full(n) {
         return refuse(Refusal::Limit, start);
     }
-    let opened = open_change(edition, g);
-    match opened {
-        Opened::Good { opening, period } => Next::Change {
+    match open_change(edition, g) {
+        Ok(Opened { opening, period }) => Next::Change {
             opening,
             period,
             at: end,
         },
-        Opened::Bad(refusal) => refuse(refusal, start),
+        Err(refusal) => refuse(refusal, start),
     }
 }
 
@@ -59,17 +58,14 @@ fn after_word(edition: Edition, g: &[u8], start: usize, end: usize, n: usize, la
 fn with_body(body: Body, leg: Leg) -> Leg
     ensures { result ≡ set_body body leg }
 {
-    let mut whole = leg;
-    whole.body = body;
-    whole
+    Leg { body, ..leg }
 }
 
 fn end_part(text: &[u8], part: Part, place: usize, count: usize, leg: Leg, body: Body) -> PartRead
     ensures { EndedPart text.now part place count (set_body body leg) result }
 {
     let leg = with_body(body, leg);
-    let verdict = end_verdict(text, owes(part, place, count, leg));
-    let next = Next::End(verdict);
+    let next = Next::End(end_verdict(text, owes(part, place, count, leg)));
     PartRead { next, leg }
 }
 
@@ -96,8 +92,10 @@ fn meet_word(
 fn refuse_part(refusal: Refusal, place: usize, leg: Leg) -> PartRead
     ensures { result ≡ record { next = refused_at refusal place; leg = leg } }
 {
-    let next = refuse(refusal, place);
-    PartRead { next, leg }
+    PartRead {
+        next: refuse(refusal, place),
+        leg,
+    }
 }
 
 // ---- from group to group
@@ -118,8 +116,7 @@ fn meet(
         return Met::Over;
     };
     let g = text::part(text, start, end);
-    let turn = decide(edition, part, place, count, g);
-    match turn {
+    match decide(edition, part, place, count, g) {
         Turn::Halt => Met::Halt { start, end },
         Turn::Refused(refusal) => Met::Refused { refusal, start },
         Turn::At {
@@ -136,27 +133,9 @@ fn meet(
 fn begin_leg(period: Period) -> Leg
     ensures { result ≡ set_period period blank_leg }
 {
-    let mut leg = blank_leg();
-    leg.period = period;
-    leg
-}
-
-// AMD or COR. A field that is an enum is not stored to by itself, so this part is made anew.
-fn with_correction(correction: Correction, r: Leg) -> Leg
-    ensures { result ≡ set_correction correction r }
-{
-    let station = r.station;
-    let time = r.time;
-    let period = r.period;
-    let body = r.body;
     Leg {
-        correction,
-        station,
-        time,
-        nil: r.nil,
         period,
-        cancelled: r.cancelled,
-        body,
+        ..blank_leg()
     }
 }
 
@@ -171,6 +150,7 @@ pub fn read_part(edition: Edition, text: &[u8], at: usize, n: usize, outset: Out
     let mut here = 0;
     let mut stood = outset.stood;
     let mut from = at;
+    // No `for`: where the next group begins is known only once this one is met.
     loop {
         let met = meet(edition, text, from, part, here, stood, body);
         match met {
@@ -186,7 +166,7 @@ pub fn read_part(edition: Edition, text: &[u8], at: usize, n: usize, outset: Out
                 from = group.end;
                 let g = text::part(text, group.start, group.end);
                 match said {
-                    Said::Correction(x) => leg = with_correction(x, leg),
+                    Said::Correction(x) => leg.correction = x,
                     Said::Station => leg.station = station_of(g),
                     Said::Time(x) => leg.time = x,
                     Said::Nil => leg.nil = true,

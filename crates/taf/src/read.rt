@@ -16,14 +16,13 @@ use crate::word::{begin_part, change_of, part_of};
 use record::aerodrome::{Changes, Edition, Leg, Opening, Period, Taf};
 use record::blank_aerodrome::{blank_leg, blank_taf};
 use taf_row::kinds::Part;
-use text::kinds::Verdict;
+use text::kinds::Refused;
 
 // No change is read ahead.
-fn none(verdict: Verdict, count: usize) -> Ahead
+fn none(verdict: Result<usize, Refused>, count: usize) -> Ahead
     ensures { result ≡ none_ahead verdict count }
 {
-    let blank = blank_taf();
-    let changes = blank.changes;
+    let changes = blank_taf().changes;
     let items = changes.items;
     Ahead {
         verdict,
@@ -91,13 +90,12 @@ fn read_change(
 }
 
 // The report of a main part alone.
-fn answer_alone(edition: Edition, verdict: Verdict, leg: Leg) -> Reading
+fn answer_alone(edition: Edition, verdict: Result<usize, Refused>, leg: Leg) -> Reading
     ensures { result ≡ answer (outcome_of verdict (record { edition = edition; leg = leg; changes = blank_taf.changes })) }
 {
     match verdict {
-        Verdict::Accepted { rest } => {
-            let blank = blank_taf();
-            let changes = blank.changes;
+        Ok(rest) => {
+            let changes = blank_taf().changes;
             answer::accept(
                 rest,
                 Taf {
@@ -107,7 +105,7 @@ fn answer_alone(edition: Edition, verdict: Verdict, leg: Leg) -> Reading
                 },
             )
         }
-        Verdict::Refused { refusal, place } => answer::refuse(refusal, place),
+        Err(Refused { refusal, place }) => answer::refuse(refusal, place),
     }
 }
 
@@ -115,9 +113,8 @@ fn answer_alone(edition: Edition, verdict: Verdict, leg: Leg) -> Reading
 fn answer_all(edition: Edition, leg: Leg, ahead: Ahead) -> Reading
     ensures { result ≡ answer (outcome_of ahead.verdict (record { edition = edition; leg = leg; changes = record { items = ahead.items; count = ahead.count } })) }
 {
-    let verdict = ahead.verdict;
-    match verdict {
-        Verdict::Accepted { rest } => {
+    match ahead.verdict {
+        Ok(rest) => {
             let items = ahead.items;
             let changes = Changes {
                 items,
@@ -132,7 +129,7 @@ fn answer_all(edition: Edition, leg: Leg, ahead: Ahead) -> Reading
                 },
             )
         }
-        Verdict::Refused { refusal, place } => answer::refuse(refusal, place),
+        Err(Refused { refusal, place }) => answer::refuse(refusal, place),
     }
 }
 
@@ -140,25 +137,21 @@ fn answer_all(edition: Edition, leg: Leg, ahead: Ahead) -> Reading
 pub fn read_from_in(edition: Edition, text: &[u8], at: usize) -> Reading
     ensures { result ≡ answer (behind_name edition (tail_of text.now) (length text.now) (groups_from text.now at)) }
 {
-    let blank = blank_leg();
-    let period = blank.period;
     let outset = Outset {
         part: Part::Main,
         stood: 1,
-        period,
+        period: blank_leg().period,
     };
     let read = read_part(edition, text, at, 0, outset);
-    let leg = read.leg;
-    let next = read.next;
-    match next {
-        Next::End(verdict) => answer_alone(edition, verdict, leg),
+    match read.next {
+        Next::End(verdict) => answer_alone(edition, verdict, read.leg),
         Next::Change {
             opening,
             period,
             at: behind,
         } => answer_all(
             edition,
-            leg,
+            read.leg,
             read_change(edition, text, behind, 0, opening, period),
         ),
     }

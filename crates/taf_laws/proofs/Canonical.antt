@@ -1,12 +1,12 @@
 -- THE ROUND TRIP OF TAF, at the level of the text: the canonical text of a record that the writer accepts is read back whole, as the record with each
 -- rounded number the reading of its class; written again it is the same text.
 -- Assumes nothing.
+use Rattle.std.specs.Prelude.{Ok}
 use Prim.Native.Nat.{◌≤◌}
 use native.Mathlib.Omega.{arith}
 use mathlib.Core.Path.{◌≡◌, refl, ap}
 use mathlib.Core.Bool.{Bool, true, false, ◌||◌}
 use lib.ListN.{length}
-use Rattle.text.specs.declared.kinds.Judged.TheVariants as judged
 use Rattle.text.specs.Groups.{groups_from, join}
 use Rattle.text.specs.Text.{tail_of}
 use Rattle.shapes.proofs.Patterns.{neither}
@@ -29,7 +29,7 @@ use Rattle.taf_laws.proofs.Reports.{pieces-back}
 -- ---- how long it is
 
 -- The groups of a record can be joined and cut, and hold only bytes that a text may hold: the main part and sixteen changes.
-pub groups-sizes : (t : Taf) → TafArrays t → judge_of t ≡ judged.Fine → Sizes 1971 (groups_of t)
+pub groups-sizes : (t : Taf) → TafArrays t → judge_of t ≡ Ok tt → Sizes 1971 (groups_of t)
 unfolding groups_of
 groups-sizes t arrays e =
     let f = fair t e in
@@ -37,14 +37,14 @@ groups-sizes t arrays e =
     sizes-append (written (row t.edition part.Main) t.leg) _ (sizes-more room (kept-sizes (kept-main t arrays f))) (changes-sizes t (listed t arrays f))
 
 -- HOW LONG THE CANONICAL TEXT IS, at most.
-pub length-canonical : (t : Taf) → TafArrays t → judge_of t ≡ judged.Fine → length (canonical_of t) ≤ 1971
+pub length-canonical : (t : Taf) → TafArrays t → judge_of t ≡ Ok tt → length (canonical_of t) ≤ 1971
 unfolding canonical_of
 length-canonical t arrays e = joined-short (groups_of t) (unfold groups_of row in omega arith) (groups-sizes t arrays e)
 
 -- ---- read back
 
 -- THE GROUPS OF THE CANONICAL TEXT COME TO THE RECORD'S CLASSES, with no unread rest.
-pub read-canonical : (t : Taf) → TafArrays t → judge_of t ≡ judged.Fine
+pub read-canonical : (t : Taf) → TafArrays t → judge_of t ≡ Ok tt
     → groups_read t.edition (tail_of (canonical_of t)) (length (canonical_of t)) (groups_from (canonical_of t) 0) ≡ Done (length (canonical_of t)) (classed_of t)
 unfolding canonical_of
 read-canonical t arrays e = joined_back (groups_read t.edition) (groups_of t) (groups-sizes t arrays e) (pieces-back t arrays e)
@@ -66,14 +66,14 @@ live-again t f l n c =
       list-again (show_change t.edition) (show_each t.edition) refl (λ c cs. refl) l (class_change t.edition) (change-again t.edition),
     )
 
-live-judged : (t : Taf) → Fair t → Listed t → t.leg.nil ≡ false → t.leg.cancelled ≡ false → judge_of (classed_of t) ≡ judged.Fine
+live-judged : (t : Taf) → Fair t → Listed t → t.leg.nil ≡ false → t.leg.cancelled ≡ false → judge_of (classed_of t) ≡ Ok tt
 unfolding judge_of judge_changes foreign_blank classed_of
 live-judged t f l n c =
     rw (main-classed t.edition t.leg, part-judged part.Main t.leg.body (fair-part part.Main t.leg.body (f.part n c)), f.station, f.time, f.period n, n, c)
     (list-judged (judge_change t.edition) (judge_each t.edition) refl (λ c cs. refl) is_blank_change 16 t.changes.count t.changes.items (class_change t.edition) (change-judged t.edition) l)
 
 -- over, or with its changes
-module _ (t : Taf) (arrays : TafArrays t) (e : judge_of t ≡ judged.Fine) (P : Taf → Type 0) (same : P t)
+module _ (t : Taf) (arrays : TafArrays t) (e : judge_of t ≡ Ok tt) (P : Taf → Type 0) (same : P t)
     (live : t.leg.nil ≡ false → t.leg.cancelled ≡ false → P (classed_of t)) where
   either_way : P (classed_of t)
   either_way = go (t.leg.nil || t.leg.cancelled) refl
@@ -83,11 +83,11 @@ module _ (t : Taf) (arrays : TafArrays t) (e : judge_of t ≡ judged.Fine) (P : 
       go false o = let n = neither t.leg.nil t.leg.cancelled (rw o) in live n.0 n.1
 
 -- THE RECORD THAT IS READ BACK IS WRITTEN AS THE SAME TEXT.
-pub written-again : (t : Taf) → TafArrays t → judge_of t ≡ judged.Fine → canonical_of (classed_of t) ≡ canonical_of t
+pub written-again : (t : Taf) → TafArrays t → judge_of t ≡ Ok tt → canonical_of (classed_of t) ≡ canonical_of t
 unfolding canonical_of
 written-again t arrays e =
     either_way t arrays e (λ q. canonical_of q ≡ canonical_of t) refl (λ n c. ap join (live-again t (fair t e) (listed t arrays (fair t e)) n c))
 
 -- AND THE WRITER ACCEPTS IT.
-pub classed-fine : (t : Taf) → TafArrays t → judge_of t ≡ judged.Fine → judge_of (classed_of t) ≡ judged.Fine
-classed-fine t arrays e = either_way t arrays e (λ q. judge_of q ≡ judged.Fine) e (live-judged t (fair t e) (listed t arrays (fair t e)))
+pub classed-fine : (t : Taf) → TafArrays t → judge_of t ≡ Ok tt → judge_of (classed_of t) ≡ Ok tt
+classed-fine t arrays e = either_way t arrays e (λ q. judge_of q ≡ Ok tt) e (live-judged t (fair t e) (listed t arrays (fair t e)))

@@ -1,6 +1,7 @@
 -- The changes of a TAF that is judged fine: how many they are, that each is judged fine, what is blank past them, and the room that they take; and what is
 -- read back of a part and of a change.
 -- Assumes nothing.
+use Rattle.std.specs.Prelude.{Ok}
 use Prim.Native.Nat.{ℕ, ◌≤◌}
 use native.Mathlib.Omega.{arith}
 use mathlib.Core.Path.{◌≡◌, refl, sym, ap, ◌∙◌}
@@ -11,7 +12,6 @@ use lib.Dec.{eqb}
 use borrow.Author.Tests.{eqb-true}
 use Rattle.figures.specs.Quote.{bytes}
 use Rattle.figures.specs.Figures.{every}
-use Rattle.text.specs.declared.kinds.Judged.TheVariants as judged
 use Rattle.shapes.specs.Pattern.{low, high, fits, has_pattern, has_any}
 use Rattle.shapes.proofs.Patterns.{both, neither}
 use Rattle.places.specs.Engine.{Group, written, put_all}
@@ -58,7 +58,7 @@ module _ (t : Taf) (arrays : TafArrays t) (f : Fair t) where
   none-listed : (n : ℕ) → n ≡ 0 → every is_blank_change t.changes.items ≡ true → Counted (Sound t.edition) is_blank_change blank_change 16 n t.changes.items
   none-listed n z e = rw z (listed_of change-blank arrays.changes arrays.each (omega arith) tt e)
 
-  some-listed : judge_changes t.edition t.changes ≡ judged.Fine → Listed t
+  some-listed : judge_changes t.edition t.changes ≡ Ok tt → Listed t
   unfolding judge_changes
   some-listed =
       list-fair (judge_change t.edition) (judge_each t.edition) refl (λ c cs. refl) is_blank_change 16 t.changes.count t.changes.items (fair-change t.edition) change-blank arrays.changes arrays.each
@@ -130,7 +130,7 @@ written-classed e w r f =
     let t = forecast_in w in
     rw ((wind-both t (live w) r.body f.body.wind).0, (view-both t (live w) r.body f.body.visibility).0, sky-again r.body.sky)
 
-pub part-judged : (w : Part) (b : Body) → FairPart w b → judge_part w (class_body b) ≡ judged.Fine
+pub part-judged : (w : Part) (b : Body) → FairPart w b → judge_part w (class_body b) ≡ Ok tt
 unfolding judge_part
 part-judged w b f = rw (body-classed (forecast_in w) (live w) b f.body, element-classed b, f.element)
 
@@ -155,6 +155,6 @@ module _ (e : Edition) (c : Change) where
       ap (show_change e) (change-is s.1.opens)
       ∙ ap (λ (gs : List Group). show_opening e c.opening c.period ++ gs) (written-classed e (part_of c.opening) (leg_of c) s.1.part)
 
-  pub change-judged : Sound e c → judge_change e (class_change e c) ≡ judged.Fine
+  pub change-judged : Sound e c → judge_change e (class_change e c) ≡ Ok tt
   unfolding judge_change
   change-judged s = ap (judge_change e) (change-is s.1.opens) ∙ rw s.1.opens (part-judged (part_of c.opening) c.body s.1.part)

@@ -1,13 +1,13 @@
 -- A part of a TAF: its row keeps what is written of a part that is judged fine, the main part, with its body, as NIL or cancelled, and a change's part.
 -- Assumes nothing.
+use Rattle.std.specs.Prelude.{⊤, Ok, Result}
+use Rattle.text.specs.declared.kinds.Refusal.{Refusal}
 use Prim.Native.Nat.{ℕ}
 use mathlib.Core.Path.{◌≡◌, refl, sym}
 use mathlib.Core.Bool.{Bool, true, false, not, cond, ◌&&◌, ◌||◌, or-true, false≢true}
 use mathlib.Core.List.{List, [], ◌∷◌}
 use lib.ListN.{take, drop}
 use borrow.Author.Tests.{not-true}
-use Rattle.text.specs.declared.kinds.Judged.{Judged}
-use Rattle.text.specs.declared.kinds.Judged.TheVariants as judged
 use Rattle.text.specs.Judge.{judge, and_then}
 use Rattle.text.proofs.Judging.{fine, and-then}
 use Rattle.shapes.proofs.Patterns.{both}
@@ -46,7 +46,7 @@ pub record FairPart (w : Part) (b : Body) : Type 0 where
   pub body : FairBody (forecast_in w) b
   pub element : element_stands w b ≡ true
 
-pub fair-part : (w : Part) (b : Body) → judge_part w b ≡ judged.Fine → FairPart w b
+pub fair-part : (w : Part) (b : Body) → judge_part w b ≡ Ok tt → FairPart w b
 unfolding judge_part
 fair-part w b e =
     let t = and-then (judge_body (forecast_in w) b) (judge (element_stands w b) true) e in
@@ -56,7 +56,7 @@ pub record FairChange (e : Edition) (c : Change) : Type 0 where
   pub opens : opening_fits e c.opening c.period ≡ true
   pub part : FairPart (part_of c.opening) c.body
 
-pub fair-change : (e : Edition) (c : Change) → judge_change e c ≡ judged.Fine → FairChange e c
+pub fair-change : (e : Edition) (c : Change) → judge_change e c ≡ Ok tt → FairChange e c
 unfolding judge_change
 fair-change e c is =
     let t = and-then (judge (opening_fits e c.opening c.period) true) _ is in
@@ -69,26 +69,26 @@ Sound e c = BodyArrays c.body × FairChange e c
 -- a report: what is judged of its head, and what stands after it
 pub record Fair (t : Taf) : Type 0 where
   pub blank : foreign_blank t ≡ true
-  pub station : judge_station t.leg.station ≡ judged.Fine
-  pub time : judge_time t.leg.time ≡ judged.Fine
+  pub station : judge_station t.leg.station ≡ Ok tt
+  pub time : judge_time t.leg.time ≡ Ok tt
   pub period : t.leg.nil ≡ false → period_fits (own_form t.edition) t.leg.period ≡ true
-  pub part : t.leg.nil ≡ false → t.leg.cancelled ≡ false → judge_part part.Main t.leg.body ≡ judged.Fine
-  pub changes : t.leg.nil ≡ false → t.leg.cancelled ≡ false → judge_changes t.edition t.changes ≡ judged.Fine
+  pub part : t.leg.nil ≡ false → t.leg.cancelled ≡ false → judge_part part.Main t.leg.body ≡ Ok tt
+  pub changes : t.leg.nil ≡ false → t.leg.cancelled ≡ false → judge_changes t.edition t.changes ≡ Ok tt
 
 -- what is judged unless the report is over
-unless-over : (over : Bool) (j : Judged) → over ≡ false → cond over judged.Fine j ≡ judged.Fine → j ≡ judged.Fine
+unless-over : (over : Bool) (j : Result ⊤ Refusal) → over ≡ false → cond over (Ok tt) j ≡ Ok tt → j ≡ Ok tt
 unless-over over j e h = rw e at h
 
-pub fair : (t : Taf) → judge_of t ≡ judged.Fine → Fair t
+pub fair : (t : Taf) → judge_of t ≡ Ok tt → Fair t
 unfolding judge_of
 fair t e =
     let b = and-then (judge (foreign_blank t) true) _ e in
     let s = and-then (judge_station t.leg.station) _ b.1 in
     let h = and-then (judge_time t.leg.time) _ s.1 in
-    let full : t.leg.nil ≡ false → (judge (period_fits (own_form t.edition) t.leg.period) true ≡ judged.Fine)
-    × (cond t.leg.cancelled judged.Fine (and_then (judge_part part.Main t.leg.body) (judge_changes t.edition t.changes)) ≡ judged.Fine) =
+    let full : t.leg.nil ≡ false → (judge (period_fits (own_form t.edition) t.leg.period) true ≡ Ok tt)
+    × (cond t.leg.cancelled (Ok tt) (and_then (judge_part part.Main t.leg.body) (judge_changes t.edition t.changes)) ≡ Ok tt) =
     λ n. and-then (judge (period_fits (own_form t.edition) t.leg.period) true) _ (unless-over t.leg.nil _ n h.1) in
-    let live : t.leg.nil ≡ false → t.leg.cancelled ≡ false → (judge_part part.Main t.leg.body ≡ judged.Fine) × (judge_changes t.edition t.changes ≡ judged.Fine) =
+    let live : t.leg.nil ≡ false → t.leg.cancelled ≡ false → (judge_part part.Main t.leg.body ≡ Ok tt) × (judge_changes t.edition t.changes ≡ Ok tt) =
     λ n c. and-then (judge_part part.Main t.leg.body) (judge_changes t.edition t.changes) (unless-over t.leg.cancelled _ c (full n).1) in
     record {
       blank = (fine (foreign_blank t) true b.0).0;

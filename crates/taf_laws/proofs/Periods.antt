@@ -1,5 +1,6 @@
 -- Periods and the times of FM: what is in range and written has its shape, and is read back as it was.
 -- Assumes nothing.
+use Rattle.std.specs.Prelude.{None, Ok, Option, Some}
 use Prim.Native.Nat.{ℕ, ◌≤◌}
 use native.Mathlib.Omega.{arith}
 use mathlib.Core.Path.{◌≡◌, refl, ◌∙◌}
@@ -12,10 +13,8 @@ use Rattle.figures.specs.declared.kinds.Field.TheVariants as field
 use Rattle.figures.specs.Figures.{figures, scan, field_at, field_text, number_text}
 use Rattle.shapes.specs.Pattern.{low, high, fits, has_pattern, clash}
 use Rattle.shapes.proofs.Patterns.{both, or_cases, excluded}
-use Rattle.places.specs.Engine.{Group, Good}
+use Rattle.places.specs.Engine.{Group}
 use Rattle.places.proofs.Laid.{Spot, laid, Narrow, Stands, laid-shaped, laid-stands}
-use Rattle.record.specs.declared.values.Number.{Number}
-use Rattle.record.specs.declared.values.Number.TheVariants as number
 use Rattle.record.specs.declared.aerodrome.Instant.{Instant}
 use Rattle.record.specs.declared.aerodrome.Period.{Period}
 use Rattle.record.specs.declared.aerodrome.Opening.TheVariants as opening
@@ -24,7 +23,7 @@ use Rattle.record.specs.declared.aerodrome.Edition.TheVariants as edition
 use Rattle.record.specs.Taf.{blank_instant, blank_leg, set_period}
 use Rattle.aerodrome_groups.specs.Head.{is_day, is_hour, is_minute}
 use Rattle.record.specs.Missing.{present, is_missing, between}
-use Rattle.record.proofs.Blanks.{number-blank}
+use Rattle.record.proofs.Blanks.{none-said}
 use Rattle.record.specs.SilentAerodrome.{no_instant}
 use Rattle.record.proofs.AerodromeBlanks.{instant-blank}
 use Rattle.taf_row.specs.declared.kinds.Form.{Form}
@@ -38,16 +37,16 @@ text n = field_text 2 (field.Number n)
 
 -- ---- what is in range
 
-present-is : (ok : ℕ → Bool) (x : Number) → present ok x ≡ true → (n : ℕ) × (x ≡ number.Is n) × (ok n ≡ true)
-present-is ok number.Missing e = absurd (false≢true e)
-present-is ok (number.Is n) e = (n, refl, e)
+present-is : (ok : ℕ → Bool) (x : Option ℕ) → present ok x ≡ true → (n : ℕ) × (x ≡ Some n) × (ok n ≡ true)
+present-is ok None e = absurd (false≢true e)
+present-is ok (Some n) e = (n, refl, e)
 
 hour-alone-is : (hour : ℕ → Bool) (t : Instant) → is_hour_alone hour t ≡ true → (h : ℕ) × (t ≡ hour_alone h) × (hour h ≡ true)
 hour-alone-is hour t e =
     let m = both (is_missing t.day && present hour t.hour) (is_missing t.minute) e in
     let s = both (is_missing t.day) (present hour t.hour) m.0 in
     let h = present-is hour t.hour s.1 in
-    (h.0, (λ i. record { day = number-blank t.day s.0 i; hour = h.1 i; minute = number-blank t.minute m.1 i }), h.2)
+    (h.0, (λ i. record { day = none-said t.day s.0 i; hour = h.1 i; minute = none-said t.minute m.1 i }), h.2)
 
 hour-is : (hour : ℕ → Bool) (t : Instant) → is_hour_of hour t ≡ true → (d : ℕ) × (h : ℕ) × (t ≡ hour_of d h) × (is_day d ≡ true) × (hour h ≡ true)
 hour-is hour t e =
@@ -55,7 +54,7 @@ hour-is hour t e =
     let s = both (present is_day t.day) (present hour t.hour) m.0 in
     let d = present-is is_day t.day s.0 in
     let h = present-is hour t.hour s.1 in
-    (d.0, h.0, rw (← d.1, ← h.1, ← number-blank t.minute m.1), d.2, h.2)
+    (d.0, h.0, rw (← d.1, ← h.1, ← none-said t.minute m.1), d.2, h.2)
 
 day-few : (d : ℕ) → is_day d ≡ true → d ≤ 31
 day-few d e = leb-true d 31 (both (leb 1 d) (leb d 31) e).1
@@ -141,7 +140,7 @@ shaped (both-days a b c d ea eb ec ed) = let h = both-days a b c d ea eb ec ed i
 shaped (first-day a b d ea eb ed) = let h = first-day a b d ea eb ed in laid-shaped (spots h) (narrow h) refl
 shaped (no-day b d eb ed) = let h = no-day b d eb ed in laid-shaped (spots h) (narrow h) refl
 
-back : {f : Form} {p : Period} (h : Hours f p) → Stands (laid (spots h)) 0 (spots h) → read_period f (laid (spots h)) ≡ Good p
+back : {f : Form} {p : Period} (h : Hours f p) → Stands (laid (spots h)) 0 (spots h) → read_period f (laid (spots h)) ≡ Ok p
 unfolding read_period
 back (both-days a b c d ea eb ec ed) k = rw (k.0, k.1.0, k.1.1.0, k.1.1.1.0, ea, eb, ec, ed)
 back (first-day a b d ea eb ed) k = rw (k.0, k.1.0, k.1.1.0, ea, eb, ed)
@@ -151,7 +150,7 @@ module _ (f : Form) (p : Period) (e : period_fits f p ≡ true) where
   pub period-shaped : has_pattern (show_period f p) (period_shape f) ≡ true
   period-shaped = let h = hours-of f p e in rw (shown h) (shaped h)
 
-  pub period-back : read_period f (show_period f p) ≡ Good p
+  pub period-back : read_period f (show_period f p) ≡ Ok p
   period-back = let h = hours-of f p e in rw (shown h) (back h (laid-stands (spots h) (narrow h)))
 
 -- ---- FMYYGGgg and FMGGgg
@@ -159,10 +158,10 @@ module _ (f : Form) (p : Period) (e : period_fits f p ≡ true) where
 -- the time that an edition has there
 data Times : Edition → Instant → Type 0 where
   dated : (d h m : ℕ) → is_day d ≡ true → is_hour h ≡ true → is_minute m ≡ true
-      → Times edition.Present (record { day = number.Is d; hour = number.Is h; minute = number.Is m })
-  undated : (h m : ℕ) → is_hour h ≡ true → is_minute m ≡ true → Times edition.Of2005 (record { day = number.Missing; hour = number.Is h; minute = number.Is m })
+      → Times edition.Present (record { day = Some d; hour = Some h; minute = Some m })
+  undated : (h m : ℕ) → is_hour h ≡ true → is_minute m ≡ true → Times edition.Of2005 (record { day = None; hour = Some h; minute = Some m })
 
-at-time : {e : Edition} {d d' h h' m m' : Number} → d ≡ d' → h ≡ h' → m ≡ m' → Times e (record { day = d'; hour = h'; minute = m' }) → Times e (record { day = d; hour = h; minute = m })
+at-time : {e : Edition} {d d' h h' m m' : Option ℕ} → d ≡ d' → h ≡ h' → m ≡ m' → Times e (record { day = d'; hour = h'; minute = m' }) → Times e (record { day = d; hour = h; minute = m })
 at-time ed eh em x = rw (ed, eh, em) x
 
 times-of : (e : Edition) (t : Instant) → from_fits e t ≡ true → Times e t
@@ -178,7 +177,7 @@ times-of edition.Of2005 t fair =
     let s = both (is_missing t.day) (present is_hour t.hour) r.0 in
     let h = present-is is_hour t.hour s.1 in
     let m = present-is is_minute t.minute r.1 in
-    at-time (number-blank t.day s.0) h.1 m.1 (undated h.0 m.0 h.2 m.2)
+    at-time (none-said t.day s.0) h.1 m.1 (undated h.0 m.0 h.2 m.2)
 
 -- as it is laid out
 abbrev time-spots : {e : Edition} {t : Instant} → Times e t → List Spot

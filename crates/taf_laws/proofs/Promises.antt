@@ -1,11 +1,11 @@
 -- What the round trip promises of a TAF, in document 01's words: each exact field comes back as it was, each rounded number as the reading of its
 -- class, near its value and never above it where the scale rounds down, in the main part and in each change.
 -- Assumes nothing.
+use Rattle.std.specs.Prelude.{Ok}
 use mathlib.Core.Path.{◌≡◌, refl}
 use mathlib.Core.Bool.{Bool, true, false, ◌||◌}
 use mathlib.Core.List.{map}
 use lib.ListN.{length, take, drop}
-use Rattle.text.specs.declared.kinds.Judged.TheVariants as judged
 use Rattle.text.specs.Groups.{groups_from}
 use Rattle.text.specs.Text.{tail_of}
 use Rattle.shapes.proofs.Patterns.{neither}
@@ -66,7 +66,7 @@ change-read e c s =
     let w = part_of c.opening in
     rw (change-is e c s.1.opens) (record { opening = refl; period = refl; body = body-read (forecast_in w) (live w) c.body s.1.part.body })
 
-record-read : (t : Taf) → TafArrays t → judge_of t ≡ judged.Fine → RecordRead t (classed_of t)
+record-read : (t : Taf) → TafArrays t → judge_of t ≡ Ok tt → RecordRead t (classed_of t)
 unfolding classed_of row
 record-read t arrays e =
     let f = fair t e in
@@ -86,7 +86,7 @@ record-read t arrays e =
     }
 
 -- WHAT IS WRITTEN OF A RECORD THAT THE WRITER ACCEPTS IS READ, to the text's end, as a record that says the same.
-pub promise : (t : Taf) → TafArrays t → judge_of t ≡ judged.Fine
+pub promise : (t : Taf) → TafArrays t → judge_of t ≡ Ok tt
     → (groups_read t.edition (tail_of (canonical_of t)) (length (canonical_of t)) (groups_from (canonical_of t) 0) ≡ Done (length (canonical_of t)) (classed_of t)) × RecordRead t (classed_of t)
 promise t arrays e = (read-canonical t arrays e, record-read t arrays e)
 
@@ -96,7 +96,7 @@ blank-classed : (e : Edition) → class_change e blank_change ≡ blank_change
 unfolding class_change row
 blank-classed e = refl
 
-pub items-classed : (t : Taf) → TafArrays t → judge_of t ≡ judged.Fine → (classed_of t).changes.items ≡ map (class_change t.edition) t.changes.items
+pub items-classed : (t : Taf) → TafArrays t → judge_of t ≡ Ok tt → (classed_of t).changes.items ≡ map (class_change t.edition) t.changes.items
 unfolding classed_of
 items-classed t arrays e =
     map-counted (class_change t.edition) blank_change (blank-classed t.edition) t.changes.count 16 t.changes.items (listed t arrays (fair t e)).rest

@@ -1,6 +1,7 @@
 -- A whole TAF, by the law of a report of parts: what is written of a record that is judged fine is read back, from any pieces that hold it, as the
 -- record's classes.
 -- Assumes nothing.
+use Rattle.std.specs.Prelude.{None, Ok}
 use Prim.Native.Nat.{ℕ, ◌+◌, ◌<◌}
 use native.Mathlib.Omega.{arith}
 use mathlib.Core.Path.{◌≡◌, refl, sym}
@@ -9,8 +10,6 @@ use mathlib.Core.List.{List, ◌++◌, map}
 use lib.ListN.{take, set, length-map}
 use borrow.Author.Tests.{lt-ltb}
 use Rattle.figures.specs.Quote.{bytes}
-use Rattle.text.specs.declared.kinds.Judged.TheVariants as judged
-use Rattle.text.specs.declared.kinds.Tail.TheVariants.{Clear}
 use Rattle.text.specs.Groups.{Piece}
 use Rattle.shapes.specs.Pattern.{low, high, fits, has_pattern, has_any}
 use Rattle.shapes.proofs.Patterns.{both, or_right, neither}
@@ -122,8 +121,8 @@ change-said e l c s items n h =
 -- ---- the report
 
 -- THE GROUPS OF A RECORD ARE READ BACK, from any pieces that hold them. NIL and CNL have no change after them.
-pub pieces-back : (t : Taf) → TafArrays t → judge_of t ≡ judged.Fine → (end : ℕ) (gs : List Piece) → piece_groups gs ≡ groups_of t
-    → groups_read t.edition Clear end gs ≡ Done end (classed_of t)
+pub pieces-back : (t : Taf) → TafArrays t → judge_of t ≡ Ok tt → (end : ℕ) (gs : List Piece) → piece_groups gs ≡ groups_of t
+    → groups_read t.edition None end gs ≡ Done end (classed_of t)
 unfolding groups_read groups_of classed_of
 pieces-back t arrays fine end gs are =
     let e = t.edition in

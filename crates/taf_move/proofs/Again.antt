@@ -1,5 +1,6 @@
 -- A TAF that the writer takes names moments, and the TAF that comes of a move is taken by the writer of its edition.
 -- Assumes nothing.
+use Rattle.std.specs.Prelude.{Ok}
 use Prim.Native.Nat.{ℕ, ◌≤◌}
 use native.Mathlib.Omega.{arith}
 use mathlib.Core.Path.{◌≡◌, refl, sym, ◌∙◌}
@@ -11,7 +12,6 @@ use lib.Dec.{leb, eqb}
 use borrow.Author.Tests.{leb-true, eqb-true}
 use Rattle.figures.specs.Figures.{every}
 use Rattle.shapes.proofs.Patterns.{both}
-use Rattle.text.specs.declared.kinds.Judged.TheVariants as judged
 use Rattle.text.specs.Judge.{judge, and_then}
 use Rattle.text.proofs.Judging.{fine, and-then}
 use Rattle.record.specs.declared.aerodrome.Edition.{Edition}
@@ -41,13 +41,13 @@ use Rattle.taf_move.proofs.Fits.{fits-timed, fits-change, timed-fits, change-fit
 -- of the whole
 pub record Taken (t : Taf) : Type 0 where
   pub foreign : foreign_blank t ≡ true
-  pub station : judge_station t.leg.station ≡ judged.Fine
-  pub time : judge_time t.leg.time ≡ judged.Fine
-  pub rest : cond t.leg.nil judged.Fine
+  pub station : judge_station t.leg.station ≡ Ok tt
+  pub time : judge_time t.leg.time ≡ Ok tt
+  pub rest : cond t.leg.nil (Ok tt)
       (and_then (judge (period_fits (own_form t.edition) t.leg.period) true)
-      (cond t.leg.cancelled judged.Fine (and_then (judge_part part.Main t.leg.body) (judge_changes t.edition t.changes)))) ≡ judged.Fine
+      (cond t.leg.cancelled (Ok tt) (and_then (judge_part part.Main t.leg.body) (judge_changes t.edition t.changes)))) ≡ Ok tt
 
-pub is-taken : (t : Taf) → judge_of t ≡ judged.Fine → Taken t
+pub is-taken : (t : Taf) → judge_of t ≡ Ok tt → Taken t
 unfolding judge_of
 is-taken t e =
     let a = and-then (judge (foreign_blank t) true) _ e in
@@ -55,40 +55,40 @@ is-taken t e =
     let c = and-then (judge_time t.leg.time) _ b.1 in
     record { foreign = (fine (foreign_blank t) true a.0).0; station = b.0; time = c.0; rest = c.1 }
 
-pub taken-judged : (t : Taf) → Taken t → judge_of t ≡ judged.Fine
+pub taken-judged : (t : Taf) → Taken t → judge_of t ≡ Ok tt
 unfolding judge_of
 taken-judged t k = rw (k.foreign, k.station, k.time) k.rest
 
 -- of the changes
-pub change-opens : (e : Edition) (c : Change) → judge_change e c ≡ judged.Fine → (opening_fits e c.opening c.period ≡ true) × (judge_part (part_of c.opening) c.body ≡ judged.Fine)
+pub change-opens : (e : Edition) (c : Change) → judge_change e c ≡ Ok tt → (opening_fits e c.opening c.period ≡ true) × (judge_part (part_of c.opening) c.body ≡ Ok tt)
 unfolding judge_change
 change-opens e c j = let a = and-then (judge (opening_fits e c.opening c.period) true) _ j in ((fine (opening_fits e c.opening c.period) true a.0).0, a.1)
 
-change-judged : (e : Edition) (c : Change) → opening_fits e c.opening c.period ≡ true → judge_part (part_of c.opening) c.body ≡ judged.Fine → judge_change e c ≡ judged.Fine
+change-judged : (e : Edition) (c : Change) → opening_fits e c.opening c.period ≡ true → judge_part (part_of c.opening) c.body ≡ Ok tt → judge_change e c ≡ Ok tt
 unfolding judge_change
 change-judged e c o b = rw (o, b)
 
 -- count, slots past it, and each
-pub changes-fine : (e : Edition) (cs : Changes) → judge_changes e cs ≡ judged.Fine → (leb cs.count 16 ≡ true) × (every is_blank_change (drop cs.count cs.items) ≡ true) × (judge_each e (take cs.count cs.items) ≡ judged.Fine)
+pub changes-fine : (e : Edition) (cs : Changes) → judge_changes e cs ≡ Ok tt → (leb cs.count 16 ≡ true) × (every is_blank_change (drop cs.count cs.items) ≡ true) × (judge_each e (take cs.count cs.items) ≡ Ok tt)
 unfolding judge_changes
 changes-fine e cs j =
     let a = and-then (judge (leb cs.count 16 && every is_blank_change (drop cs.count cs.items)) true) (judge_each e (take cs.count cs.items)) j in
     let b = both (leb cs.count 16) (every is_blank_change (drop cs.count cs.items)) (fine _ true a.0).0 in
     (b.0, b.1, a.1)
 
-changes-judged : (e : Edition) (cs : Changes) → leb cs.count 16 ≡ true → every is_blank_change (drop cs.count cs.items) ≡ true → judge_each e (take cs.count cs.items) ≡ judged.Fine → judge_changes e cs ≡ judged.Fine
+changes-judged : (e : Edition) (cs : Changes) → leb cs.count 16 ≡ true → every is_blank_change (drop cs.count cs.items) ≡ true → judge_each e (take cs.count cs.items) ≡ Ok tt → judge_changes e cs ≡ Ok tt
 unfolding judge_changes
 changes-judged e cs a b c = rw (a, b, c)
 
 -- ---- what is taken names moments
 
 -- of a forecast that is not cancelled
-forecast-fine : (t : Taf) → Taken t → t.leg.nil ≡ false → t.leg.cancelled ≡ false → (judge_part part.Main t.leg.body ≡ judged.Fine) × (judge_changes t.edition t.changes ≡ judged.Fine)
+forecast-fine : (t : Taf) → Taken t → t.leg.nil ≡ false → t.leg.cancelled ≡ false → (judge_part part.Main t.leg.body ≡ Ok tt) × (judge_changes t.edition t.changes ≡ Ok tt)
 forecast-fine t k plain going =
     let a = and-then (judge (period_fits (own_form t.edition) t.leg.period) true) _ (rw plain at k.rest) in
     and-then (judge_part part.Main t.leg.body) (judge_changes t.edition t.changes) (rw going at a.1)
 
-each-timed : (days : ℕ) (e : Edition) (cs : List Change) → judge_each e cs ≡ judged.Fine → every (λ (c : Change). days_in days c.period) cs ≡ true
+each-timed : (days : ℕ) (e : Edition) (cs : List Change) → judge_each e cs ≡ Ok tt → every (λ (c : Change). days_in days c.period) cs ≡ true
     → Each (λ (c : Change). TimedChange days e (is_from c.opening) c.period) cs
 each-timed days e [] j m = tt
 each-timed days e (c ∷ cs) j m =
@@ -147,13 +147,13 @@ module _ (days : ℕ) (t : Taf) (all : length t.changes.items ≡ 16) (k : Taken
 
 -- what is judged of the changes does not hang on their times, but that they can be written
 each_again : (days : ℕ) → days ≤ 31 → (e f : Edition) (moving : Change → Change) → ((c : Change) → (moving c).opening ≡ c.opening) → ((c : Change) → (moving c).body ≡ c.body) → (cs : List Change)
-    → judge_each e cs ≡ judged.Fine → Each (λ (c : Change). TimedChange days f (is_from c.opening) c.period) (map moving cs) → judge_each f (map moving cs) ≡ judged.Fine
+    → judge_each e cs ≡ Ok tt → Each (λ (c : Change). TimedChange days f (is_from c.opening) c.period) (map moving cs) → judge_each f (map moving cs) ≡ Ok tt
 each_again days few e f moving o b [] j x = refl
 each_again days few e f moving o b (c ∷ cs) j x =
     let a = and-then (judge_change e c) (judge_each e cs) j in
     let g = change-opens e c a.0 in
     let opens : opening_fits f c.opening (moving c).period ≡ true = change-fits days few e c.period c.opening g.0 (rw (o c) at x.0) in
-    let one : judge_change f (moving c) ≡ judged.Fine = change-judged f (moving c) (rw (o c) opens) (rw (o c, b c) g.1) in
+    let one : judge_change f (moving c) ≡ Ok tt = change-judged f (moving c) (rw (o c) opens) (rw (o c, b c) g.1) in
     rw one (each_again days few e f moving o b cs a.1 x.1)
 
 module _ (days : ℕ) (few : days ≤ 31) (t : Taf) (k : Taken t) (to : Edition) where
@@ -188,13 +188,13 @@ module _ (days : ℕ) (few : days ≤ 31) (t : Taf) (k : Taken t) (to : Edition)
         let c = changes-fine t.edition t.changes f.1 in
         let n = t.changes.count in
         let xs = t.changes.items in
-        let each : judge_each to (map moving (counted t.changes)) ≡ judged.Fine = each_again days few t.edition to moving (λ d. refl) (λ d. refl) (counted t.changes) c.2 x in
-        let changes : judge_changes to came.changes ≡ judged.Fine = changes-judged to came.changes c.0 (rw (dropped moving n xs many) c.1) (rw (taken moving n xs many) each) in
+        let each : judge_each to (map moving (counted t.changes)) ≡ Ok tt = each_again days few t.edition to moving (λ d. refl) (λ d. refl) (counted t.changes) c.2 x in
+        let changes : judge_changes to came.changes ≡ Ok tt = changes-judged to came.changes c.0 (rw (dropped moving n xs many) c.1) (rw (taken moving n xs many) each) in
         record { foreign = rw (plain, going); station = k.station; time = k.time; rest = rw (plain, timed-fits days few timed, going, f.0) changes }
 
 -- ---- THE TAF THAT COMES OF A MOVE IS TAKEN by the writer of its edition
 
-module _ (days : ℕ) (t : Taf) (all : length t.changes.items ≡ 16) (k : Taken t) (j : judge_times days t ≡ judged.Fine) (to : Edition) where
+module _ (days : ℕ) (t : Taf) (all : length t.changes.items ≡ 16) (k : Taken t) (j : judge_times days t ≡ Ok tt) (to : Edition) where
   abbrev few : days ≤ 31
   few = (month-days days t (judged-fine days t j).0).1
 

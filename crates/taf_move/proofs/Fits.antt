@@ -1,5 +1,6 @@
 -- What the writer of an edition takes for a period or a change's times, and what can be moved: of days in the month the same.
 -- Assumes nothing.
+use Rattle.std.specs.Prelude.{None, Option, Some}
 use Prim.Native.Nat.{ℕ, ◌≤◌}
 use native.Mathlib.Omega.{arith}
 use mathlib.Core.Path.{◌≡◌, refl}
@@ -8,8 +9,6 @@ use mathlib.Core.Logic.{◌⊎◌, ⊎_elim, inl, inr}
 use lib.Dec.{leb}
 use borrow.Author.Tests.{leb-true, le-leb, lt-leb}
 use Rattle.shapes.proofs.Patterns.{both}
-use Rattle.record.specs.declared.values.Number.{Number}
-use Rattle.record.specs.declared.values.Number.TheVariants as number
 use Rattle.record.specs.declared.aerodrome.Instant.{Instant}
 use Rattle.record.specs.declared.aerodrome.Period.{Period}
 use Rattle.record.specs.declared.aerodrome.Opening.{Opening}
@@ -33,21 +32,21 @@ use Rattle.taf_times.proofs.Kept as kept
 
 -- ---- numbers that are there
 
-pub data There (ok : ℕ → Bool) : Number → Type 0 where
-  there : (n : ℕ) → ok n ≡ true → There ok (number.Is n)
+pub data There (ok : ℕ → Bool) : Option ℕ → Type 0 where
+  there : (n : ℕ) → ok n ≡ true → There ok (Some n)
 
-is-there : (ok : ℕ → Bool) (n : Number) → present ok n ≡ true → There ok n
-is-there ok number.Missing e = absurd (false≢true e)
-is-there ok (number.Is n) e = there n e
+is-there : (ok : ℕ → Bool) (n : Option ℕ) → present ok n ≡ true → There ok n
+is-there ok None e = absurd (false≢true e)
+is-there ok (Some n) e = there n e
 
-pub data Absent : Number → Type 0 where
-  absent : Absent number.Missing
+pub data Absent : Option ℕ → Type 0 where
+  absent : Absent None
 
-is-absent : (n : Number) → is_missing n ≡ true → Absent n
-is-absent number.Missing e = absent
-is-absent (number.Is n) e = absurd (false≢true e)
+is-absent : (n : Option ℕ) → is_missing n ≡ true → Absent n
+is-absent None e = absent
+is-absent (Some n) e = absurd (false≢true e)
 
-in-month : (days d : ℕ) → optional (between 1 days) (number.Is d) ≡ true → InMonth days d
+in-month : (days d : ℕ) → optional (between 1 days) (Some d) ≡ true → InMonth days d
 in-month days d e = let b = both (leb 1 d) (leb d days) e in record { first = leb-true 1 d b.0; last = leb-true d days b.1 }
 
 either : (a b : Bool) → (a || b) ≡ true → (a ≡ true) ⊎ (b ≡ true)
@@ -56,15 +55,15 @@ either false b e = inr e
 
 -- ---- the report's period
 
-abbrev period : Number → Number → Number → Number → Number → Number → Period
+abbrev period : Option ℕ → Option ℕ → Option ℕ → Option ℕ → Option ℕ → Option ℕ → Period
 period a b c d e f = record { from = record { day = a; hour = b; minute = c }; to = record { day = d; hour = e; minute = f } }
 
 module _ (days : ℕ) where
   -- YYGG/YYGG
   data Dated : Period → Type 0 where
-    dated : (d h e k : ℕ) → InMonth days d → h ≤ 23 → InMonth days e → k ≤ 24 → Dated (hours (number.Is d) h (number.Is e) k)
+    dated : (d h e k : ℕ) → InMonth days d → h ≤ 23 → InMonth days e → k ≤ 24 → Dated (hours (Some d) h (Some e) k)
 
-  known-dated : {a b c d e f : Number} → There is_day a → There is_hour b → Absent c → There is_day d → There (is_end_hour form.BothDays) e → Absent f
+  known-dated : {a b c d e f : Option ℕ} → There is_day a → There is_hour b → Absent c → There is_day d → There (is_end_hour form.BothDays) e → Absent f
       → days_in days (period a b c d e f) ≡ true → Dated (period a b c d e f)
   known-dated (there d x) (there h y) absent (there e z) (there k w) absent m =
       let b = both _ _ m in
@@ -80,7 +79,7 @@ module _ (days : ℕ) where
       known-dated (is-there is_day p.from.day y.0) (is-there is_hour p.from.hour y.1) (is-absent p.from.minute x.1)
       (is-there is_day p.to.day w.0) (is-there (is_end_hour form.BothDays) p.to.hour w.1) (is-absent p.to.minute z.1) m
 
-  timed-old : {a b c d e f : Number} → There is_day a → There is_hour b → Absent c → Absent d → There (is_end_hour form.FirstDay) e → Absent f
+  timed-old : {a b c d e f : Option ℕ} → There is_day a → There is_hour b → Absent c → Absent d → There (is_end_hour form.FirstDay) e → Absent f
       → days_in days (period a b c d e f) ≡ true → Timed days edition.Of2005 (period a b c d e f)
   timed-old (there d x) (there h y) absent absent (there g w) absent m =
       let i = in-month days d (both _ _ m).0 in
@@ -109,7 +108,7 @@ module _ (days : ℕ) where
   change-dated : {p : Period} → Dated p → TimedChange days edition.Present false p
   change-dated (dated d h e k m u n v) = kept.present d h e k m u n v
 
-  change-old : {a b c d e f : Number} → Absent a → There is_hour b → Absent c → Absent d → There (is_end_hour form.NoDay) e → Absent f → TimedChange days edition.Of2005 false (period a b c d e f)
+  change-old : {a b c d e f : Option ℕ} → Absent a → There is_hour b → Absent c → Absent d → There (is_end_hour form.NoDay) e → Absent f → TimedChange days edition.Of2005 false (period a b c d e f)
   change-old absent (there h y) absent absent (there k w) absent =
       let r = both (leb 1 k) (leb k 24) w in
       kept.old h k (leb-true h 23 y) (leb-true 1 k r.0) (leb-true k 24 r.1)
@@ -125,11 +124,11 @@ module _ (days : ℕ) where
       change-old (is-absent p.from.day y.0) (is-there is_hour p.from.hour y.1) (is-absent p.from.minute x.1)
       (is-absent p.to.day w.0) (is-there (is_end_hour form.NoDay) p.to.hour w.1) (is-absent p.to.minute z.1)
 
-  from-present : {a b c : Number} {t : Instant} → There is_day a → There is_hour b → There is_minute c → t ≡ blank_instant → optional (between 1 days) a ≡ true
+  from-present : {a b c : Option ℕ} {t : Instant} → There is_day a → There is_hour b → There is_minute c → t ≡ blank_instant → optional (between 1 days) a ≡ true
       → TimedChange days edition.Present true (record { from = record { day = a; hour = b; minute = c }; to = t })
   from-present (there d x) (there h y) (there g z) e m = rw e (kept.present_from d h g (in-month days d m) (leb-true h 23 y) (leb-true g 59 z))
 
-  from_old : {a b c : Number} {t : Instant} → Absent a → There is_hour b → There is_minute c → t ≡ blank_instant
+  from_old : {a b c : Option ℕ} {t : Instant} → Absent a → There is_hour b → There is_minute c → t ≡ blank_instant
       → TimedChange days edition.Of2005 true (record { from = record { day = a; hour = b; minute = c }; to = t })
   from_old absent (there h y) (there g z) e = rw e (kept.old_from h g (leb-true h 23 y) (leb-true g 59 z))
 

@@ -2,4 +2,3 @@
 pub mod Fits
 pub mod Again
 pub mod RoundTrip
-pub mod Moving

@@ -1,5 +1,7 @@
 -- "With one month length, old to new to old gives the same text, and new to old to new the same moments, hour 00 at an end becoming 24 of the day before."
 -- Assumes nothing.
+use Rattle.std.specs.Prelude.{⊤, Err, Ok, Result}
+use Rattle.text.specs.declared.kinds.Refusal.{Refusal}
 use Prim.Native.Nat.{ℕ}
 use mathlib.Core.Path.{◌≡◌, refl, sym, ap, ◌∙◌}
 use mathlib.Core.Bool.{true}
@@ -7,8 +9,6 @@ use mathlib.Core.List.{map}
 use lib.ListN.{length, length-map}
 use lib.Seq.{length_front}
 use Rattle.figures.proofs.Impossible.{impossible}
-use Rattle.text.specs.declared.kinds.Judged.{Judged}
-use Rattle.text.specs.declared.kinds.Judged.TheVariants as judged
 use Rattle.text.specs.Judge.{judge, and_then}
 use Rattle.text.proofs.Judging.{fine, and-then}
 use Rattle.record.specs.declared.aerodrome.Edition.{Edition}
@@ -26,11 +26,11 @@ use Rattle.taf_move.proofs.Again.{is-taken, taken-judged, taken-timely, comes-ta
 
 -- a TAF that is moved, and what comes
 abbrev pub moved : Taf → MovedTaf
-moved s = record { judged = judged.Fine; forecast = s }
+moved s = record { judged = Ok tt; forecast = s }
 
-moved-fine : (j : Judged) (x s : Taf) → moved_by j x ≡ moved s → (j ≡ judged.Fine) × (x ≡ s)
-moved-fine judged.Fine x s e = (refl, ap (λ (m : MovedTaf). m.forecast) e)
-moved-fine (judged.Refused f) x s e = let b : judged.Refused f ≡ judged.Fine = ap (λ (m : MovedTaf). m.judged) e in impossible (cc)
+moved-fine : (j : Result ⊤ Refusal) (x s : Taf) → moved_by j x ≡ moved s → (j ≡ Ok tt) × (x ≡ s)
+moved-fine (Ok tt) x s e = (refl, ap (λ (m : MovedTaf). m.forecast) e)
+moved-fine (Err f) x s e = let b : Err f ≡ Ok tt = ap (λ (m : MovedTaf). m.judged) e in impossible (cc)
 
 other-twice : (e : Edition) → other (other e) ≡ e
 other-twice edition.Present = refl
@@ -39,17 +39,17 @@ other-twice edition.Of2005 = refl
 -- what is judged of a TAF that is moved
 record Judged-fine (to : Edition) (days : ℕ) (t : Taf) : Type 0 where
   edition : t.edition ≡ other to
-  writer : judge_of t ≡ judged.Fine
-  times : judge_times days t ≡ judged.Fine
+  writer : judge_of t ≡ Ok tt
+  times : judge_times days t ≡ Ok tt
 
-judge-parts : (to : Edition) (days : ℕ) (t : Taf) → judge_move to days t ≡ judged.Fine → Judged-fine to days t
+judge-parts : (to : Edition) (days : ℕ) (t : Taf) → judge_move to days t ≡ Ok tt → Judged-fine to days t
 unfolding judge_move judge_in
 judge-parts to days t e =
     let a = and-then (and_then (judge (is_same_edition (other to) t.edition) true) (judge_of t)) (judge_times days t) e in
     let b = and-then (judge (is_same_edition (other to) t.edition) true) (judge_of t) a.0 in
     record { edition = sym (edition-same (other to) t.edition (fine _ true b.0).0); writer = b.1; times = a.1 }
 
-parts-judge : (to : Edition) (days : ℕ) (t : Taf) → Judged-fine to days t → judge_move to days t ≡ judged.Fine
+parts-judge : (to : Edition) (days : ℕ) (t : Taf) → Judged-fine to days t → judge_move to days t ≡ Ok tt
 unfolding judge_move judge_in
 parts-judge to days t j =
     let same : is_same_edition (other to) t.edition ≡ true = rw j.edition (same-edition (other to)) in
@@ -66,7 +66,7 @@ its-slots to days t =
     length_front t.changes.items (map f (counted t.changes)) t.changes.count (length-map (counted t.changes) f)
 
 module _ (to : Edition) (days : ℕ) (t s : Taf) (all : length t.changes.items ≡ 16) (m : taf_moved to days t ≡ moved s) where
-  comes : (judge_move to days t ≡ judged.Fine) × (times_in to days t ≡ s)
+  comes : (judge_move to days t ≡ Ok tt) × (times_in to days t ≡ s)
   unfolding taf_moved
   comes = moved-fine (judge_move to days t) (times_in to days t) s m
 
@@ -80,7 +80,7 @@ module _ (to : Edition) (days : ℕ) (t s : Taf) (all : length t.changes.items �
   turned = rw comes.1 at (moved_back days t to timely parts.times)
 
   -- THE WRITER OF ITS EDITION TAKES WHAT COMES,
-  pub moved-taken : judge_of s ≡ judged.Fine
+  pub moved-taken : judge_of s ≡ Ok tt
   moved-taken = rw comes.1 at (taken-judged (times_in to days t) (comes-taken days t all (is-taken t parts.writer) parts.times to))
 
   pub moved-edition : s.edition ≡ to

@@ -3,14 +3,14 @@
 -- The edition decides how a period and FM are written: in that of 2005 "the period as Y1Y1G1G1G2G2, G2 01 to 24, or 51 to 74 when it lasts 25 to 48
 -- hours; change periods as GGGeGe, GG 00 to 23 and Ge 01 to 24; FMGGgg. Document 01's other TAF rules hold." (document 02, No. 9)
 -- Assumes nothing: these are definitions.
-use Rattle.std.specs.Prelude.{ℕ, Bool, true, false, not, ◌&&◌, ◌||◌, cond, List, [], ◌∷◌, ◌++◌, leb}
+use Rattle.std.specs.Prelude.{ℕ, Bool, true, false, not, ◌&&◌, ◌||◌, cond, List, [], ◌∷◌, ◌++◌, leb, None, Ok, Result, Some}
+use Rattle.text.specs.declared.kinds.Refusal.{Refusal}
 use Prim.Native.String.{String}
 use Rattle.figures.specs.Quote.{bytes}
 use Rattle.figures.specs.Figures.{field_at, field_text}
 use Rattle.shapes.specs.Pattern.{Pattern, has_pattern}
-use Rattle.places.specs.Engine.{Group, Read, Good, Place}
+use Rattle.places.specs.Engine.{Group, Place}
 use Rattle.places.specs.Lift.{lift, open_in}
-use Rattle.record.specs.declared.values.Number.TheVariants as number
 use Rattle.record.specs.declared.aerodrome.Correction.{Correction}
 use Rattle.record.specs.declared.aerodrome.Correction.TheVariants as correction
 use Rattle.record.specs.declared.aerodrome.Instant.{Instant}
@@ -59,7 +59,7 @@ forecast_in w = record { forecast = true; required = is_whole w; may_nsw = not (
 -- ---- places
 
 -- for one group: its shape and the patterns that cover it, whether it must stand; how it is read, how it is written and what it is read back as
-abbrev pub place_for : (Group → Bool) → List Pattern → Bool → (Group → Leg → Read Leg) → (Leg → List Group) → (Leg → Leg → Leg) → Place Leg
+abbrev pub place_for : (Group → Bool) → List Pattern → Bool → (Group → Leg → Result Leg Refusal) → (Leg → List Group) → (Leg → Leg → Leg) → Place Leg
 place_for has cover must read show put =
     record { has = has; cover = cover; spoken = cover; most = 1; must = must; ends = false; read = λ k g r. read g r; show = show; put = put }
 
@@ -69,8 +69,8 @@ of_body p = lift (λ (r : Leg). r.body) set_body p
 abbrev pub word : String → Group → Bool
 word w g = has_pattern g (bytes w)
 
-abbrev pub onto : {A : Type 0} → Read A → (A → Leg → Leg) → Leg → Read Leg
-onto x f r = then x (λ a. Good (f a r))
+abbrev pub onto : {A : Type 0} → Result A Refusal → (A → Leg → Leg) → Leg → Result Leg Refusal
+onto x f r = then x (λ a. Ok (f a r))
 
 -- ---- AMD and COR
 
@@ -109,28 +109,28 @@ is_end_hour form.FirstDay h = between 1 24 h || between 51 74 h
 is_end_hour form.NoDay h = between 1 24 h
 
 abbrev pub hour_of : ℕ → ℕ → Instant
-hour_of d h = record { day = number.Is d; hour = number.Is h; minute = number.Missing }
+hour_of d h = record { day = Some d; hour = Some h; minute = None }
 
 -- without its day
 abbrev pub hour_alone : ℕ → Instant
-hour_alone h = record { day = number.Missing; hour = number.Is h; minute = number.Missing }
+hour_alone h = record { day = None; hour = Some h; minute = None }
 
-unfoldable pub read_period : Form → Group → Read Period
+unfoldable pub read_period : Form → Group → Result Period Refusal
 read_period form.BothDays g =
     figured (field_at g 0 2)
     (λ d. figured (field_at g 2 2)
     (λ h. figured (field_at g 5 2)
     (λ e. figured (field_at g 7 2)
-    (λ k. provided (is_day d && is_hour h && is_day e && is_end_hour form.BothDays k) (Good (record { from = hour_of d h; to = hour_of e k }))))))
+    (λ k. provided (is_day d && is_hour h && is_day e && is_end_hour form.BothDays k) (Ok (record { from = hour_of d h; to = hour_of e k }))))))
 read_period form.FirstDay g =
     figured (field_at g 0 2)
     (λ d. figured (field_at g 2 2)
     (λ h. figured (field_at g 4 2)
-    (λ k. provided (is_day d && is_hour h && is_end_hour form.FirstDay k) (Good (record { from = hour_of d h; to = hour_alone k })))))
+    (λ k. provided (is_day d && is_hour h && is_end_hour form.FirstDay k) (Ok (record { from = hour_of d h; to = hour_alone k })))))
 read_period form.NoDay g =
     figured (field_at g 0 2)
     (λ h. figured (field_at g 2 2)
-    (λ k. provided (is_hour h && is_end_hour form.NoDay k) (Good (record { from = hour_alone h; to = hour_alone k }))))
+    (λ k. provided (is_hour h && is_end_hour form.NoDay k) (Ok (record { from = hour_alone h; to = hour_alone k }))))
 
 abbrev pub show_hour : Instant → List ℕ
 show_hour t = field_text 2 (field_of t.day) ++ field_text 2 (field_of t.hour)
@@ -153,8 +153,8 @@ period_place f =
 
 unfoldable pub row : Edition → Part → List (Place Leg)
 row e w =
-    open_in (is_main w) (place_for (word "TAF") (bytes "TAF" ∷ []) true (λ g r. Good r) (λ r. bytes "TAF" ∷ []) (λ r acc. acc))
-    ∷ open_in (is_main w) (place_for is_correction (bytes "AMD" ∷ bytes "COR" ∷ []) false (λ g r. Good (set_correction (correction_of g) r))
+    open_in (is_main w) (place_for (word "TAF") (bytes "TAF" ∷ []) true (λ g r. Ok r) (λ r. bytes "TAF" ∷ []) (λ r acc. acc))
+    ∷ open_in (is_main w) (place_for is_correction (bytes "AMD" ∷ bytes "COR" ∷ []) false (λ g r. Ok (set_correction (correction_of g) r))
     (λ r. show_correction r.correction) (λ r acc. set_correction r.correction acc))
     ∷ open_in (is_main w) (lift (λ (r : Leg). r.station) set_station station_place)
     ∷ open_in (is_main w) (lift (λ (r : Leg). r.time) set_time time_place)

@@ -2,7 +2,7 @@
 -- Assumes nothing: these are definitions.
 use Rattle.std.specs.Prelude.{ℕ, ◌≡◌, List, Bool, true, false, not, ◌&&◌, ◌||◌, drop, leb}
 use Rattle.places.specs.Seek.{owed}
-use Rattle.places.specs.Engine.{Group, place_at, mosts_of, musts_of, onward}
+use Rattle.places.specs.Engine.{Group, mosts_of, musts_of, onward}
 use Rattle.record.specs.declared.aerodrome.Opening.{Opening}
 use Rattle.record.specs.declared.aerodrome.Opening.TheVariants as opening
 use Rattle.record.specs.declared.aerodrome.Leg.{Leg}
@@ -11,10 +11,6 @@ use Rattle.taf_row.specs.declared.kinds.Part.{Part}
 use Rattle.taf_row.specs.Row.{element_stands, word, row}
 
 -- ---- the row
-
--- whether place i has the group's shape, in any part
-abbrev pub HasAt : Edition → ℕ → Group → Bool → Type 0
-HasAt e i g b = (w : Part) → b ≡ (place_at (row e w) i).has g
 
 -- how many groups may stand at each place of a part, and which places must have one, in any edition
 abbrev pub Mosts : Part → List ℕ → Type 0

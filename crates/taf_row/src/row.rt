@@ -1,19 +1,20 @@
 // What a part's row has, in the code's words: which places have a group's shape, how many may and must stand, and which place a group goes to.
-ghost use Rattle.std.specs.Prelude.{◌≡◌, cond, ◌&&◌, drop};
+ghost use Rattle.std.specs.Prelude.{◌≡◌, cond};
 ghost use Rattle.shapes.specs.Pattern.{has_pattern, has_any};
-ghost use Rattle.places.specs.Seek.{answers, fit_from, find_of};
-ghost use Rattle.places.specs.Engine.{place_at, stands_of};
+ghost use Rattle.places.specs.Seek.{find_of};
+ghost use Rattle.places.specs.Engine.{stands_of};
 ghost use Rattle.taf_row.specs.Row.{is_main, is_whole, is_changing, is_correction, own_form, change_form, period_shape, is_end_hour, from_shape, row, change_words};
-ghost use Rattle.taf_row.specs.Tests.{HasAt, Mosts, Musts, Onward};
+ghost use Rattle.taf_row.specs.Tests.{Musts, Onward};
+ghost use Rattle.std.proofs.Common.{refl};
+ghost use Rattle.rows.proofs.First.{few_of};
 
 use crate::kinds::{Form, Part};
 use body::read::has_weather_or_nsw;
 use places::kinds::Found;
-use places::{found_at, may_answer, most_at};
-use record::aerodrome::Edition;
+use record::aerodrome::{Edition, Leg};
+use rows::Row;
 use shapes::has_pattern;
 use sky::read::has_sky;
-use text::anew;
 use wind::read::{has_visibility, has_wind};
 
 pub fn is_main(part: Part) -> bool
@@ -21,8 +22,7 @@ pub fn is_main(part: Part) -> bool
 {
     match part {
         Part::Main => true,
-        Part::Changing => false,
-        Part::From => false,
+        Part::Changing | Part::From => false,
     }
 }
 
@@ -31,9 +31,8 @@ pub fn is_whole(part: Part) -> bool
     ensures { result ≡ is_whole part }
 {
     match part {
-        Part::Main => true,
+        Part::Main | Part::From => true,
         Part::Changing => false,
-        Part::From => true,
     }
 }
 
@@ -41,9 +40,8 @@ fn is_changing(part: Part) -> bool
     ensures { result ≡ is_changing part }
 {
     match part {
-        Part::Main => false,
         Part::Changing => true,
-        Part::From => false,
+        Part::Main | Part::From => false,
     }
 }
 
@@ -105,9 +103,7 @@ fn is_from(edition: Edition, g: &[u8]) -> bool
 fn is_correction(g: &[u8]) -> bool
     ensures { result ≡ is_correction g.now }
 {
-    let amended = has_pattern(g, b"AMD");
-    let corrected = has_pattern(g, b"COR");
-    amended | corrected
+    has_pattern(g, b"AMD") | has_pattern(g, b"COR")
 }
 
 pub fn is_change_word(edition: Edition, g: &[u8]) -> bool
@@ -120,43 +116,11 @@ pub fn is_change_word(edition: Edition, g: &[u8]) -> bool
     becoming | temporary | probable | from
 }
 
-// Has the group the shape of this place? In every part the same.
-fn has_at(edition: Edition, place: usize, g: &[u8]) -> bool
-    ensures { HasAt edition place g.now result }
-{
-    match place {
-        0 => has_pattern(g, b"TAF"),
-        1 => is_correction(g),
-        2 => has_pattern(g, b"@@@@"),
-        3 => has_pattern(g, b"######Z"),
-        4 => has_pattern(g, b"NIL"),
-        5 => is_period(own_form(edition), g),
-        6 => is_period(change_form(edition), g),
-        7 => has_pattern(g, b"CNL"),
-        8 => has_wind(g),
-        9 => has_visibility(g),
-        10 => has_weather_or_nsw(g),
-        11 => has_sky(g),
-        _ => false,
-    }
-}
-
 // One group may stand where the place is open.
 fn one_if(free: bool) -> u8
     ensures { result ≡ cond free 1 0 }
 {
     if free { 1 } else { 0 }
-}
-
-// How many groups may stand at each place? In every edition the same.
-fn mosts(part: Part) -> [u8; 12]
-    ensures { Mosts part result }
-{
-    let main = is_main(part);
-    let head = one_if(main);
-    let changing = is_changing(part);
-    let change = one_if(changing);
-    [head, head, head, head, head, head, change, head, 1, 1, 3, 4]
 }
 
 // Which places must have a group? In every edition the same.
@@ -171,50 +135,57 @@ pub fn musts(part: Part) -> [bool; 12]
     ]
 }
 
-// May this place, where `count` groups stand, answer for the group, and has it the group's shape? A shape is asked for only where it may.
-fn is_fit(edition: Edition, part: Part, all: bool, place: usize, count: usize, g: &[u8]) -> bool
-    ensures { result ≡ (answers all count (place_at (row edition part) place).most && (place_at (row edition part) place).has g.now) }
-{
-    let most = mosts(part);
-    if may_answer(all, count, most_at(&most, place)) {
-        has_at(edition, place, g)
-    } else {
-        false
-    }
+// The row of a part, in an edition.
+#[derive(Clone, Copy)]
+struct PartRow {
+    edition: Edition,
+    part: Part,
 }
 
-// The first such place from `place` on.
-fn fit_from(edition: Edition, part: Part, all: bool, place: usize, count: usize, g: &[u8]) -> usize
-    ensures { result ≡ fit_from all place count (drop place (stands_of (row edition part) g.now)) }
-{
-    let group = anew(g);
-    let mut i = place;
-    let mut k = count;
-    while i < 12 {
-        if is_fit(edition, part, all, i, k, group) {
-            return i;
+impl Row<12> for PartRow {
+    type Record = Leg;
+
+    ghost places = { λ r. row r.edition r.part };
+
+    // In every part the same.
+    #[tactic(auto, unfolding(crate::specs::Row::row))]
+    fn has_at(self, place: usize, g: &[u8]) -> bool {
+        match place {
+            0 => has_pattern(g, b"TAF"),
+            1 => is_correction(g),
+            2 => has_pattern(g, b"@@@@"),
+            3 => has_pattern(g, b"######Z"),
+            4 => has_pattern(g, b"NIL"),
+            5 => is_period(own_form(self.edition), g),
+            6 => is_period(change_form(self.edition), g),
+            7 => has_pattern(g, b"CNL"),
+            8 => has_wind(g),
+            9 => has_visibility(g),
+            10 => has_weather_or_nsw(g),
+            11 => has_sky(g),
+            _ => false,
         }
-        i += 1;
-        k = 0;
     }
-    i
+
+    // In every edition the same.
+    fn mosts(self) -> [u8; 12] {
+        let head = one_if(is_main(self.part));
+        let change = one_if(is_changing(self.part));
+        [head, head, head, head, head, head, change, head, 1, 1, 3, 4]
+    }
+
+    fn musts(self) -> [bool; 12] {
+        musts(self.part)
+    }
+
+    ghost few = { few_of 12 refl };
 }
 
 // The place that the group goes to.
 pub fn find(edition: Edition, part: Part, place: usize, count: usize, g: &[u8]) -> Found
     ensures { result ≡ find_of (stands_of (row edition part) g.now) place count }
 {
-    let fit = fit_from(edition, part, false, place, count, g);
-    if fit < 12 {
-        let most = mosts(part);
-        let must = musts(part);
-        return found_at(&most, &must, place, count, fit);
-    }
-    if fit_from(edition, part, true, 0, 0, g) < 12 {
-        Found::Earlier
-    } else {
-        Found::Unknown
-    }
+    rows::find(PartRow { edition, part }, place, count, g)
 }
 
 // Past NIL and past CNL reading is past the row.

@@ -1,5 +1,6 @@
 -- WHERE THE ITEMS OF A TAF'S CHANGE GROUPS WERE READ FROM: the report takes each change in at its slot, and no other part touches it.
 -- Assumes nothing.
+use Rattle.std.specs.Prelude.{None, Ok, Some}
 use Prim.Native.Nat.{ℕ, zero, suc, ◌+◌, ◌-◌, ◌≤◌, ◌<◌}
 use native.Mathlib.Omega.{arith}
 use mathlib.Core.Path.{◌≡◌, refl, sym, ap, subst, ◌∙◌}
@@ -12,9 +13,8 @@ use borrow.Author.Tests.{eqb-false, ltb-true, ltb-false, lt-ltb, ne_eqb}
 use Rattle.text.specs.Groups.{Piece, groups_from}
 use Rattle.text.specs.Text.{tail_of}
 use Rattle.shapes.specs.Pattern.{has_any}
-use Rattle.places.specs.Engine.{Group, Good, Done, place_at}
+use Rattle.places.specs.Engine.{Group, Done, place_at}
 use Rattle.places.specs.Parts.{Begun}
-use Rattle.record.specs.declared.values.Number.TheVariants as number
 use Rattle.record.specs.declared.aerodrome.Opening.{Opening}
 use Rattle.record.specs.declared.aerodrome.Opening.TheVariants as opening
 use Rattle.record.specs.declared.aerodrome.Period.{Period}
@@ -107,7 +107,7 @@ module _ (q : ℕ) (some : 0 < q) (few : q < 17) where
 -- as a word, or a word with TEMPO, leaves it
 data StartedSo : Opening → Leg → Type 0 where
   hourly : {w : Opening} → is_from w ≡ false → StartedSo w blank_leg
-  timed : {d : _} {h m : ℕ} → StartedSo opening.From (set_period (record { from = record { day = d; hour = number.Is h; minute = number.Is m }; to = blank_instant }) blank_leg)
+  timed : {d : _} {h m : ℕ} → StartedSo opening.From (set_period (record { from = record { day = d; hour = Some h; minute = Some m }; to = blank_instant }) blank_leg)
 
 after-main : (w : Opening) → is_main (part_of w) ≡ false
 after-main opening.None = refl
@@ -136,11 +136,11 @@ module _ (e : Edition) where
 
   -- a group's period has no minutes
   no-minute-read : (w : Part) {c₁ k₁ : ℕ} {p' : Leg} {left : List Piece} {c n : ℕ} {p : Leg} {gs : List Piece} {es : List Entry} → Went (row e w) (has_any (change_words e)) c₁ k₁ p' left c n p gs es
-      → p.period.from.minute ≡ number.Missing → p'.period.from.minute ≡ number.Missing
+      → p.period.from.minute ≡ None → p'.period.from.minute ≡ None
   no-minute-read w done none = none
   no-minute-read w {p = p} (on {i = i} {n = m} {r' = r} {g = g} t is v) none = no-minute-read w v (go i p.period r.period none (period-done e w i m g.bytes p r is))
     where
-      go : (i : ℕ) (x y : Period) → x.from.minute ≡ number.Missing → PeriodDone e w g.bytes x i y → y.from.minute ≡ number.Missing
+      go : (i : ℕ) (x y : Period) → x.from.minute ≡ None → PeriodDone e w g.bytes x i y → y.from.minute ≡ None
       go _ x _ none (with-own reads) = reads_so (no-minute (own_form e) g.bytes) reads
       go _ x _ none (with-change reads) = reads_so (no-minute (change_form e) g.bytes) reads
       go i x _ none (with_none five six) = none
@@ -269,10 +269,10 @@ module _ (e : Edition) where
         record {
           opens = λ m t g w p p' known is blank opens v.
               let so = word-opens e t g w p opens in
-              subst (λ (c : Change). WordSaid e g (word_of c)) (sym (own-slot q some few m t (change_of w p') known is)) (so ∙ ap Good (word-so w p p' (opened-so e g w p so) v));
+              subst (λ (c : Change). WordSaid e g (word_of c)) (sym (own-slot q some few m t (change_of w p') known is)) (so ∙ ap Ok (word-so w p p' (opened-so e g w p so) v));
           joins = λ m t g h w p p' known is blank opens joins v.
               let so = word-opens e t g w p opens in
-              subst (λ (c : Change). WordSaid e g (word_of c)) (sym (own-slot q some few m t (change_of (after_probable w) p') known is)) (so ∙ ap Good (both_so w p p' (opened-so e g w p so) (joined-so w h joins).0));
+              subst (λ (c : Change). WordSaid e g (word_of c)) (sym (own-slot q some few m t (change_of (after_probable w) p') known is)) (so ∙ ap Ok (both_so w p p' (opened-so e g w p so) (joined-so w h joins).0));
         }
 
     -- THE WORD OF CHANGE q, with the time of FM, is what the word's definition says of the group that the change was opened by; with no such group there is no such change.

@@ -1,5 +1,6 @@
 -- Worked examples: from where some items of two TAFs were read, computed from the definitions alone.
 -- Assumes nothing.
+use Rattle.std.specs.Prelude.{None, Option, Some}
 use Prim.Native.Nat.{ℕ}
 use Prim.Native.String.{String}
 use mathlib.Core.Path.{◌≡◌, refl}
@@ -21,8 +22,7 @@ use Rattle.taf.specs.Read as read
 use Rattle.sources.specs.declared.kinds.Spot.{Spot}
 use Rattle.sources.specs.declared.kinds.Spot.TheVariants as spot
 use Rattle.sources.specs.declared.kinds.Source.{Source}
-use Rattle.sources.specs.declared.kinds.Source.TheVariants as source
-use Rattle.sources.specs.Trail.{origin_in, source_of}
+use Rattle.sources.specs.Trail.{origin_in, source_of, source_at}
 use Rattle.sources.specs.Trail as trails
 use Rattle.sources.specs.Route as routes
 use Rattle.taf_sources.specs.Trail.{trail_of}
@@ -32,15 +32,15 @@ use Rattle.taf_sources.specs.Trail as walk
 pub record Example : Type 0 where
   pub part : ℕ
   pub spot : Spot
-  pub source : Source
+  pub source : Option Source
 
 abbrev taken : ℕ → Spot → ℕ → ℕ → Example
-taken part s start end = record { part = part; spot = s; source = source.Group start end }
+taken part s start end = record { part = part; spot = s; source = Some (source_at start end) }
 
 abbrev none : ℕ → Spot → Example
-none part s = record { part = part; spot = s; source = source.None }
+none part s = record { part = part; spot = s; source = None }
 
-abbrev found : Edition → String → Example → Source
+abbrev found : Edition → String → Example → Option Source
 found e t x = source_of (origin_in x.part x.spot (trail_of e (bytes t)))
 
 -- "TEMPO at once after PROB30" belongs to that word; under FM there is no group for a period

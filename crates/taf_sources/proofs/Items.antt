@@ -1,5 +1,7 @@
 -- Each place of a part's row touches its own field alone, and each item of a part is what its group says: of the main part and of every change.
 -- Assumes nothing.
+use Rattle.std.specs.Prelude.{None, Ok, Option, Result, Some}
+use Rattle.text.specs.declared.kinds.Refusal.{Refusal}
 use Prim.Native.Nat.{ℕ, ◌<◌}
 use native.Mathlib.Omega.{arith}
 use mathlib.Core.Path.{◌≡◌, refl, sym, ap, subst, ◌∙◌}
@@ -9,9 +11,7 @@ use lib.Dec.{eqb}
 use borrow.Author.Tests.{eqb-false}
 use Rattle.figures.specs.Figures.{field_at}
 use Rattle.figures.proofs.Impossible.{impossible}
-use Rattle.places.specs.Engine.{Group, Read, Good, then, Place, place_at}
-use Rattle.record.specs.declared.values.Number.{Number}
-use Rattle.record.specs.declared.values.Number.TheVariants as number
+use Rattle.places.specs.Engine.{Group, then, Place, place_at}
 use Rattle.record.specs.declared.aerodrome.Correction.{Correction}
 use Rattle.record.specs.declared.aerodrome.Station.{Station}
 use Rattle.record.specs.declared.aerodrome.Instant.{Instant}
@@ -61,7 +61,7 @@ fields r =
 -- ---- each place touches its own field alone
 
 module _ (e : Edition) (w : Part) where
-  weather-only : (n : ℕ) (g : Group) (a a' : Leg) → then ((weather_place (forecast_in w)).read n g a.body) (λ b. Good (set_body b a)) ≡ Good a' → Only fs fields 10 a a'
+  weather-only : (n : ℕ) (g : Group) (a a' : Leg) → then ((weather_place (forecast_in w)).read n g a.body) (λ b. Ok (set_body b a)) ≡ Ok a' → Only fs fields 10 a a'
   weather-only n g a a' is =
       let (b, good, same) = then-good ((weather_place (forecast_in w)).read n g a.body) (λ b. set_body b a) a' is in
       go b (weather-done (forecast_in w) n g a.body b good) same
@@ -71,19 +71,19 @@ module _ (e : Edition) (w : Part) where
       go _ (with-weather x is reads) same = only-put fs fields 10 a a' (with_weather n a.body.weathers x, a.body.nsw) (ap fields same)
 
   abbrev OnlyAt : ℕ → Place Leg → Type 0
-  OnlyAt j p = (n : ℕ) (g : Group) (a a' : Leg) → p.read n g a ≡ Good a' → Only fs fields j a a'
+  OnlyAt j p = (n : ℕ) (g : Group) (a a' : Leg) → p.read n g a ≡ Ok a' → Only fs fields j a a'
 
   only-rows : Rows OnlyAt 0 (row e w)
   unfolding row
   only-rows =
-      (λ n g a a' is. wrote fs fields 0 a a' (Good tt) (λ v. a) (λ v. v) (λ v. refl) is)
-      & (λ n g a a' is. wrote fs fields 1 a a' (Good (correction_of g)) (λ v. set_correction v a) (λ v. v) (λ v. refl) is)
-      & (λ n g a a' is. wrote fs fields 2 a a' (Good (station_of g)) (λ v. set_station v a) (λ v. v) (λ v. refl) is)
+      (λ n g a a' is. wrote fs fields 0 a a' (Ok tt) (λ v. a) (λ v. v) (λ v. refl) is)
+      & (λ n g a a' is. wrote fs fields 1 a a' (Ok (correction_of g)) (λ v. set_correction v a) (λ v. v) (λ v. refl) is)
+      & (λ n g a a' is. wrote fs fields 2 a a' (Ok (station_of g)) (λ v. set_station v a) (λ v. v) (λ v. refl) is)
       & (λ n g a a' is. wrote fs fields 3 a a' (read_time g) (λ v. set_time v a) (λ v. v) (λ v. refl) is)
-      & (λ n g a a' is. wrote fs fields 4 a a' (Good true) (λ v. set_nil v a) (λ v. v) (λ v. refl) is)
+      & (λ n g a a' is. wrote fs fields 4 a a' (Ok true) (λ v. set_nil v a) (λ v. v) (λ v. refl) is)
       & (λ n g a a' is. wrote fs fields 5 a a' (read_period (own_form e) g) (λ v. set_period v a) (λ v. tt) (λ v. refl) is)
       & (λ n g a a' is. wrote fs fields 6 a a' (read_period (change_form e) g) (λ v. set_period v a) (λ v. tt) (λ v. refl) is)
-      & (λ n g a a' is. wrote fs fields 7 a a' (Good true) (λ v. set_cancelled v a) (λ v. v) (λ v. refl) is)
+      & (λ n g a a' is. wrote fs fields 7 a a' (Ok true) (λ v. set_cancelled v a) (λ v. v) (λ v. refl) is)
       & (λ n g a a' is. let (v, x, same) = in_body (λ b. set_body b a) a.body (read_wind true g) set_wind a' is in only-put fs fields 8 a a' v (ap fields same))
       & (λ n g a a' is. let (v, x, same) = in_body (λ b. set_body b a) a.body (read_visibility true g) set_visibility a' is in only-put fs fields 9 a a' v (ap fields same))
       & (λ n g a a' is. weather-only n g a a' is)
@@ -101,13 +101,13 @@ module _ (e : Edition) (w : Part) where
   unfolding row
   wind-item =
       single-item fs fields (row e w) row-only 8 (λ x. x) (WindSaid true) refl
-      (λ g a a' is. let (v, x, same) = in_body (λ b. set_body b a) a.body (read_wind true g) set_wind a' is in x ∙ ap Good (sym (ap (λ (r : Leg). r.body.wind) same)))
+      (λ g a a' is. let (v, x, same) = in_body (λ b. set_body b a) a.body (read_wind true g) set_wind a' is in x ∙ ap Ok (sym (ap (λ (r : Leg). r.body.wind) same)))
 
   pub visibility-item : {missing : Visibility} → Item (row e w) 9 0 (λ r. r.body.visibility) (VisibilitySaid true) (λ r. Unit {0}) missing
   unfolding row
   visibility-item =
       single-item fs fields (row e w) row-only 9 (λ x. x) (VisibilitySaid true) refl
-      (λ g a a' is. let (v, x, same) = in_body (λ b. set_body b a) a.body (read_visibility true g) set_visibility a' is in x ∙ ap Good (sym (ap (λ (r : Leg). r.body.visibility) same)))
+      (λ g a a' is. let (v, x, same) = in_body (λ b. set_body b a) a.body (read_visibility true g) set_visibility a' is in x ∙ ap Ok (sym (ap (λ (r : Leg). r.body.visibility) same)))
 
   pub weather-item : {missing : _} (k : ℕ) → k < 3 → Item (row e w) 10 k (λ r. weather_at k r.body) (WeatherSaid true) (λ r. length r.body.weathers.items ≡ 3) missing
   unfolding row
@@ -140,15 +140,15 @@ module _ (e : Edition) (w : Part) where
   -- ---- the period: the report's own group says it, or a change's, and no other
 
   pub data PeriodDone (g : Group) (p : Period) : ℕ → Period → Type 0 where
-    with-own : {v : Period} → read_period (own_form e) g ≡ Good v → PeriodDone g p 5 v
-    with-change : {v : Period} → read_period (change_form e) g ≡ Good v → PeriodDone g p 6 v
+    with-own : {v : Period} → read_period (own_form e) g ≡ Ok v → PeriodDone g p 5 v
+    with-change : {v : Period} → read_period (change_form e) g ≡ Ok v → PeriodDone g p 6 v
     with_none : {j : ℕ} → eqb 5 j ≡ false → eqb 6 j ≡ false → PeriodDone g p j p
 
   abbrev PeriodAt : ℕ → Place Leg → Type 0
-  PeriodAt j p = (n : ℕ) (g : Group) (a a' : Leg) → p.read n g a ≡ Good a' → PeriodDone g a.period j a'.period
+  PeriodAt j p = (n : ℕ) (g : Group) (a a' : Leg) → p.read n g a ≡ Ok a' → PeriodDone g a.period j a'.period
 
-  aside : {A : Type 0} (j : ℕ) → eqb 5 j ≡ false → eqb 6 j ≡ false → (g : Group) (a a' : Leg) (x : Read A) (f : A → Leg) → ((v : A) → (f v).period ≡ a.period)
-      → then x (λ v. Good (f v)) ≡ Good a' → PeriodDone g a.period j a'.period
+  aside : {A : Type 0} (j : ℕ) → eqb 5 j ≡ false → eqb 6 j ≡ false → (g : Group) (a a' : Leg) (x : Result A Refusal) (f : A → Leg) → ((v : A) → (f v).period ≡ a.period)
+      → then x (λ v. Ok (f v)) ≡ Ok a' → PeriodDone g a.period j a'.period
   aside j five six g a a' x f kept is =
       let (v, good, same) = then-good x f a' is in
       subst (PeriodDone g a.period j) (sym (ap (λ (r : Leg). r.period) same ∙ kept v)) (with_none five six)
@@ -156,18 +156,18 @@ module _ (e : Edition) (w : Part) where
   period-rows : Rows PeriodAt 0 (row e w)
   unfolding row
   period-rows =
-      (λ n g a a' is. aside {A = Unit {0}} 0 refl refl g a a' (Good tt) (λ v. a) (λ v. refl) is)
-      & (λ n g a a' is. aside 1 refl refl g a a' (Good (correction_of g)) (λ v. set_correction v a) (λ v. refl) is)
-      & (λ n g a a' is. aside 2 refl refl g a a' (Good (station_of g)) (λ v. set_station v a) (λ v. refl) is)
+      (λ n g a a' is. aside {A = Unit {0}} 0 refl refl g a a' (Ok tt) (λ v. a) (λ v. refl) is)
+      & (λ n g a a' is. aside 1 refl refl g a a' (Ok (correction_of g)) (λ v. set_correction v a) (λ v. refl) is)
+      & (λ n g a a' is. aside 2 refl refl g a a' (Ok (station_of g)) (λ v. set_station v a) (λ v. refl) is)
       & (λ n g a a' is. aside 3 refl refl g a a' (read_time g) (λ v. set_time v a) (λ v. refl) is)
-      & (λ n g a a' is. aside 4 refl refl g a a' (Good true) (λ v. set_nil v a) (λ v. refl) is)
+      & (λ n g a a' is. aside 4 refl refl g a a' (Ok true) (λ v. set_nil v a) (λ v. refl) is)
       & (λ n g a a' is.
       let (v, good, same) = then-good (read_period (own_form e) g) (λ v. set_period v a) a' is in
       subst (PeriodDone g a.period 5) (sym (ap (λ (r : Leg). r.period) same)) (with-own good))
       & (λ n g a a' is.
       let (v, good, same) = then-good (read_period (change_form e) g) (λ v. set_period v a) a' is in
       subst (PeriodDone g a.period 6) (sym (ap (λ (r : Leg). r.period) same)) (with-change good))
-      & (λ n g a a' is. aside 7 refl refl g a a' (Good true) (λ v. set_cancelled v a) (λ v. refl) is)
+      & (λ n g a a' is. aside 7 refl refl g a a' (Ok true) (λ v. set_cancelled v a) (λ v. refl) is)
       & (λ n g a a' is. aside 8 refl refl g a a' ((wind_place (forecast_in w)).read n g a.body) (λ b. set_body b a) (λ b. refl) is)
       & (λ n g a a' is. aside 9 refl refl g a a' ((visibility_place (forecast_in w)).read n g a.body) (λ b. set_body b a) (λ b. refl) is)
       & (λ n g a a' is. aside 10 refl refl g a a' ((weather_place (forecast_in w)).read n g a.body) (λ b. set_body b a) (λ b. refl) is)
@@ -193,7 +193,7 @@ fair_of element.Visibility r = Unit {0}
 fair_of element.Weather r = length r.body.weathers.items ≡ 3
 fair_of element.Clouds r = length r.body.sky.layers ≡ 4
 
-good-value : {A : Type 0} (a b : A) → Good a ≡ Good b → b ≡ a
+good-value : {A : Type 0} (a b : A) → ◌≡◌ {A = Result A Refusal} (Ok a) (Ok b) → b ≡ a
 good-value a b e = cc
 
 module _ (e : Edition) where
@@ -204,13 +204,13 @@ module _ (e : Edition) where
   unfolding row
   correction-item =
       single-item fs fields (row e part.Main) (row-only e part.Main) 1 (λ x. x) (Said e element.Correction) refl
-      (λ g a a' is. good-value (correction_of g) a'.correction (by_value (Good (correction_of g)) (λ v. set_correction v a) (λ r. r.correction) a' (λ v. refl) is))
+      (λ g a a' is. good-value (correction_of g) a'.correction (by_value (Ok (correction_of g)) (λ v. set_correction v a) (λ r. r.correction) a' (λ v. refl) is))
 
   pub station-item : LegItem element.Station 0
   unfolding row
   station-item =
       single-item fs fields (row e part.Main) (row-only e part.Main) 2 (λ x. x) (Said e element.Station) refl
-      (λ g a a' is. good-value (station_of g) a'.station (by_value (Good (station_of g)) (λ v. set_station v a) (λ r. r.station) a' (λ v. refl) is))
+      (λ g a a' is. good-value (station_of g) a'.station (by_value (Ok (station_of g)) (λ v. set_station v a) (λ r. r.station) a' (λ v. refl) is))
 
   pub time-item : LegItem element.Time 0
   unfolding row
@@ -222,13 +222,13 @@ module _ (e : Edition) where
   unfolding row
   nil-item =
       single-item fs fields (row e part.Main) (row-only e part.Main) 4 (λ x. x) (Said e element.Nil) refl
-      (λ g a a' is. good-value true a'.nil (by_value (Good true) (λ v. set_nil v a) (λ r. r.nil) a' (λ v. refl) is))
+      (λ g a a' is. good-value true a'.nil (by_value (Ok true) (λ v. set_nil v a) (λ r. r.nil) a' (λ v. refl) is))
 
   pub cancelled-item : LegItem element.Cancelled 0
   unfolding row
   cancelled-item =
       single-item fs fields (row e part.Main) (row-only e part.Main) 7 (λ x. x) (Said e element.Cancelled) refl
-      (λ g a a' is. good-value true a'.cancelled (by_value (Good true) (λ v. set_cancelled v a) (λ r. r.cancelled) a' (λ v. refl) is))
+      (λ g a a' is. good-value true a'.cancelled (by_value (Ok true) (λ v. set_cancelled v a) (λ r. r.cancelled) a' (λ v. refl) is))
 
   pub period-item : LegItem element.Period 0
   unfolding row
@@ -239,7 +239,7 @@ module _ (e : Edition) where
         stays = λ j n g a a' f is. tt;
       }
     where
-      tells : (g : Group) (p p' : Period) → PeriodDone e part.Main g p 5 p' → read_period (own_form e) g ≡ Good p'
+      tells : (g : Group) (p p' : Period) → PeriodDone e part.Main g p 5 p' → read_period (own_form e) g ≡ Ok p'
       tells g p _ (with-own reads) = reads
       tells g p _ (with_none five six) = absurd (false≢true (sym five))
 
@@ -250,18 +250,18 @@ module _ (e : Edition) where
 
 -- ---- a change's period: its own group says hours alone, FM, its word, minutes too
 
-abbrev has_minute : Number → Bool
-has_minute number.Missing = false
-has_minute (number.Is n) = true
+abbrev has_minute : Option ℕ → Bool
+has_minute None = false
+has_minute (Some n) = true
 
 -- what is not FM's
 abbrev pub own_hours : Period → Period
 own_hours p = cond (has_minute p.from.minute) blank_period p
 
-pub hours-own : (p : Period) → p.from.minute ≡ number.Missing → own_hours p ≡ p
-hours-own p is = ap (λ (m : Number). cond (has_minute m) blank_period p) is
+pub hours-own : (p : Period) → p.from.minute ≡ None → own_hours p ≡ p
+hours-own p is = ap (λ (m : Option ℕ). cond (has_minute m) blank_period p) is
 
-pub no-minute : (f : Form) (g : Group) → Reads (λ (p : Period). p.from.minute ≡ number.Missing) (read_period f g)
+pub no-minute : (f : Form) (g : Group) → Reads (λ (p : Period). p.from.minute ≡ None) (read_period f g)
 unfolding read_period
 no-minute form.BothDays g =
     reads-figured (field_at g 0 2)
@@ -284,7 +284,7 @@ closed true e n h = false≢true (sym e)
 closed false e n h = absurd (omega arith)
 
 pub hours-item : (e : Edition) (w : Part) → is_main w ≡ false
-    → Item (row e w) 6 0 (λ r. own_hours r.period) (λ g v. read_period (change_form e) g ≡ Good v) (λ r. Unit {0}) blank_period
+    → Item (row e w) 6 0 (λ r. own_hours r.period) (λ g v. read_period (change_form e) g ≡ Ok v) (λ r. Unit {0}) blank_period
 unfolding row
 hours-item e w after =
     record {
@@ -293,8 +293,8 @@ hours-item e w after =
       stays = λ j n g a a' f is. tt;
     }
   where
-    tells : (g : Group) (p p' : Period) → PeriodDone e w g p 6 p' → read_period (change_form e) g ≡ Good (own_hours p')
-    tells g p p' (with-change reads) = reads ∙ ap Good (sym (hours-own p' (reads_so (no-minute (change_form e) g) reads)))
+    tells : (g : Group) (p p' : Period) → PeriodDone e w g p 6 p' → read_period (change_form e) g ≡ Ok (own_hours p')
+    tells g p p' (with-change reads) = reads ∙ ap Ok (sym (hours-own p' (reads_so (no-minute (change_form e) g) reads)))
     tells g p _ (with_none five six) = absurd (false≢true (sym six))
 
     kept : (j n : ℕ) (g : Group) (p p' : Period) → n < (place_at (row e w) j).most → (eqb 6 j && eqb 0 n) ≡ false → PeriodDone e w g p j p' → p' ≡ p

@@ -1,5 +1,6 @@
 -- WHERE THE ITEMS OF A TAF'S MAIN PART WERE READ FROM, in a text whose groups come to a record; and that its trail holds every group up to the unread rest.
 -- Assumes nothing.
+use Rattle.std.specs.Prelude.{Ok}
 use Prim.Native.Nat.{ℕ, ◌<◌}
 use mathlib.Core.Path.{◌≡◌, refl, sym, subst}
 use mathlib.Core.Bool.{Bool, not}
@@ -8,7 +9,7 @@ use lib.ListN.{length}
 use Rattle.figures.proofs.Impossible.{impossible}
 use Rattle.text.specs.Groups.{groups_from}
 use Rattle.text.specs.Text.{tail_of}
-use Rattle.places.specs.Engine.{Group, Good, Done}
+use Rattle.places.specs.Engine.{Group, Done}
 use Rattle.places.specs.Parts.{Word, Opens}
 use Rattle.record.specs.declared.aerodrome.Opening.{Opening}
 use Rattle.record.specs.declared.aerodrome.Opening.TheVariants as opening
@@ -52,11 +53,11 @@ abbrev pub lacks : Taf → Opening → Leg → Bool
 lacks t o r = not (element_stands (part_of o) r.body)
 
 -- the group's own definition says what opens the part
-pub word-opens : (e : Edition) (t : Taf) (g : Group) (w : Opening) (p : Leg) → coming e t g ≡ Opens (Good (record { kind = w; start = p }))
-    → opened_by e g ≡ Good (record { kind = w; start = p })
+pub word-opens : (e : Edition) (t : Taf) (g : Group) (w : Opening) (p : Leg) → coming e t g ≡ Opens (Ok (record { kind = w; start = p }))
+    → opened_by e g ≡ Ok (record { kind = w; start = p })
 word-opens e t g w p is = cc
 
-word-moves : (e : Edition) (t : Taf) (g : Group) (w : Opening) (p : Leg) → coming e t g ≡ Opens (Good (record { kind = w; start = p })) → word_move e g ≡ walk.Opens w
+word-moves : (e : Edition) (t : Taf) (g : Group) (w : Opening) (p : Leg) → coming e t g ≡ Opens (Ok (record { kind = w; start = p })) → word_move e g ≡ walk.Opens w
 unfolding word_move
 word-moves e t g w p is = rw (word-opens e t g w p is)
 

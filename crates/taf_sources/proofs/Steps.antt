@@ -1,5 +1,6 @@
 -- The laws of a walk over a TAF: a group's move by its turn, and what the next group comes to.
 -- Assumes nothing.
+use Rattle.std.specs.Prelude.{None, Option, Some}
 use Prim.Native.Nat.{ℕ, ◌+◌, ◌≤◌, ◌<◌}
 use native.Mathlib.Omega.{arith}
 use mathlib.Core.Path.{◌≡◌, refl, sym, subst, ◌∙◌}
@@ -25,13 +26,10 @@ use Rattle.taf_row.specs.Tests.{joins}
 use Rattle.taf_row.proofs.Rows.{row-few}
 use Rattle.taf.specs.Read.{after_probable, part_of}
 use Rattle.sources.specs.declared.kinds.Spot.{Spot}
-use Rattle.sources.specs.declared.kinds.Source.TheVariants as source
-use Rattle.sources.specs.Trail.{Mark, Move, Takes, Opens, Joins, Ends, same_spot}
+use Rattle.sources.specs.Trail.{Mark, Move, Takes, Opens, Joins, Ends, same_spot, source_at}
 use Rattle.sources.specs.Route.{move_by, move_on}
 use Rattle.sources.proofs.Walks.{looked, looked-over, looked-ends, takes-found, takes-on, opens-found, opens-on, joins-found, joins-on}
 use Rattle.taf_sources.specs.declared.kinds.Step.{Step}
-use Rattle.taf_sources.specs.declared.kinds.Met.{Met}
-use Rattle.taf_sources.specs.declared.kinds.Met.TheVariants as met
 use Rattle.taf_sources.specs.Trail.{word_move, route, mark_at, row_of, belongs, met_move, met_cut, met_of}
 
 module _ (e : Edition) where
@@ -64,17 +62,17 @@ module _ (e : Edition) (t : List ℕ) (from q : ℕ) (o : Opening) (c k : ℕ) w
   abbrev m : Mark Opening
   m = mark_at q o c k
 
-  pub met-end : {x : Cut} {at : ℕ} → x ≡ next_of t from → x ≡ cut.End at → met.Over ≡ met_of e t from m
+  pub met-end : {x : Cut} {at : ℕ} → x ≡ next_of t from → x ≡ cut.End at → None ≡ met_of e t from m
   unfolding met_of
   met-end a b = rw (← a, b)
 
   module _ {x : Cut} {start end : ℕ} {g : Group} {b : Bool} (next : x ≡ next_of t from) (is : x ≡ cut.Group start end) (bytes : g ≡ bytes_of t start end)
       (asked : b ≡ belongs q o c k g) where
-    pub met-joined : {r : Met} → b ≡ true → r ≡ met_move o start end (Joins (after_probable o)) → r ≡ met_of e t from m
+    pub met-joined : {r : Option Step} → b ≡ true → r ≡ met_move o start end (Joins (after_probable o)) → r ≡ met_of e t from m
     unfolding met_of
     met-joined joins made = rw (← next, is, ← bytes, move-so e q o c k g, ← asked, joins) made
 
-    pub met-turn : {w : Part} {u v : Turn} {r : Met} → b ≡ false → w ≡ row_of q o → u ≡ turn_in e w c k g → u ≡ v
+    pub met-turn : {w : Part} {u v : Turn} {r : Option Step} → b ≡ false → w ≡ row_of q o → u ≡ turn_in e w c k g → u ≡ v
         → r ≡ met_move o start end (move_by (word_move e) (row e (row_of q o)) g v) → r ≡ met_of e t from m
     unfolding met_of
     met-turn {v = v} alone held turned known made =
@@ -88,13 +86,13 @@ module _ (e : Edition) (t : List ℕ) (from q : ℕ) (o : Opening) (c k : ℕ) w
     pub follows : Follows t from x.start x.end
     pub few : x.parts ≤ 1
     pub found : (p : ℕ) (s : Spot) → (eqb p (q + x.parts) && same_spot s x.spot) ≡ true
-        → source.Group x.start x.end ≡ looked (move_on (route e)) p s t m from
+        → Some (source_at x.start x.end) ≡ looked (move_on (route e)) p s t m from
     pub on : (p : ℕ) (s : Spot) → (eqb p (q + x.parts) && same_spot s x.spot) ≡ false
         → looked (move_on (route e)) p s t (mark_at (q + x.parts) x.opener x.place x.count) x.end ≡ looked (move_on (route e)) p s t m from
 
-  abbrev MetSo : Met → Type 0
-  MetSo met.Over = (p : ℕ) (s : Spot) → source.None ≡ looked (move_on (route e)) p s t m from
-  MetSo (met.Group x) = Stepped x
+  abbrev MetSo : Option Step → Type 0
+  MetSo None = (p : ℕ) (s : Spot) → None ≡ looked (move_on (route e)) p s t m from
+  MetSo (Some x) = Stepped x
 
   none : q + 0 ≡ q
   none = omega arith
@@ -131,8 +129,8 @@ module _ (e : Edition) (t : List ℕ) (from q : ℕ) (o : Opening) (c k : ℕ) w
       go (cut.End at) is = λ p s. looked-over (move_on (route e)) p s t m from (when-end t from at (sym is))
       go (cut.Group start end) is = by_move start end (when-group t from start end (sym is)) (move_on (route e) m (bytes_of t start end)) refl
 
-  pub was-over : {x : Met} → x ≡ met_of e t from m → x ≡ met.Over → (p : ℕ) (s : Spot) → source.None ≡ looked (move_on (route e)) p s t m from
+  pub was-over : {x : Option Step} → x ≡ met_of e t from m → x ≡ None → (p : ℕ) (s : Spot) → None ≡ looked (move_on (route e)) p s t m from
   was-over a b = subst MetSo (sym a ∙ b) met-so
 
-  pub was-step : {x : Met} {s : Step} → x ≡ met_of e t from m → x ≡ met.Group s → Stepped s
+  pub was-step : {x : Option Step} {s : Step} → x ≡ met_of e t from m → x ≡ Some s → Stepped s
   was-step a b = subst MetSo (sym a ∙ b) met-so

@@ -1,13 +1,12 @@
 -- What a change word opens: a change of which nothing more is known than, under FM, when it begins.
 -- Assumes nothing.
+use Rattle.std.specs.Prelude.{Ok, Option, Some}
 use Prim.Native.Nat.{ℕ}
 use mathlib.Core.Path.{◌≡◌, refl}
 use mathlib.Core.Bool.{Bool, true, false, cond, ◌&&◌, false≢true}
 use Rattle.figures.specs.Figures.{field_at}
-use Rattle.places.specs.Engine.{Group, Good}
+use Rattle.places.specs.Engine.{Group}
 use Rattle.places.specs.Parts.{Begun}
-use Rattle.record.specs.declared.values.Number.{Number}
-use Rattle.record.specs.declared.values.Number.TheVariants as number
 use Rattle.record.specs.declared.aerodrome.Opening.{Opening}
 use Rattle.record.specs.declared.aerodrome.Opening.TheVariants as opening
 use Rattle.record.specs.declared.aerodrome.Leg.{Leg}
@@ -26,7 +25,7 @@ pub data OpenedSo : Opening → Leg → Type 0 where
   becoming : OpenedSo opening.Becoming blank_leg
   temporary : OpenedSo opening.Temporary blank_leg
   probable : {n : ℕ} → OpenedSo (opening.Probable n) blank_leg
-  from : {d : Number} {h m : ℕ} → OpenedSo opening.From (set_period (record { from = record { day = d; hour = number.Is h; minute = number.Is m }; to = blank_instant }) blank_leg)
+  from : {d : Option ℕ} {h m : ℕ} → OpenedSo opening.From (set_period (record { from = record { day = d; hour = Some h; minute = Some m }; to = blank_instant }) blank_leg)
 
 opens-so : (e : Edition) (g : Group) → Reads (λ (b : Begun Opening Leg). OpenedSo b.kind b.start) (opened_by e g)
 unfolding opened_by
@@ -40,7 +39,7 @@ opens-so e g =
     timed edition.Of2005 = reads-figured (field_at g 2 2) (λ h. reads-figured (field_at g 4 2) (λ m. reads-provided (is_hour h && is_minute m) (value from)))
 
 -- WHAT A WORD OPENS
-pub opened-so : (e : Edition) (g : Group) (w : Opening) (p : Leg) → opened_by e g ≡ Good (record { kind = w; start = p }) → OpenedSo w p
+pub opened-so : (e : Edition) (g : Group) (w : Opening) (p : Leg) → opened_by e g ≡ Ok (record { kind = w; start = p }) → OpenedSo w p
 opened-so e g w p is = reads_so (opens-so e g) is
 
 -- TEMPO belongs to PROB alone, and to it once

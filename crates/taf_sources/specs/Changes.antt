@@ -1,8 +1,8 @@
 -- THE ITEMS OF A TAF'S CHANGE GROUPS: of part q, 1 to 16, which the q-th change word opened. Where each stands in the record, at which place of the row its
 -- group is taken, and what the definition of that group says of its bytes.
 -- Assumes nothing: these are definitions.
-use Rattle.std.specs.Prelude.{ℕ, ◌-◌, ◌≡◌, Bool, true, false, cond, get_or}
-use Rattle.places.specs.Engine.{Group, Good}
+use Rattle.std.specs.Prelude.{ℕ, ◌-◌, ◌≡◌, Bool, true, false, cond, get_or, Ok}
+use Rattle.places.specs.Engine.{Group}
 use Rattle.record.specs.declared.aerodrome.Period.{Period}
 use Rattle.record.specs.declared.aerodrome.Opening.{Opening}
 use Rattle.record.specs.declared.aerodrome.Opening.TheVariants as opening
@@ -66,7 +66,7 @@ value_in element.Weather k c = weather_at k c.body
 value_in element.Clouds k c = sky_at k c.body
 
 abbrev pub Said : Edition → (e : ChangeElement) → Group → Value e → Type 0
-Said x element.Period g v = read_period (change_form x) g ≡ Good v
+Said x element.Period g v = read_period (change_form x) g ≡ Ok v
 Said x element.Wind g v = WindSaid true g v
 Said x element.Visibility g v = VisibilitySaid true g v
 Said x element.Weather g v = WeatherSaid true g v
@@ -109,7 +109,7 @@ no_word = record { opening = opening.None; begins = blank_period }
 
 -- what the word's definition says of its bytes: it opens such a change, of which no more is known than when it begins
 abbrev pub WordSaid : Edition → Group → WordItem → Type 0
-WordSaid x g v = opened_by x g ≡ Good (record { kind = v.opening; start = set_period v.begins blank_leg })
+WordSaid x g v = opened_by x g ≡ Ok (record { kind = v.opening; start = set_period v.begins blank_leg })
 
 -- TEMPO is a word: that it stands there is all it says
 pub record TempoSaid (g : Group) (v : Bool) : Type 0 where

@@ -1,8 +1,8 @@
 -- THE ITEMS OF A TAF'S MAIN PART: where each stands in the record, at which place of the row its group is taken, and what the definition of that group says of
 -- its bytes.
 -- Assumes nothing: these are definitions.
-use Rattle.std.specs.Prelude.{ℕ, ◌≡◌, Bool, true}
-use Rattle.places.specs.Engine.{Group, Good}
+use Rattle.std.specs.Prelude.{ℕ, ◌≡◌, Bool, true, Ok}
+use Rattle.places.specs.Engine.{Group}
 use Rattle.record.specs.declared.aerodrome.Correction.{Correction}
 use Rattle.record.specs.declared.aerodrome.Station.{Station}
 use Rattle.record.specs.declared.aerodrome.Instant.{Instant}
@@ -76,9 +76,9 @@ abbrev pub Said : Edition → (e : Element) → Group → Value e → Type 0
 Said x element.Name g v = word "TAF" g ≡ true
 Said x element.Correction g v = v ≡ correction_of g
 Said x element.Station g v = v ≡ station_of g
-Said x element.Time g v = read_time g ≡ Good v
+Said x element.Time g v = read_time g ≡ Ok v
 Said x element.Nil g v = v ≡ true
-Said x element.Period g v = read_period (own_form x) g ≡ Good v
+Said x element.Period g v = read_period (own_form x) g ≡ Ok v
 Said x element.Cancelled g v = v ≡ true
 Said x element.Wind g v = WindSaid true g v
 Said x element.Visibility g v = VisibilitySaid true g v

@@ -15,13 +15,6 @@ pub struct Step {
     pub end: usize,
 }
 
-// The next group, or the walk is over.
-#[derive(Clone, Copy)]
-pub enum Met {
-    Over,
-    Group(Step),
-}
-
 // An item of a TAF's main part, by the group that says it. Weather and clouds may be several.
 #[derive(Clone, Copy)]
 pub enum Element {

@@ -3,7 +3,7 @@
 
 pub mod kinds;
 
-ghost use Rattle.std.specs.Prelude.{◌≡◌};
+ghost use Rattle.std.specs.Prelude.{◌≡◌, Some};
 ghost use Rattle.record.specs.declared.aerodrome.Opening.{Opening};
 ghost use Rattle.taf.specs.Read.{after_probable};
 ghost use Rattle.sources.specs.Trail.{Joins, origin_in, source_of};
@@ -11,7 +11,7 @@ ghost use Rattle.taf_sources.specs.Items as leg;
 ghost use Rattle.taf_sources.specs.Changes as change;
 ghost use Rattle.taf_sources.specs.Trail.{word_move, trail_of, mark_at, row_of, belongs, met_move, met_of};
 
-use kinds::{ChangeElement, Element, Met, Step};
+use kinds::{ChangeElement, Element, Step};
 use places::kinds::Turn;
 use record::aerodrome::{Edition, Opening};
 use sources::is_same;
@@ -58,41 +58,40 @@ fn with_tempo(opener: Opening) -> Opening
 }
 
 // A group that belongs to the word before it, from start up to end.
-fn join(opener: Opening, start: usize, end: usize) -> Met
-    ensures { result ≡ met_move opener start end (Joins (after_probable opener)) }
+fn join(opener: Opening, start: usize, end: usize) -> Step
+    ensures { Some result ≡ met_move opener start end (Joins (after_probable opener)) }
 {
-    let both = with_tempo(opener);
-    Met::Group(Step {
+    Step {
         parts: 0,
         spot: Spot::Joined,
-        opener: both,
+        opener: with_tempo(opener),
         place: 0,
         count: 0,
         start,
         end,
-    })
+    }
 }
 
 // A change word, from start up to end, whatever opened the part before it.
-fn meet_word(edition: Edition, g: &[u8], start: usize, end: usize) -> Met
+#[tactic(auto, unfolding(crate::specs::Trail::word_move))]
+fn meet_word(edition: Edition, g: &[u8], start: usize, end: usize) -> Option<Step>
     ensures { (o : Opening) → result ≡ met_move o start end (word_move edition g.now) }
 {
-    let opened = open_change(edition, g);
-    match opened {
-        Opened::Good { opening, period: _ } => Met::Group(Step {
+    match open_change(edition, g) {
+        Ok(opened) => Some(Step {
             parts: 1,
             spot: Spot::Opening,
-            opener: opening,
+            opener: opened.opening,
             place: 0,
             count: 0,
             start,
             end,
         }),
-        Opened::Bad(_) => Met::Over,
+        Err(_) => None,
     }
 }
 
-// The next group of the text, in the part that `opener` opened.
+// The next group of the text, in the part that `opener` opened, or none where the walk is over.
 fn meet(
     edition: Edition,
     text: &[u8],
@@ -101,24 +100,23 @@ fn meet(
     opener: Opening,
     place: usize,
     count: usize,
-) -> Met
+) -> Option<Step>
     ensures { result ≡ met_of edition text.now from (mark_at part opener place count) }
 {
     let Cut::Group { start, end } = text::next_group(text, from) else {
-        return Met::Over;
+        return None;
     };
     let g = text::part(text, start, end);
     if does_belong(part, opener, place, count, g) {
-        return join(opener, start, end);
+        return Some(join(opener, start, end));
     }
-    let turn = decide(edition, row_of(part, opener), place, count, g);
-    match turn {
+    match decide(edition, row_of(part, opener), place, count, g) {
         Turn::Halt => meet_word(edition, g, start, end),
-        Turn::Refused(_) => Met::Over,
+        Turn::Refused(_) => None,
         Turn::At {
             place: there,
             count: standing,
-        } => Met::Group(Step {
+        } => Some(Step {
             parts: 0,
             spot: Spot::At {
                 place: there,
@@ -134,7 +132,7 @@ fn meet(
 }
 
 // The group that was taken at a spot of a part, in a text that is accepted as a TAF of that edition.
-pub fn find(edition: Edition, text: &[u8], part: usize, spot: Spot) -> Source
+pub fn find(edition: Edition, text: &[u8], part: usize, spot: Spot) -> Option<Source>
     ensures { result ≡ source_of (origin_in part spot (trail_of edition text.now)) }
 {
     let mut here = 0;
@@ -142,25 +140,20 @@ pub fn find(edition: Edition, text: &[u8], part: usize, spot: Spot) -> Source
     let mut place = 0;
     let mut count = 0;
     let mut from = 0;
+    // From group to group, not from byte to byte: no `for` over the text goes this way.
     loop {
-        let met = meet(edition, text, from, here, opener, place, count);
-        match met {
-            Met::Over => return Source::None,
-            Met::Group(step) => {
-                here += step.parts;
-                let there = step.spot;
-                if (part == here) & is_same(spot, there) {
-                    return Source::Group {
-                        start: step.start,
-                        end: step.end,
-                    };
-                }
-                opener = step.opener;
-                place = step.place;
-                count = step.count;
-                from = step.end;
-            }
+        let step = meet(edition, text, from, here, opener, place, count)?;
+        here += step.parts;
+        if (part == here) & is_same(spot, step.spot) {
+            return Some(Source {
+                start: step.start,
+                end: step.end,
+            });
         }
+        opener = step.opener;
+        place = step.place;
+        count = step.count;
+        from = step.end;
     }
 }
 

@@ -1,31 +1,18 @@
 -- Moments read from days, hours and minutes and written as them again, both ways, in both editions.
 -- Assumes nothing.
-use Prim.Native.Nat.{ℕ, ◌+◌, ◌-◌, ◌*◌, ◌/◌, ◌%◌, ◌≤◌, ◌<◌}
+use Prim.Native.Nat.{ℕ, ◌+◌, ◌-◌, ◌*◌, ◌≤◌, ◌<◌}
 use native.Mathlib.Omega.{arith}
-use mathlib.Core.Path.{◌≡◌, refl, sym, ap, ◌∙◌}
-use mathlib.Core.Bool.{Bool, true, false, cond}
+use mathlib.Core.Path.{◌≡◌, refl, ◌∙◌}
+use mathlib.Core.Bool.{true, false, cond}
 use mathlib.Core.Logic.{◌⊎◌, ⊎_elim, inl, inr}
 use lib.Dec.{leb, ltb, eqb}
-use borrow.Author.Tests.{leb-true, leb-false, ltb-true, ltb-false, eqb-true, eqb-false, le-leb, lt-leb, lt-ltb, le-ltb}
+use borrow.Author.Tests.{leb-true, leb-false, ltb-true, ltb-false, eqb-true, eqb-false, le-leb, lt-leb}
 use Rattle.scales.proofs.Laws.{reached}
 use Rattle.taf_times.specs.Moments.{moment, day_at, hour_at, minute_at, day_long, day_from, day_in, day_before, first_from, first_after, period_end, is_midnight, end_hour, end_day, lengthened}
 
 -- ---- what a choice by a test comes to
 
--- one by one, as a branch of the code has it
-pub at_most : (a b x y : ℕ) → a ≤ b → x ≡ cond (leb a b) x y
-at_most a b x y h = rw (le-leb a b h)
-
-pub above : (a b x y : ℕ) → b < a → y ≡ cond (leb a b) x y
-above a b x y h = rw (lt-leb a b h)
-
-pub below : (a b x y : ℕ) → a < b → x ≡ cond (ltb a b) x y
-below a b x y h = rw (lt-ltb a b h)
-
-pub at_least : (a b x y : ℕ) → b ≤ a → y ≡ cond (ltb a b) x y
-at_least a b x y h = rw (le-ltb a b h)
-
--- or both at once
+-- both branches at once
 by-leb : (a b x y : ℕ) → ((a ≤ b) × (cond (leb a b) x y ≡ x)) ⊎ ((b < a) × (cond (leb a b) x y ≡ y))
 by-leb a b x y =
     elim (leb a b) as (λ t. leb a b ≡ t → ((a ≤ b) × (cond t x y ≡ x)) ⊎ ((b < a) × (cond t x y ≡ y)))

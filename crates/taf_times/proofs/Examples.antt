@@ -1,10 +1,10 @@
 -- Worked examples of the move, those of the rulings on No. 9: what a period and a change's times become, and whether they fit.
 -- Assumes nothing.
+use Rattle.std.specs.Prelude.{None, Some}
 use Prim.Native.Nat.{ℕ}
 use mathlib.Core.Path.{◌≡◌, refl}
 use mathlib.Core.Bool.{Bool, true, false}
 use mathlib.Core.List.{List, [], ◌∷◌, map}
-use Rattle.record.specs.declared.values.Number.TheVariants as number
 use Rattle.record.specs.declared.aerodrome.Period.{Period}
 use Rattle.record.specs.declared.aerodrome.Edition.{Edition}
 use Rattle.record.specs.declared.aerodrome.Edition.TheVariants as edition
@@ -15,13 +15,13 @@ use Rattle.taf_times.proofs.Kept.{hours, time}
 
 -- YYGG/YYGG, Y1Y1G1G1G2G2 and GGGeGe
 abbrev present : ℕ → ℕ → ℕ → ℕ → Period
-present d h e k = hours (number.Is d) h (number.Is e) k
+present d h e k = hours (Some d) h (Some e) k
 
 abbrev old : ℕ → ℕ → ℕ → Period
-old d h g = hours (number.Is d) h number.Missing g
+old d h g = hours (Some d) h None g
 
 abbrev undated : ℕ → ℕ → Period
-undated h k = hours number.Missing h number.Missing k
+undated h k = hours None h None k
 
 -- ---- the report's period
 
@@ -75,8 +75,8 @@ abbrev changes : List ChangeMove
 changes =
     changing (to_present 31 (old 31 12 12) (present 31 12 1 12)) false (undated 12 12) (present 31 12 1 12)
     ∷ changing (to_present 31 (old 1 0 24) (present 1 0 1 24)) false (undated 22 24) (present 1 22 1 24)
-    ∷ changing (to_present 31 (old 1 23 6) (present 1 23 2 6)) true (time number.Missing 0 0) (time (number.Is 2) 0 0)
-    ∷ changing (to_present 31 (old 1 12 12) (present 1 12 2 12)) true (time number.Missing 11 59) (time (number.Is 2) 11 59)
+    ∷ changing (to_present 31 (old 1 23 6) (present 1 23 2 6)) true (time None 0 0) (time (Some 2) 0 0)
+    ∷ changing (to_present 31 (old 1 12 12) (present 1 12 2 12)) true (time None 11 59) (time (Some 2) 11 59)
     ∷ changing (to2005 28 (present 28 12 1 12) (old 28 12 12)) false (present 28 22 1 2) (undated 22 2)
     ∷ changing (to2005 31 (present 1 12 2 6) (old 1 12 6)) false (present 1 22 2 0) (undated 22 24)
     ∷ []
@@ -130,14 +130,14 @@ holds e p f c b = record { in-edition = e; period = p; under_from = f; times = c
 -- 9.9, 9.11, 9.12, 9.13, with 31 days
 abbrev within : List Held
 within =
-    holds edition.Present (present 15 12 16 12) true (time (number.Is 14) 13 0) false
-    ∷ holds edition.Present (present 15 12 16 12) true (time (number.Is 15) 11 0) false
-    ∷ holds edition.Present (present 1 12 2 12) true (time (number.Is 2) 12 0) false
+    holds edition.Present (present 15 12 16 12) true (time (Some 14) 13 0) false
+    ∷ holds edition.Present (present 15 12 16 12) true (time (Some 15) 11 0) false
+    ∷ holds edition.Present (present 1 12 2 12) true (time (Some 2) 12 0) false
     ∷ holds edition.Present (present 1 12 2 12) false (present 1 13 1 13) false
     ∷ holds edition.Present (present 1 12 2 12) false (present 1 12 2 12) true
     ∷ holds edition.Of2005 (old 1 12 18) false (undated 12 12) false
     ∷ holds edition.Of2005 (old 1 12 12) false (undated 12 12) true
-    ∷ holds edition.Of2005 (old 1 12 18) true (time number.Missing 11 59) false
+    ∷ holds edition.Of2005 (old 1 12 18) true (time None 11 59) false
     ∷ []
 
 abbrev held_by : Held → Bool

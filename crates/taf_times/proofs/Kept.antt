@@ -1,50 +1,48 @@
 -- Moments named in an edition are the moments that were named, and a period read as moments is named again as it was, but that hour 00 at an end becomes 24 of
 -- the day before. Each once for the report's period and once for a change, in either edition.
 -- Assumes nothing.
-use Prim.Native.Nat.{ℕ, ◌+◌, ◌-◌, ◌*◌, ◌≤◌, ◌<◌}
+use Rattle.std.specs.Prelude.{None, Option, Some}
+use Prim.Native.Nat.{ℕ, ◌+◌, ◌*◌, ◌≤◌, ◌<◌}
 use native.Mathlib.Omega.{arith}
-use mathlib.Core.Path.{◌≡◌, refl, sym, ap, ◌∙◌}
+use mathlib.Core.Path.{◌≡◌, refl, sym, ◌∙◌}
 use mathlib.Core.Bool.{Bool, true, false, cond}
 use lib.Dec.{leb, eqb}
 use borrow.Author.Tests.{le-leb, ne_eqb}
-use Rattle.record.specs.declared.values.Number.{Number}
-use Rattle.record.specs.declared.values.Number.TheVariants as number
 use Rattle.record.specs.declared.aerodrome.Instant.{Instant}
 use Rattle.record.specs.declared.aerodrome.Period.{Period}
-use Rattle.record.specs.declared.aerodrome.Opening.{Opening}
 use Rattle.record.specs.declared.aerodrome.Edition.{Edition}
 use Rattle.record.specs.declared.aerodrome.Edition.TheVariants as edition
 use Rattle.record.specs.Taf.{blank_instant}
 use Rattle.taf_times.specs.declared.kinds.Span.{Span}
 use Rattle.taf_times.specs.Moments.{moment, day_at, hour_at, minute_at, day_long, day_from, day_in, day_before, first_from, first_after, period_end, end_hour, end_day, lengthened}
-use Rattle.taf_times.specs.Times.{two_figures, is_from, dated, period_begins, period_ends, period_span, change_begins, change_ends, change_span, time_at, begin_at, end_at, end_after, in_edition, end_in, period_in, change_in}
+use Rattle.taf_times.specs.Times.{two_figures, dated, period_ends, period_span, change_span, time_at, begin_at, end_at, end_after, end_in, period_in, change_in}
 use Rattle.taf_times.specs.Midnight.{end_before, period_before}
 use Rattle.taf_times.proofs.Arithmetic.{InMonth}
 use Rattle.taf_times.proofs.Arithmetic as moments
 
 -- ---- what the writer takes, of days that are in the month
 
-abbrev pub hour : Number → Number → Instant
-hour d h = record { day = d; hour = h; minute = number.Missing }
+abbrev pub hour : Option ℕ → Option ℕ → Instant
+hour d h = record { day = d; hour = h; minute = None }
 
-abbrev pub hours : Number → ℕ → Number → ℕ → Period
-hours d h e k = record { from = hour d (number.Is h); to = hour e (number.Is k) }
+abbrev pub hours : Option ℕ → ℕ → Option ℕ → ℕ → Period
+hours d h e k = record { from = hour d (Some h); to = hour e (Some k) }
 
-abbrev pub time : Number → ℕ → ℕ → Period
-time d h m = record { from = record { day = d; hour = number.Is h; minute = number.Is m }; to = blank_instant }
+abbrev pub time : Option ℕ → ℕ → ℕ → Period
+time d h m = record { from = record { day = d; hour = Some h; minute = Some m }; to = blank_instant }
 
 -- the report's period: G2 is 1 to 24, or 51 to 74
 pub data Timed (days : ℕ) : Edition → Period → Type 0 where
-  present : (d h e k : ℕ) → InMonth days d → h ≤ 23 → InMonth days e → k ≤ 24 → Timed days edition.Present (hours (number.Is d) h (number.Is e) k)
-  one_day : (d h g : ℕ) → InMonth days d → h ≤ 23 → 1 ≤ g → g ≤ 24 → Timed days edition.Of2005 (hours (number.Is d) h number.Missing g)
-  two_days : (d h g : ℕ) → InMonth days d → h ≤ 23 → 51 ≤ g → g ≤ 74 → Timed days edition.Of2005 (hours (number.Is d) h number.Missing g)
+  present : (d h e k : ℕ) → InMonth days d → h ≤ 23 → InMonth days e → k ≤ 24 → Timed days edition.Present (hours (Some d) h (Some e) k)
+  one_day : (d h g : ℕ) → InMonth days d → h ≤ 23 → 1 ≤ g → g ≤ 24 → Timed days edition.Of2005 (hours (Some d) h None g)
+  two_days : (d h g : ℕ) → InMonth days d → h ≤ 23 → 51 ≤ g → g ≤ 74 → Timed days edition.Of2005 (hours (Some d) h None g)
 
 -- a change's: a time under FM, else a period
 pub data TimedChange (days : ℕ) : Edition → Bool → Period → Type 0 where
-  present : (d h e k : ℕ) → InMonth days d → h ≤ 23 → InMonth days e → k ≤ 24 → TimedChange days edition.Present false (hours (number.Is d) h (number.Is e) k)
-  present_from : (d h m : ℕ) → InMonth days d → h ≤ 23 → m ≤ 59 → TimedChange days edition.Present true (time (number.Is d) h m)
-  old : (h k : ℕ) → h ≤ 23 → 1 ≤ k → k ≤ 24 → TimedChange days edition.Of2005 false (hours number.Missing h number.Missing k)
-  old_from : (h m : ℕ) → h ≤ 23 → m ≤ 59 → TimedChange days edition.Of2005 true (time number.Missing h m)
+  present : (d h e k : ℕ) → InMonth days d → h ≤ 23 → InMonth days e → k ≤ 24 → TimedChange days edition.Present false (hours (Some d) h (Some e) k)
+  present_from : (d h m : ℕ) → InMonth days d → h ≤ 23 → m ≤ 59 → TimedChange days edition.Present true (time (Some d) h m)
+  old : (h k : ℕ) → h ≤ 23 → 1 ≤ k → k ≤ 24 → TimedChange days edition.Of2005 false (hours None h None k)
+  old_from : (h m : ℕ) → h ≤ 23 → m ≤ 59 → TimedChange days edition.Of2005 true (time None h m)
 
 -- ---- moments that can be named in either edition
 
@@ -67,17 +65,17 @@ pub record Within (w : Span) (f : Bool) (s : Span) : Type 0 where
   pub ends : minute_at s.to ≡ 0
   pub whole : cond f s.to w.to ≡ w.to
 
-figures : (n : ℕ) → n ≤ 99 → two_figures (number.Is n) ≡ n
+figures : (n : ℕ) → n ≤ 99 → two_figures (Some n) ≡ n
 figures n h = rw (le-leb n 99 h)
 
 -- ---- the report's period
 
 module _ (days : ℕ) (long : 28 ≤ days) (few : days ≤ 31) where
-  dated-hour : (start d h : ℕ) → InMonth days d → h ≤ 24 → dated days start (hour (number.Is d) (number.Is h)) ≡ moment (day_from days start d) h 0
+  dated-hour : (start d h : ℕ) → InMonth days d → h ≤ 24 → dated days start (hour (Some d) (Some h)) ≡ moment (day_from days start d) h 0
   unfolding dated
   dated-hour start d h m u = rw (figures d (omega (arith, m.last)), figures h (omega arith))
 
-  dated-time : (start d h m : ℕ) → InMonth days d → h ≤ 23 → m ≤ 59 → dated days start (time (number.Is d) h m).from ≡ moment (day_from days start d) h m
+  dated-time : (start d h m : ℕ) → InMonth days d → h ≤ 23 → m ≤ 59 → dated days start (time (Some d) h m).from ≡ moment (day_from days start d) h m
   unfolding dated
   dated-time start d h m i u v = rw (figures d (omega (arith, i.last)), figures h (omega arith), figures m (omega arith))
 
@@ -108,10 +106,10 @@ module _ (days : ℕ) (long : 28 ≤ days) (few : days ≤ 31) where
         ∙ moments.end_kept days w.from t long v.day.first v.day.last near a z
 
   module _ (w : Span) (v : Whole days w) where
-    start_is : two_figures (number.Is (day_in days (day_at w.from))) ≡ day_at w.from
+    start_is : two_figures (Some (day_in days (day_at w.from))) ≡ day_at w.from
     start_is = rw (moments.day-stays days (day_at w.from) v.day.last) (figures (day_at w.from) (omega (arith, v.day.last)))
 
-    begins-kept : dated days (two_figures (number.Is (day_in days (day_at w.from)))) (begin_at days w.from) ≡ w.from
+    begins-kept : dated days (two_figures (Some (day_in days (day_at w.from)))) (begin_at days w.from) ≡ w.from
     begins-kept = rw start_is (begin-dated w v w.from (omega arith) (omega arith) v.begins)
 
     ends-kept : (e : Edition) → period_ends e days (record { from = begin_at days w.from; to = end_in e days w }) ≡ w.to
@@ -137,18 +135,18 @@ module _ (days : ℕ) (long : 28 ≤ days) (few : days ≤ 31) where
         let m = near-day w v w.from (omega arith) (omega arith) in
         let k = end_hour w.to in
         let r = moments.end-hour-range w.to in
-        elim (leb w.to (w.from + day_long)) as (λ b. Timed days edition.Of2005 (hours (number.Is d) (hour_at w.from) number.Missing (cond b k (k + 50))))
+        elim (leb w.to (w.from + day_long)) as (λ b. Timed days edition.Of2005 (hours (Some d) (hour_at w.from) None (cond b k (k + 50))))
         [ true ↦ one_day d (hour_at w.from) k m (omega arith) r.0 r.1 | false ↦ two_days d (hour_at w.from) (k + 50) m (omega arith) (omega (arith, r.0)) (omega (arith, r.1)) ]
 
   -- the other way: named again as it was
-  begin-again : (start d h : ℕ) → InMonth days d → h ≤ 23 → begin_at days (dated days start (hour (number.Is d) (number.Is h))) ≡ hour (number.Is d) (number.Is h)
+  begin-again : (start d h : ℕ) → InMonth days d → h ≤ 23 → begin_at days (dated days start (hour (Some d) (Some h))) ≡ hour (Some d) (Some h)
   begin-again start d h m u =
       let n = day_from days start d in
       let a : day_at (moment n h 0) ≡ n = omega arith in
       let b : hour_at (moment n h 0) ≡ h = omega arith in
       rw (dated-hour start d h m (omega arith), a, b, moments.day-again days start d m.first m.last)
 
-  time-again : (start d h g : ℕ) → InMonth days d → h ≤ 23 → g ≤ 59 → time_at days (dated days start (time (number.Is d) h g).from) ≡ (time (number.Is d) h g).from
+  time-again : (start d h g : ℕ) → InMonth days d → h ≤ 23 → g ≤ 59 → time_at days (dated days start (time (Some d) h g).from) ≡ (time (Some d) h g).from
   time-again start d h g m u v =
       let n = day_from days start d in
       let a : day_at (moment n h g) ≡ n = omega arith in
@@ -156,34 +154,34 @@ module _ (days : ℕ) (long : 28 ≤ days) (few : days ≤ 31) where
       let c : minute_at (moment n h g) ≡ g = omega arith in
       rw (dated-time start d h g m u v, a, b, c, moments.day-again days start d m.first m.last)
 
-  end-again : (start e k : ℕ) → InMonth days e → k ≤ 24 → end_at days (dated days start (hour (number.Is e) (number.Is k))) ≡ end_before days (hour (number.Is e) (number.Is k))
+  end-again : (start e k : ℕ) → InMonth days e → k ≤ 24 → end_at days (dated days start (hour (Some e) (Some k))) ≡ end_before days (hour (Some e) (Some k))
   end-again start e k m u =
       rw (dated-hour start e k m u, moments.end-day-again days start e m.first m.last k u, moments.end-hour-again (day_from days start e) k u)
-      (elim (eqb k 0) as (λ b. ◌≡◌ {A = Instant} (hour (number.Is (cond b (day_before days e) e)) (number.Is (cond b 24 k))) (cond b (hour (number.Is (day_before days e)) (number.Is 24)) (hour (number.Is e) (number.Is k)))) [ true ↦ refl | false ↦ refl ])
+      (elim (eqb k 0) as (λ b. ◌≡◌ {A = Instant} (hour (Some (cond b (day_before days e) e)) (Some (cond b 24 k))) (cond b (hour (Some (day_before days e)) (Some 24)) (hour (Some e) (Some k)))) [ true ↦ refl | false ↦ refl ])
 
   -- an end without a day is not at hour 00
-  end_stays : (k : ℕ) → 1 ≤ k → hour number.Missing (number.Is k) ≡ end_before days (hour number.Missing (number.Is k))
+  end_stays : (k : ℕ) → 1 ≤ k → hour None (Some k) ≡ end_before days (hour None (Some k))
   end_stays k a = rw (ne_eqb k 0 (λ z. omega arith))
 
   after-again : (s g : ℕ) → 1 ≤ g → g ≤ 99 → moments.Ending s g (period_end s g)
-      → end_after (record { from = s; to = period_end s (two_figures (number.Is g)) }) ≡ end_before days (hour number.Missing (number.Is g))
+      → end_after (record { from = s; to = period_end s (two_figures (Some g)) }) ≡ end_before days (hour None (Some g))
   after-again s g a b r = rw (figures g b, r.hour) (end_stays g a)
 
   -- A PERIOD IS NAMED AGAIN AS IT WAS, but for hour 00 at its end.
   pub period-again : {e : Edition} {p : Period} → Timed days e p → period_in e days (period_span e days p) ≡ period_before days p
   unfolding period_in period_span
-  period-again (present d h e k m u n v) = let start = two_figures (number.Is d) in λ i. record { from = begin-again start d h m u i; to = end-again start e k n v i }
+  period-again (present d h e k m u n v) = let start = two_figures (Some d) in λ i. record { from = begin-again start d h m u i; to = end-again start e k n v i }
   period-again (one_day d h g m u a b) =
-      let start = two_figures (number.Is d) in
-      let s = dated days start (hour (number.Is d) (number.Is h)) in
+      let start = two_figures (Some d) in
+      let s = dated days start (hour (Some d) (Some h)) in
       λ i. record { from = begin-again start d h m u i; to = after-again s g a (omega arith) (moments.ending-short s g a b) i }
   period-again (two_days d h g m u a b) =
-      let start = two_figures (number.Is d) in
-      let s = dated days start (hour (number.Is d) (number.Is h)) in
+      let start = two_figures (Some d) in
+      let s = dated days start (hour (Some d) (Some h)) in
       λ i. record { from = begin-again start d h m u i; to = after-again s g (omega arith) (omega arith) (moments.ending-long s g a b) i }
 
   -- and it names moments of a report
-  begins-is : (d h : ℕ) → InMonth days d → h ≤ 23 → dated days (two_figures (number.Is d)) (hour (number.Is d) (number.Is h)) ≡ moment d h 0
+  begins-is : (d h : ℕ) → InMonth days d → h ≤ 23 → dated days (two_figures (Some d)) (hour (Some d) (Some h)) ≡ moment d h 0
   begins-is d h m u = rw (figures d (omega (arith, m.last)), dated-hour d d h m (omega arith), moments.start-stays days d)
 
   whole_of : (d h : ℕ) (w : Span) → InMonth days d → h ≤ 23 → w.from ≡ moment d h 0 → minute_at w.to ≡ 0 → w.from < w.to → w.to ≤ w.from + 2 * day_long → Whole days w
@@ -194,13 +192,13 @@ module _ (days : ℕ) (long : 28 ≤ days) (few : days ≤ 31) where
   pub period-whole : {e : Edition} {p : Period} → Timed days e p → let w = period_span e days p in w.from < w.to → w.to ≤ w.from + 2 * day_long → Whole days w
   unfolding period_span
   period-whole (present d h e k m u n v) a b =
-      let start = two_figures (number.Is d) in
+      let start = two_figures (Some d) in
       let z : minute_at (moment (day_from days start e) k 0) ≡ 0 = omega arith in
       whole_of d h _ m u (begins-is d h m u) (rw (dated-hour start e k n v) z) a b
   period-whole (one_day d h g m u x y) a b =
-      whole_of d h _ m u (begins-is d h m u) (rw (figures g (omega arith)) (moments.ending-short (dated days (two_figures (number.Is d)) (hour (number.Is d) (number.Is h))) g x y).minute) a b
+      whole_of d h _ m u (begins-is d h m u) (rw (figures g (omega arith)) (moments.ending-short (dated days (two_figures (Some d)) (hour (Some d) (Some h))) g x y).minute) a b
   period-whole (two_days d h g m u x y) a b =
-      whole_of d h _ m u (begins-is d h m u) (rw (figures g (omega arith)) (moments.ending-long (dated days (two_figures (number.Is d)) (hour (number.Is d) (number.Is h))) g x y).minute) a b
+      whole_of d h _ m u (begins-is d h m u) (rw (figures g (omega arith)) (moments.ending-long (dated days (two_figures (Some d)) (hour (Some d) (Some h))) g x y).minute) a b
 
   -- ---- a change
 
@@ -209,7 +207,7 @@ module _ (days : ℕ) (long : 28 ≤ days) (few : days ≤ 31) where
       near : {f : Bool} → Within w f s → s.to ≤ w.from + 2 * day_long
       near r = omega (arith, r.short, r.most)
 
-      from_named : {f : Bool} → Within w f s → first_from w.from (two_figures (number.Is (hour_at s.from))) (two_figures (number.Is (minute_at s.from))) ≡ s.from
+      from_named : {f : Bool} → Within w f s → first_from w.from (two_figures (Some (hour_at s.from))) (two_figures (Some (minute_at s.from))) ≡ s.from
       from_named r =
           rw (figures (hour_at s.from) (omega arith), figures (minute_at s.from) (omega arith))
           (moments.from-kept w.from s.from r.least (omega (arith, r.short, r.before)))
@@ -226,10 +224,10 @@ module _ (days : ℕ) (long : 28 ≤ days) (few : days ≤ 31) where
           }
       change-kept edition.Of2005 true r = λ i. record { from = from_named r i; to = sym r.whole i }
       change-kept edition.Of2005 false r =
-          let from : first_from w.from (two_figures (number.Is (hour_at s.from))) 0 ≡ s.from = rw r.begins at (from_named r) in
-          let k : two_figures (number.Is (end_hour s.to)) ≡ end_hour s.to = figures (end_hour s.to) (omega (arith, (moments.end-hour-range s.to).1)) in
+          let from : first_from w.from (two_figures (Some (hour_at s.from))) 0 ≡ s.from = rw r.begins at (from_named r) in
+          let k : two_figures (Some (end_hour s.to)) ≡ end_hour s.to = figures (end_hour s.to) (omega (arith, (moments.end-hour-range s.to).1)) in
           let to : first_after s.from (end_hour s.to) ≡ s.to = moments.after_kept s.from s.to r.lasts (omega (arith, r.least, r.most, r.short)) r.ends in
-          let to_named : first_after (first_from w.from (two_figures (number.Is (hour_at s.from))) 0) (two_figures (number.Is (end_hour s.to))) ≡ s.to = rw (from, k) to in
+          let to_named : first_after (first_from w.from (two_figures (Some (hour_at s.from))) 0) (two_figures (Some (end_hour s.to))) ≡ s.to = rw (from, k) to in
           λ i. record { from = from i; to = to_named i }
 
       pub change-timed : (e : Edition) (f : Bool) → Within w f s → TimedChange days e f (change_in e days f s)
@@ -250,7 +248,7 @@ module _ (days : ℕ) (long : 28 ≤ days) (few : days ≤ 31) where
   change-again w (old h k u a b) =
       let f = moments.from-read w.from h 0 u (omega arith) in
       let t = moments.after_read (first_from w.from h 0) k a b in
-      rw (figures h (omega arith), figures k (omega arith), f.hour, t.hour) (λ i. record { from = hour number.Missing (number.Is h); to = end_stays k a i })
+      rw (figures h (omega arith), figures k (omega arith), f.hour, t.hour) (λ i. record { from = hour None (Some h); to = end_stays k a i })
   change-again w (old_from h m u v) =
       let f = moments.from-read w.from h m u v in
       rw (figures h (omega arith), figures m (omega arith), f.hour, f.minute)
@@ -266,7 +264,7 @@ module _ (days : ℕ) (long : 28 ≤ days) (few : days ≤ 31) where
       record { short = x; least = a; before = b; lasts = c; most = g; begins = rw (dated-hour start d h m (omega arith)) i; ends = rw (dated-hour start e k n y) j; whole = refl }
   change-within w v (present_from d h q m u y) x a b c g = record { short = x; least = a; before = b; lasts = c; most = g; begins = refl; ends = v.ends; whole = refl }
   change-within w v (old h k u y z) x a b c g =
-      let f : minute_at (first_from w.from (two_figures (number.Is h)) 0) ≡ 0 = rw (figures h (omega arith)) (moments.from-read w.from h 0 u (omega arith)).minute in
-      let t : minute_at (first_after (first_from w.from (two_figures (number.Is h)) 0) (two_figures (number.Is k))) ≡ 0 = rw (figures k (omega arith)) (moments.after_read (first_from w.from (two_figures (number.Is h)) 0) k y z).minute in
+      let f : minute_at (first_from w.from (two_figures (Some h)) 0) ≡ 0 = rw (figures h (omega arith)) (moments.from-read w.from h 0 u (omega arith)).minute in
+      let t : minute_at (first_after (first_from w.from (two_figures (Some h)) 0) (two_figures (Some k))) ≡ 0 = rw (figures k (omega arith)) (moments.after_read (first_from w.from (two_figures (Some h)) 0) k y z).minute in
       record { short = x; least = a; before = b; lasts = c; most = g; begins = f; ends = t; whole = refl }
   change-within w v (old_from h m u y) x a b c g = record { short = x; least = a; before = b; lasts = c; most = g; begins = refl; ends = v.ends; whole = refl }

@@ -1,22 +1,22 @@
 -- A TAF whose times are moved: its moments stay, what comes is a TAF that can be moved, and moved back it is what it was, but that hour 00 at an end is 24 of
 -- the day before.
 -- Assumes nothing.
-use Prim.Native.Nat.{ℕ, suc, ◌+◌, ◌-◌, ◌*◌, ◌≤◌, ◌<◌}
+use Rattle.std.specs.Prelude.{Err, Ok, Result, ⊤}
+use Prim.Native.Nat.{ℕ, ◌+◌, ◌*◌, ◌≤◌}
 use native.Mathlib.Omega.{arith}
-use mathlib.Core.Path.{◌≡◌, refl, sym, ap, ◌∙◌}
-use mathlib.Core.Bool.{Bool, true, false, cond, ◌&&◌, ◌||◌, false≢true}
+use mathlib.Core.Path.{◌≡◌, refl, sym, ◌∙◌}
+use mathlib.Core.Bool.{Bool, true, false, cond, ◌||◌}
 use mathlib.Core.List.{List, [], ◌∷◌, ◌++◌, map}
-use lib.ListN.{length, take, drop, length-map, take-append-drop}
-use lib.Dec.{leb, ltb, eqb}
+use lib.ListN.{length, drop, length-map, take-append-drop}
+use lib.Dec.{leb, eqb}
 use borrow.Author.Tests.{leb-true, ltb-true, le-leb, lt-ltb, ne_eqb}
 use Rattle.figures.specs.Figures.{every}
 use Rattle.shapes.proofs.Patterns.{both}
 use Rattle.figures.proofs.Impossible.{impossible}
+use Rattle.text.specs.declared.kinds.Refusal.{Refusal}
 use Rattle.text.specs.declared.kinds.Refusal.TheVariants as refusal
-use Rattle.text.specs.declared.kinds.Judged.TheVariants as judged
-use Rattle.text.specs.Judge.{judge, and_then}
+use Rattle.text.specs.Judge.{judge}
 use Rattle.text.proofs.Judging.{fine, and-then}
-use Rattle.record.specs.declared.values.Number.TheVariants as number
 use Rattle.record.specs.declared.aerodrome.Period.{Period}
 use Rattle.record.specs.declared.aerodrome.Edition.{Edition}
 use Rattle.record.specs.declared.aerodrome.Edition.TheVariants as edition
@@ -24,14 +24,12 @@ use Rattle.record.specs.declared.aerodrome.Change.{Change}
 use Rattle.record.specs.declared.aerodrome.Taf.{Taf}
 use Rattle.record.specs.Taf.{set_period, blank_period}
 use Rattle.record.specs.Arrays.{Each}
-use Rattle.record.specs.Missing.{between, optional}
 use Rattle.record.proofs.Counted.{taken, dropped}
 use Rattle.taf_times.specs.declared.kinds.Span.{Span}
 use Rattle.taf_times.specs.Moments.{day_long}
-use Rattle.taf_times.specs.Times.{is_from, period_span, change_span, period_in, change_in}
+use Rattle.taf_times.specs.Times.{is_from, period_in, change_in}
 use Rattle.taf_times.specs.Move.{counted, moments_of, days_in, month_fits, whole_fits, span_fits, whole_of, change_of, times_fit, judge_times, moved_leg, moved_change, moved_changes, times_in}
 use Rattle.taf_times.specs.Midnight.{period_before, change_before, midnights_before}
-use Rattle.taf_times.proofs.Arithmetic.{InMonth}
 use Rattle.taf_times.proofs.Kept.{Timed, TimedChange, Whole, Within, period-kept, period-timed, period-again, period-whole, change-kept, change-timed, change-again, change-within}
 use Rattle.taf_times.proofs.Kept as kept
 
@@ -76,7 +74,7 @@ span-test {w} {s = s} r = rw (lt-ltb s.from s.to r.lasts, le-leb w.from s.from r
 
 module _ (days : ℕ) (long : 28 ≤ days) (few : days ≤ 31) where
   -- IT IS JUDGED FINE.
-  pub fit-judged : (t : Taf) → Fit days t → judge_times days t ≡ judged.Fine
+  pub fit-judged : (t : Taf) → Fit days t → judge_times days t ≡ Ok tt
   unfolding judge_times month_fits times_fit
   fit-judged t f =
       rw (
@@ -211,7 +209,7 @@ module _ (days : ℕ) (t : Taf) (nil : t.leg.nil ≡ true) (none : t.changes.cou
   unfolding times_in moved_leg moved_changes
   silent-comes = rw (nil, none)
 
-  silent-judged : judge_times days t ≡ judged.Fine → judge_times days (record { edition = to; leg = t.leg; changes = t.changes }) ≡ judged.Fine
+  silent-judged : judge_times days t ≡ Ok tt → judge_times days (record { edition = to; leg = t.leg; changes = t.changes }) ≡ Ok tt
   unfolding judge_times month_fits times_fit
   silent-judged e = rw nil (rw nil at e)
 
@@ -228,20 +226,20 @@ pub month-days : (days : ℕ) (t : Taf) → month_fits days t ≡ true → (28 �
 unfolding month_fits
 month-days days t m = let b = both _ _ (both _ _ (both _ _ m).0).0 in (leb-true 28 days b.0, leb-true days 31 b.1)
 
-times-fit : (b : Bool) → cond b judged.Fine (judged.Refused refusal.Times) ≡ judged.Fine → b ≡ true
+times-fit : (b : Bool) → ◌≡◌ {A = Result ⊤ Refusal} (cond b (Ok tt) (Err refusal.Times)) (Ok tt) → b ≡ true
 times-fit true e = refl
 times-fit false e = impossible (cc)
 
-pub judged-fine : (days : ℕ) (t : Taf) → judge_times days t ≡ judged.Fine → (month_fits days t ≡ true) × (times_fit days t ≡ true)
+pub judged-fine : (days : ℕ) (t : Taf) → judge_times days t ≡ Ok tt → (month_fits days t ≡ true) × (times_fit days t ≡ true)
 unfolding judge_times
 judged-fine days t e =
-    let a = and-then (judge (month_fits days t) true) (cond (times_fit days t) judged.Fine (judged.Refused refusal.Times)) e in
+    let a = and-then (judge (month_fits days t) true) (cond (times_fit days t) (Ok tt) (Err refusal.Times)) e in
     ((fine (month_fits days t) true a.0).0, times-fit (times_fit days t) a.1)
 
 -- A TAF THAT IS MOVED: it can be moved back, and what comes back; and every moment of it stays.
 pub record MovedBack (days : ℕ) (t came : Taf) : Type 0 where
   pub timely : Timely days came
-  pub judged : judge_times days came ≡ judged.Fine
+  pub judged : judge_times days came ≡ Ok tt
   pub back : times_in t.edition days came ≡ midnights_before days t
   pub moments : moments_of days came ≡ moments_of days t
 
@@ -249,7 +247,7 @@ each_first : {A : Type 0} (P Q : A → Type 0) (xs : List A) → Each (λ x. P x
 each_first P Q [] a = tt
 each_first P Q (x ∷ xs) a = (a.0.0, each_first P Q xs a.1)
 
-pub moved_back : (days : ℕ) (t : Taf) (to : Edition) → Timely days t → judge_times days t ≡ judged.Fine → MovedBack days t (times_in to days t)
+pub moved_back : (days : ℕ) (t : Taf) (to : Edition) → Timely days t → judge_times days t ≡ Ok tt → MovedBack days t (times_in to days t)
 moved_back days t to (silent nil p none) e =
     rw (silent-comes days t nil none to)
     (record {

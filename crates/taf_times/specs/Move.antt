@@ -1,10 +1,9 @@
 -- Document 02, No. 9: a TAF moved to the other edition, by its times. "All but periods and change times moves as it is."
 -- Assumes nothing: these are definitions.
-use Rattle.std.specs.Prelude.{ℕ, ◌+◌, ◌*◌, Bool, true, cond, ◌&&◌, ◌||◌, List, [], ◌∷◌, ◌++◌, map, take, drop, leb, ltb, eqb}
+use Rattle.std.specs.Prelude.{⊤, ℕ, ◌+◌, ◌*◌, Bool, true, cond, ◌&&◌, ◌||◌, List, [], ◌∷◌, ◌++◌, map, take, drop, leb, ltb, eqb, Err, Ok, Result}
+use Rattle.text.specs.declared.kinds.Refusal.{Refusal}
 use Rattle.figures.specs.Figures.{every}
 use Rattle.text.specs.declared.kinds.Refusal.TheVariants as refusal
-use Rattle.text.specs.declared.kinds.Judged.{Judged}
-use Rattle.text.specs.declared.kinds.Judged.TheVariants as judged
 use Rattle.text.specs.Judge.{judge, and_then}
 use Rattle.record.specs.declared.aerodrome.Period.{Period}
 use Rattle.record.specs.declared.aerodrome.Edition.{Edition}
@@ -54,8 +53,8 @@ times_fit days t =
     || (whole_fits (whole_of days t) t.changes.count
     && every (λ (c : Change). span_fits (whole_of days t) (change_of t.edition days (whole_of days t) c)) (counted t.changes))
 
-unfoldable pub judge_times : ℕ → Taf → Judged
-judge_times days t = and_then (judge (month_fits days t) true) (cond (times_fit days t) judged.Fine (judged.Refused refusal.Times))
+unfoldable pub judge_times : ℕ → Taf → Result ⊤ Refusal
+judge_times days t = and_then (judge (month_fits days t) true) (cond (times_fit days t) (Ok tt) (Err refusal.Times))
 
 -- ---- the moments of a TAF, and the same moments written in the other edition
 
@@ -76,9 +75,9 @@ unfoldable pub times_in : Edition → ℕ → Taf → Taf
 times_in to days t = record { edition = to; leg = moved_leg to days t; changes = record { items = moved_changes to days t; count = t.changes.count } }
 
 -- "A refusal gives a blank record."
-abbrev pub moved_by : Judged → Taf → MovedTaf
-moved_by judged.Fine t = record { judged = judged.Fine; forecast = t }
-moved_by (judged.Refused f) t = record { judged = judged.Refused f; forecast = blank_taf }
+abbrev pub moved_by : Result ⊤ Refusal → Taf → MovedTaf
+moved_by (Ok tt) t = record { judged = Ok tt; forecast = t }
+moved_by (Err f) t = record { judged = Err f; forecast = blank_taf }
 
 -- THE MOVE OF THE TIMES: to this edition, with so many days in the starting month.
 unfoldable pub times_moved : Edition → ℕ → Taf → MovedTaf

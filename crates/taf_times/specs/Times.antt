@@ -1,8 +1,6 @@
 -- The moments that a TAF's periods and change times name, in either edition, and the periods that name such moments.
 -- Assumes nothing: these are definitions.
-use Rattle.std.specs.Prelude.{ℕ, Bool, true, false, cond, leb}
-use Rattle.record.specs.declared.values.Number.{Number}
-use Rattle.record.specs.declared.values.Number.TheVariants as number
+use Rattle.std.specs.Prelude.{ℕ, Bool, true, false, cond, leb, None, Option, Some}
 use Rattle.record.specs.declared.aerodrome.Instant.{Instant}
 use Rattle.record.specs.declared.aerodrome.Period.{Period}
 use Rattle.record.specs.declared.aerodrome.Opening.{Opening}
@@ -17,9 +15,9 @@ use Rattle.taf_times.specs.Moments.{moment, day_at, hour_at, minute_at, day_from
 
 -- A day, an hour or a minute. The writer has judged before that each is there where it has to be, and has two figures, so that the other answers, 0, are not
 -- used, but for the minute of a time that has none.
-abbrev pub two_figures : Number → ℕ
-two_figures number.Missing = 0
-two_figures (number.Is n) = cond (leb n 99) n 0
+abbrev pub two_figures : Option ℕ → ℕ
+two_figures None = 0
+two_figures (Some n) = cond (leb n 99) n 0
 
 -- FMYYGGgg has no end
 abbrev pub is_from : Opening → Bool
@@ -68,24 +66,24 @@ change_span e days whole under_from p =
 
 -- YYGGgg
 abbrev pub time_at : ℕ → ℕ → Instant
-time_at days t = record { day = number.Is (day_in days (day_at t)); hour = number.Is (hour_at t); minute = number.Is (minute_at t) }
+time_at days t = record { day = Some (day_in days (day_at t)); hour = Some (hour_at t); minute = Some (minute_at t) }
 
 -- YYGG of a beginning
 abbrev pub begin_at : ℕ → ℕ → Instant
-begin_at days t = record { day = number.Is (day_in days (day_at t)); hour = number.Is (hour_at t); minute = number.Missing }
+begin_at days t = record { day = Some (day_in days (day_at t)); hour = Some (hour_at t); minute = None }
 
 -- YYGG of an end
 abbrev pub end_at : ℕ → ℕ → Instant
-end_at days t = record { day = number.Is (end_day days t); hour = number.Is (end_hour t); minute = number.Missing }
+end_at days t = record { day = Some (end_day days t); hour = Some (end_hour t); minute = None }
 
 -- the end of a period in the 2005 edition, G2
 abbrev pub end_after : Span → Instant
-end_after w = record { day = number.Missing; hour = number.Is (lengthened w.from w.to (end_hour w.to)); minute = number.Missing }
+end_after w = record { day = None; hour = Some (lengthened w.from w.to (end_hour w.to)); minute = None }
 
 -- a change time has a day in the present edition only
 abbrev pub in_edition : Edition → Instant → Instant
 in_edition edition.Present t = t
-in_edition edition.Of2005 t = record { day = number.Missing; hour = t.hour; minute = t.minute }
+in_edition edition.Of2005 t = record { day = None; hour = t.hour; minute = t.minute }
 
 abbrev pub end_in : Edition → ℕ → Span → Instant
 end_in edition.Present days w = end_at days w.to

@@ -1,6 +1,6 @@
 // What a period comes to, and what moving a TAF answers.
 use record::aerodrome::Taf;
-use text::kinds::Judged;
+use text::kinds::Refusal;
 
 // From one moment to another, in minutes from the beginning of the day before the first of the starting month.
 #[derive(Clone, Copy)]
@@ -10,8 +10,9 @@ pub struct Span {
 }
 
 // The TAF in the other edition; where it is refused, 11 or 15, it is blank.
+// Not a Result of the TAF: what a refused move hands back is promised.
 #[derive(Clone, Copy)]
 pub struct MovedTaf {
-    pub judged: Judged,
+    pub judged: Result<(), Refusal>,
     pub forecast: Taf,
 }

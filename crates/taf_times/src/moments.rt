@@ -11,6 +11,7 @@ pub fn moment(day: u32, hour: u32, minute: u32) -> u32
 }
 
 // A day before the start day lies in the next month.
+#[tactic(auto, unfolding(crate::specs::Moments::day_from))]
 pub fn day_from(days: u32, start: u32, day: u32) -> u32
     requires { (days ≤ 31) × (day ≤ 99) }
     ensures { (result ≡ day_from days start day) × (result ≤ 130) }
@@ -19,12 +20,14 @@ pub fn day_from(days: u32, start: u32, day: u32) -> u32
 }
 
 // The day of its month.
+#[tactic(auto, unfolding(crate::specs::Moments::day_in))]
 pub fn day_in(days: u32, day: u32) -> u32
     ensures { result ≡ day_in days day }
 {
     if day <= days { day } else { day - days }
 }
 
+#[tactic(auto, unfolding(crate::specs::Moments::day_before))]
 fn day_before(days: u32, day: u32) -> u32
     ensures { result ≡ day_before days day }
 {
@@ -32,6 +35,7 @@ fn day_before(days: u32, day: u32) -> u32
 }
 
 // The first moment of this time at or after the start.
+#[tactic(auto, unfolding(crate::specs::Moments::first_from))]
 pub fn first_from(start: u32, hour: u32, minute: u32) -> u32
     requires { (start ≤ 500000) × (hour ≤ 99) × (minute ≤ 99) }
     ensures { (result ≡ first_from start hour minute) × (result ≤ start + 10000) }
@@ -41,6 +45,7 @@ pub fn first_from(start: u32, hour: u32, minute: u32) -> u32
 }
 
 // The first moment of this hour after the beginning; 24 is 00 of the next day.
+#[tactic(auto, unfolding(crate::specs::Moments::first_after))]
 pub fn first_after(start: u32, hour: u32) -> u32
     requires { (start ≤ 520000) × (hour ≤ 99) }
     ensures { (result ≡ first_after start hour) × (result ≤ start + 10000) }
@@ -50,6 +55,7 @@ pub fn first_after(start: u32, hour: u32) -> u32
 }
 
 // The end of a period by G2 as written, with 50 where it lies in the second 24 hours.
+#[tactic(auto, unfolding(crate::specs::Moments::period_end))]
 pub fn period_end(start: u32, hour: u32) -> u32
     requires { (start ≤ 500000) × (hour ≤ 99) }
     ensures { (result ≡ period_end start hour) × (result ≤ start + 20000) }
@@ -61,6 +67,7 @@ pub fn period_end(start: u32, hour: u32) -> u32
     }
 }
 
+#[tactic(auto, unfolding(crate::specs::Moments::is_midnight))]
 fn is_midnight(t: u32) -> bool
     ensures { result ≡ is_midnight t }
 {
@@ -68,12 +75,14 @@ fn is_midnight(t: u32) -> bool
 }
 
 // An end at hour 00 is written as 24 of the day before.
+#[tactic(auto, unfolding(crate::specs::Moments::end_hour))]
 pub fn end_hour(t: u32) -> u32
     ensures { (result ≡ end_hour t) × (result ≤ 24) }
 {
     if is_midnight(t) { 24 } else { t / 60 % 24 }
 }
 
+#[tactic(auto, unfolding(crate::specs::Moments::end_day))]
 pub fn end_day(days: u32, t: u32) -> u32
     ensures { result ≡ end_day days t }
 {
@@ -86,6 +95,7 @@ pub fn end_day(days: u32, t: u32) -> u32
 }
 
 // G2: 50 more where the period lasts over 24 hours.
+#[tactic(auto, unfolding(crate::specs::Moments::lengthened))]
 pub fn lengthened(start: u32, end: u32, hour: u32) -> u32
     requires { (start ≤ 500000) × (hour ≤ 99) }
     ensures { result ≡ lengthened start end hour }

@@ -8,77 +8,57 @@ use crate::moments::{
     day_from, day_in, end_day, end_hour, first_after, first_from, lengthened, moment, period_end,
 };
 use record::aerodrome::{Edition, Instant, Opening, Period};
-use record::values::Number;
 
 // ---- numbers of the record
 
-fn two_figures(n: Number) -> u32
+fn two_figures(n: Option<u32>) -> u32
     ensures { (result ≡ two_figures n) × (result ≤ 99) }
 {
     match n {
-        Number::Missing => 0,
-        Number::Is(n) => { if n <= 99 { n } else { 0 } }
+        Some(n) if n <= 99 => n,
+        _ => 0,
     }
 }
 
 pub fn is_from(o: Opening) -> bool
     ensures { result ≡ is_from o }
 {
-    match o {
-        Opening::None => false,
-        Opening::Becoming => false,
-        Opening::Temporary => false,
-        Opening::Probable(_) => false,
-        Opening::ProbablyTemporary(_) => false,
-        Opening::From => true,
-    }
+    matches!(o, Opening::From)
 }
 
 // ---- moments named
 
 // With a day, of the starting month or the next.
+#[tactic(auto, unfolding(crate::specs::Times::dated))]
 fn dated(days: u32, start: u32, t: Instant) -> u32
     requires { days ≤ 31 }
     ensures { (result ≡ dated days start t) × (result ≤ 200000) }
 {
-    let day = t.day;
-    let hour = t.hour;
-    let minute = t.minute;
-    let from_start = day_from(days, start, two_figures(day));
-    moment(from_start, two_figures(hour), two_figures(minute))
+    let day = day_from(days, start, two_figures(t.day));
+    moment(day, two_figures(t.hour), two_figures(t.minute))
 }
 
+#[tactic(auto, unfolding(crate::specs::Times::period_span))]
 pub fn period_span(edition: Edition, days: u32, p: Period) -> Span
     requires { days ≤ 31 }
     ensures { (result ≡ period_span edition days p) × (result.from ≤ 200000) }
 {
-    let begins = p.from;
-    let ends = p.to;
-    let day = begins.day;
-    let hour = ends.hour;
-    let start = two_figures(day);
-    let from = dated(days, start, begins);
-    match edition {
-        Edition::Present => Span {
-            from,
-            to: dated(days, start, ends),
-        },
-        Edition::Of2005 => Span {
-            from,
-            to: period_end(from, two_figures(hour)),
-        },
-    }
+    let start = two_figures(p.from.day);
+    let from = dated(days, start, p.from);
+    let to = match edition {
+        Edition::Present => dated(days, start, p.to),
+        Edition::Of2005 => period_end(from, two_figures(p.to.hour)),
+    };
+    Span { from, to }
 }
 
 fn change_begins(edition: Edition, days: u32, whole: Span, t: Instant) -> u32
     requires { (days ≤ 31) × (whole.from ≤ 200000) }
     ensures { (result ≡ change_begins edition days whole t) × (result ≤ 210000) }
 {
-    let hour = t.hour;
-    let minute = t.minute;
     match edition {
         Edition::Present => dated(days, whole.from / 60 / 24, t),
-        Edition::Of2005 => first_from(whole.from, two_figures(hour), two_figures(minute)),
+        Edition::Of2005 => first_from(whole.from, two_figures(t.hour), two_figures(t.minute)),
     }
 }
 
@@ -86,29 +66,25 @@ fn change_ends(edition: Edition, days: u32, whole: Span, begins: u32, t: Instant
     requires { (days ≤ 31) × (begins ≤ 210000) }
     ensures { result ≡ change_ends edition days whole begins t }
 {
-    let hour = t.hour;
     match edition {
         Edition::Present => dated(days, whole.from / 60 / 24, t),
-        Edition::Of2005 => first_after(begins, two_figures(hour)),
+        Edition::Of2005 => first_after(begins, two_figures(t.hour)),
     }
 }
 
 // Under FM it lasts to the end of the report's period.
+#[tactic(auto, unfolding(crate::specs::Times::change_span))]
 pub fn change_span(edition: Edition, days: u32, whole: Span, endless: bool, p: Period) -> Span
     requires { (days ≤ 31) × (whole.from ≤ 200000) }
     ensures { result ≡ change_span edition days whole endless p }
 {
-    let begins = p.from;
-    let ends = p.to;
-    let from = change_begins(edition, days, whole, begins);
-    if endless {
-        Span { from, to: whole.to }
+    let from = change_begins(edition, days, whole, p.from);
+    let to = if endless {
+        whole.to
     } else {
-        Span {
-            from,
-            to: change_ends(edition, days, whole, from, ends),
-        }
-    }
+        change_ends(edition, days, whole, from, p.to)
+    };
+    Span { from, to }
 }
 
 // ---- how moments are named
@@ -118,9 +94,9 @@ fn blank_instant() -> Instant
     ensures { result ≡ blank_instant }
 {
     Instant {
-        day: Number::Missing,
-        hour: Number::Missing,
-        minute: Number::Missing,
+        day: None,
+        hour: None,
+        minute: None,
     }
 }
 
@@ -128,11 +104,10 @@ fn blank_instant() -> Instant
 fn time_at(days: u32, t: u32) -> Instant
     ensures { result ≡ time_at days t }
 {
-    let day = day_in(days, t / 60 / 24);
     Instant {
-        day: Number::Is(day),
-        hour: Number::Is(t / 60 % 24),
-        minute: Number::Is(t % 60),
+        day: Some(day_in(days, t / 60 / 24)),
+        hour: Some(t / 60 % 24),
+        minute: Some(t % 60),
     }
 }
 
@@ -140,11 +115,10 @@ fn time_at(days: u32, t: u32) -> Instant
 fn begin_at(days: u32, t: u32) -> Instant
     ensures { result ≡ begin_at days t }
 {
-    let day = day_in(days, t / 60 / 24);
     Instant {
-        day: Number::Is(day),
-        hour: Number::Is(t / 60 % 24),
-        minute: Number::Missing,
+        day: Some(day_in(days, t / 60 / 24)),
+        hour: Some(t / 60 % 24),
+        minute: None,
     }
 }
 
@@ -152,12 +126,10 @@ fn begin_at(days: u32, t: u32) -> Instant
 fn end_at(days: u32, t: u32) -> Instant
     ensures { result ≡ end_at days t }
 {
-    let day = end_day(days, t);
-    let hour = end_hour(t);
     Instant {
-        day: Number::Is(day),
-        hour: Number::Is(hour),
-        minute: Number::Missing,
+        day: Some(end_day(days, t)),
+        hour: Some(end_hour(t)),
+        minute: None,
     }
 }
 
@@ -166,11 +138,10 @@ fn end_after(w: Span) -> Instant
     requires { w.from ≤ 200000 }
     ensures { result ≡ end_after w }
 {
-    let hour = lengthened(w.from, w.to, end_hour(w.to));
     Instant {
-        day: Number::Missing,
-        hour: Number::Is(hour),
-        minute: Number::Missing,
+        day: None,
+        hour: Some(lengthened(w.from, w.to, end_hour(w.to))),
+        minute: None,
     }
 }
 
@@ -178,15 +149,9 @@ fn end_after(w: Span) -> Instant
 fn in_edition(edition: Edition, t: Instant) -> Instant
     ensures { result ≡ in_edition edition t }
 {
-    let hour = t.hour;
-    let minute = t.minute;
     match edition {
         Edition::Present => t,
-        Edition::Of2005 => Instant {
-            day: Number::Missing,
-            hour,
-            minute,
-        },
+        Edition::Of2005 => Instant { day: None, ..t },
     }
 }
 
@@ -200,25 +165,30 @@ fn end_in(edition: Edition, days: u32, w: Span) -> Instant
     }
 }
 
+#[tactic(auto, unfolding(crate::specs::Times::period_in))]
 pub fn period_in(edition: Edition, days: u32, w: Span) -> Period
     requires { w.from ≤ 200000 }
     ensures { result ≡ period_in edition days w }
 {
-    let from = begin_at(days, w.from);
-    let to = end_in(edition, days, w);
-    Period { from, to }
+    Period {
+        from: begin_at(days, w.from),
+        to: end_in(edition, days, w),
+    }
 }
 
+#[tactic(auto, unfolding(crate::specs::Times::change_in))]
 pub fn change_in(edition: Edition, days: u32, endless: bool, s: Span) -> Period
     ensures { result ≡ change_in edition days endless s }
 {
     if endless {
-        let from = in_edition(edition, time_at(days, s.from));
-        let to = blank_instant();
-        Period { from, to }
+        Period {
+            from: in_edition(edition, time_at(days, s.from)),
+            to: blank_instant(),
+        }
     } else {
-        let from = in_edition(edition, begin_at(days, s.from));
-        let to = in_edition(edition, end_at(days, s.to));
-        Period { from, to }
+        Period {
+            from: in_edition(edition, begin_at(days, s.from)),
+            to: in_edition(edition, end_at(days, s.to)),
+        }
     }
 }

@@ -1,8 +1,7 @@
 // A TAF written as its canonical text, over a lent buffer: all of it, or nothing.
-ghost use Rattle.std.specs.Prelude.{◌≡◌, cond, ◌∷◌, [], ◌++◌, min, length, take};
+ghost use Rattle.std.specs.Prelude.{◌≡◌, cond, ◌∷◌, [], ◌++◌, length, take, Ok};
 ghost use Rattle.figures.specs.Put.{Put};
 ghost use Rattle.figures.specs.Quote.{bytes};
-ghost use Rattle.text.specs.declared.kinds.Judged.TheVariants as judged;
 ghost use Rattle.text.specs.Groups.{written};
 ghost use Rattle.text.specs.Write.{answer_by, buffer_by};
 ghost use Rattle.places.specs.Engine.{written as groups_at};
@@ -21,7 +20,7 @@ use record::blank_aerodrome::{blank_instant, blank_station};
 use taf::word::part_of;
 use taf_row::kinds::{Form, Part};
 use taf_row::row::{change_form, own_form};
-use text::kinds::{Judged, Written};
+use text::kinds::Refusal;
 use text::write::{close_report, deliver, open_group, put_group, put_if};
 
 // ---- the head
@@ -40,52 +39,43 @@ fn put_correction(out: &mut [u8], at: usize, c: Correction) -> usize
 fn put_hour(out: &mut [u8], at: usize, t: Instant) -> usize
     ensures { Put out.old at (show_hour t) result out.new }
 {
-    let day = t.day;
-    let hour = t.hour;
-    let dated = put_two(out, at, day);
-    put_two(out, dated, hour)
+    let dated = put_two(out, at, t.day);
+    put_two(out, dated, t.hour)
 }
 
 // GG
 fn put_hour_alone(out: &mut [u8], at: usize, t: Instant) -> usize
     ensures { Put out.old at (show_hour_alone t) result out.new }
 {
-    let hour = t.hour;
-    put_two(out, at, hour)
+    put_two(out, at, t.hour)
 }
 
 // YYGG/YYGG
 fn put_both_days(out: &mut [u8], at: usize, p: Period) -> usize
     ensures { Put out.old at (written at (show_period form.BothDays p ∷ [])) result out.new }
 {
-    let from = p.from;
-    let to = p.to;
     let opened = open_group(out, at);
-    let begun = put_hour(out, opened, from);
+    let begun = put_hour(out, opened, p.from);
     let parted = put_byte(out, begun, b'/');
-    put_hour(out, parted, to)
+    put_hour(out, parted, p.to)
 }
 
 // Y1Y1G1G1G2G2
 fn put_first_day(out: &mut [u8], at: usize, p: Period) -> usize
     ensures { Put out.old at (written at (show_period form.FirstDay p ∷ [])) result out.new }
 {
-    let from = p.from;
-    let to = p.to;
     let opened = open_group(out, at);
-    let begun = put_hour(out, opened, from);
-    put_hour_alone(out, begun, to)
+    let begun = put_hour(out, opened, p.from);
+    put_hour_alone(out, begun, p.to)
 }
 
 // GGGeGe
 fn put_no_day(out: &mut [u8], at: usize, p: Period) -> usize
     ensures { Put out.old at (written at (show_period form.NoDay p ∷ [])) result out.new }
 {
-    let from = p.from;
-    let to = p.to;
     let opened = open_group(out, at);
-    let begun = put_hour_alone(out, opened, from);
-    put_hour_alone(out, begun, to)
+    let begun = put_hour_alone(out, opened, p.from);
+    put_hour_alone(out, begun, p.to)
 }
 
 fn put_period(out: &mut [u8], at: usize, form: Form, p: Period) -> usize
@@ -113,30 +103,22 @@ fn put_valid(out: &mut [u8], at: usize, nil: bool, form: Form, p: Period) -> usi
 fn put_main(out: &mut [u8], at: usize, edition: Edition, r: Leg) -> usize
     ensures { Put out.old at (written at (groups_at (take 8 (row edition part.Main)) r)) result out.new }
 {
-    let correction = r.correction;
-    let station = r.station;
-    let time = r.time;
-    let nil = r.nil;
-    let period = r.period;
-    let cancelled = r.cancelled;
     let named = put_group(out, at, b"TAF");
-    let marked = put_correction(out, named, correction);
-    let sited = put_station(out, marked, station);
-    let timed = put_time(out, sited, time);
-    let ended = put_if(out, timed, nil, b"NIL");
-    let valid = put_valid(out, ended, nil, own_form(edition), period);
-    put_if(out, valid, cancelled, b"CNL")
+    let marked = put_correction(out, named, r.correction);
+    let sited = put_station(out, marked, r.station);
+    let timed = put_time(out, sited, r.time);
+    let ended = put_if(out, timed, r.nil, b"NIL");
+    let valid = put_valid(out, ended, r.nil, own_form(edition), r.period);
+    put_if(out, valid, r.cancelled, b"CNL")
 }
 
 // Of these a change group's part has the period alone, and none under FM.
 fn put_head(out: &mut [u8], at: usize, edition: Edition, w: Part, r: Leg) -> usize
     ensures { Put out.old at (written at (groups_at (take 8 (row edition w)) r)) result out.new }
 {
-    let nil = r.nil;
-    let period = r.period;
     match w {
         Part::Main => put_main(out, at, edition, r),
-        Part::Changing => put_valid(out, at, nil, change_form(edition), period),
+        Part::Changing => put_valid(out, at, r.nil, change_form(edition), r.period),
         Part::From => at,
     }
 }
@@ -147,9 +129,8 @@ fn put_head(out: &mut [u8], at: usize, edition: Edition, w: Part, r: Leg) -> usi
 fn put_part(out: &mut [u8], at: usize, edition: Edition, w: Part, r: Leg) -> usize
     ensures { Put out.old at (written at (groups_at (row edition w) r)) result out.new }
 {
-    let body = r.body;
     let headed = put_head(out, at, edition, w, r);
-    put_body(out, headed, body)
+    put_body(out, headed, r.body)
 }
 
 // ---- changes
@@ -167,26 +148,21 @@ fn put_chance(out: &mut [u8], at: usize, chance: u32) -> usize
 fn put_from_day(out: &mut [u8], at: usize, t: Instant) -> usize
     ensures { Put out.old at (written at (show_from edition.Present t ∷ [])) result out.new }
 {
-    let day = t.day;
-    let hour = t.hour;
-    let minute = t.minute;
     let opened = open_group(out, at);
     let begun = put_text(out, opened, b"FM");
-    let dated = put_two(out, begun, day);
-    let timed = put_two(out, dated, hour);
-    put_two(out, timed, minute)
+    let dated = put_two(out, begun, t.day);
+    let timed = put_two(out, dated, t.hour);
+    put_two(out, timed, t.minute)
 }
 
 // FMGGgg
 fn put_from_hour(out: &mut [u8], at: usize, t: Instant) -> usize
     ensures { Put out.old at (written at (show_from edition.Of2005 t ∷ [])) result out.new }
 {
-    let hour = t.hour;
-    let minute = t.minute;
     let opened = open_group(out, at);
     let begun = put_text(out, opened, b"FM");
-    let timed = put_two(out, begun, hour);
-    put_two(out, timed, minute)
+    let timed = put_two(out, begun, t.hour);
+    put_two(out, timed, t.minute)
 }
 
 fn put_from(out: &mut [u8], at: usize, edition: Edition, t: Instant) -> usize
@@ -209,14 +185,13 @@ fn put_chances(out: &mut [u8], at: usize, chance: u32) -> usize
 fn put_opening(out: &mut [u8], at: usize, edition: Edition, o: Opening, p: Period) -> usize
     ensures { Put out.old at (written at (show_opening edition o p)) result out.new }
 {
-    let from = p.from;
     match o {
         Opening::None => at,
         Opening::Becoming => put_group(out, at, b"BECMG"),
         Opening::Temporary => put_group(out, at, b"TEMPO"),
         Opening::Probable(chance) => put_chance(out, at, chance),
         Opening::ProbablyTemporary(chance) => put_chances(out, at, chance),
-        Opening::From => put_from(out, at, edition, from),
+        Opening::From => put_from(out, at, edition, p.from),
     }
 }
 
@@ -224,47 +199,31 @@ fn put_opening(out: &mut [u8], at: usize, edition: Edition, o: Opening, p: Perio
 fn leg_of(c: Change) -> Leg
     ensures { result ≡ leg_of c }
 {
-    let correction = Correction::None;
-    let period = c.period;
-    let body = c.body;
-    let station = blank_station();
-    let time = blank_instant();
     Leg {
-        correction,
-        station,
-        time,
+        correction: Correction::None,
+        station: blank_station(),
+        time: blank_instant(),
         nil: false,
-        period,
+        period: c.period,
         cancelled: false,
-        body,
+        body: c.body,
     }
 }
 
 fn put_change(out: &mut [u8], at: usize, edition: Edition, c: Change) -> usize
     ensures { Put out.old at (written at (show_change edition c)) result out.new }
 {
-    let opening = c.opening;
-    let period = c.period;
-    let opened = put_opening(out, at, edition, opening, period);
-    put_part(out, opened, edition, part_of(opening), leg_of(c))
-}
-
-fn at_most_sixteen(count: usize) -> usize
-    ensures { result ≡ min count 16 }
-{
-    if count <= 16 { count } else { 16 }
+    let opened = put_opening(out, at, edition, c.opening, c.period);
+    put_part(out, opened, edition, part_of(c.opening), leg_of(c))
 }
 
 // The first `count` changes; all where the count is too large.
 fn put_each(out: &mut [u8], at: usize, edition: Edition, items: [Change; 16], count: usize) -> usize
     ensures { Put out.old at (written at (show_each edition (take count items))) result out.new }
 {
-    let end = at_most_sixteen(count);
     let mut next = at;
-    let mut i = 0;
-    while i < end {
-        next = put_change(out, next, edition, items[i]);
-        i += 1;
+    for change in items.iter().take(count) {
+        next = put_change(out, next, edition, *change);
     }
     next
 }
@@ -275,20 +234,16 @@ fn put_each(out: &mut [u8], at: usize, edition: Edition, items: [Change; 16], co
 fn put_report(out: &mut [u8], t: Taf) -> usize
     ensures { Put out.old 0 (written 0 (groups_of t) ++ (61 ∷ [])) result out.new }
 {
-    let edition = t.edition;
-    let leg = t.leg;
     let changes = t.changes;
-    let items = changes.items;
-    let count = changes.count;
-    let main = put_part(out, 0, edition, Part::Main, leg);
-    let told = put_each(out, main, edition, items, count);
+    let main = put_part(out, 0, t.edition, Part::Main, t.leg);
+    let told = put_each(out, main, t.edition, changes.items, changes.count);
     close_report(out, told)
 }
 
 // A record that is judged fine: its text, at most 2,048 bytes, is made first, so that its length is known before the lent buffer is touched.
-fn write_fine(t: Taf, out: &mut [u8]) -> Written
-    requires { judge_of t ≡ judged.Fine }
-    ensures { (result ≡ answer_by judged.Fine (canonical_of t) (length out.old)) × (out.new ≡ buffer_by judged.Fine (canonical_of t) out.old) }
+fn write_fine(t: Taf, out: &mut [u8]) -> Result<usize, Refusal>
+    requires { judge_of t ≡ Ok tt }
+    ensures { (result ≡ answer_by (Ok tt) (canonical_of t) (length out.old)) × (out.new ≡ buffer_by (Ok tt) (canonical_of t) out.old) }
 {
     let mut text = [0u8; 2048];
     let end = put_report(&mut text, t);
@@ -296,18 +251,15 @@ fn write_fine(t: Taf, out: &mut [u8]) -> Written
 }
 
 // In an edition: a record of the other one is refused.
-pub fn write_in(edition: Edition, t: Taf, out: &mut [u8]) -> Written
+pub fn write_in(edition: Edition, t: Taf, out: &mut [u8]) -> Result<usize, Refusal>
     ensures { (result ≡ written_in edition t (length out.old)) × (out.new ≡ buffer_in edition t out.old) }
 {
-    let verdict = judge(edition, t);
-    match verdict {
-        Judged::Fine => write_fine(t, out),
-        Judged::Refused(refusal) => Written::Refused(refusal),
-    }
+    judge(edition, t)?;
+    write_fine(t, out)
 }
 
 // In the present edition.
-pub fn write(t: Taf, out: &mut [u8]) -> Written
+pub fn write(t: Taf, out: &mut [u8]) -> Result<usize, Refusal>
     ensures { (result ≡ written_in edition.Present t (length out.old)) × (out.new ≡ buffer_in edition.Present t out.old) }
 {
     write_in(Edition::Present, t, out)

@@ -1,6 +1,7 @@
 -- The text that groups are joined to: cutting it gives the groups and their places, nothing follows its "=", it is sound and trimmed;
 -- and how it grows by one group and by several.
 -- Assumes nothing.
+use Rattle.std.specs.Prelude.{None}
 use mathlib.Core.Path.{◌≡◌, refl, sym, ap, ◌∙◌}
 use mathlib.Core.Bool.{Bool, true, false, false≢true, or-true}
 use mathlib.Core.List.{List, [], ◌∷◌, ◌++◌, map, append_assoc}
@@ -12,12 +13,11 @@ use lib.ListN.{length, length-append}
 use lib.Seq.{take-append_seam, drop-append_seam}
 use lib.Dec.{eqb}
 use Rattle.text.specs.declared.kinds.Bytes.TheVariants.{Sound}
-use Rattle.text.specs.declared.kinds.Tail.TheVariants.{Clear}
 use Rattle.text.specs.Bytes.{parting, inner, other, allowed, lead}
-use Rattle.text.specs.Groups.{Piece, groups_in, groups_from, part_of, spaced, parted, join, opening, placed, written, Every, Everywhere, Whole, Wholes}
+use Rattle.text.specs.Groups.{Piece, groups_in, groups_from, spaced, parted, join, opening, placed, written, Every, Everywhere, Whole, Wholes}
 use Rattle.text.specs.Text.{equals_at, bytes_of, tail_of, trimmed_of}
 use Rattle.text.proofs.Leads.{lead-cons-yes, lead-cons-no, lead-end}
-use Rattle.text.proofs.Groups.{at-group, inner-not-parting, part-is, whole_part}
+use Rattle.text.proofs.Groups.{at-group, inner-not-parting, whole_part}
 use Rattle.text.proofs.Texts.{bytes-sound, tail-clear, trimmed-start, trimmed-equals}
 
 -- ---- lists of which each byte passes a test
@@ -105,7 +105,7 @@ unfolding join equals_at
 join-equals gs w = every-until other (parted gs) 61 [] (every-parted other gs refl (wholes-other gs w)) refl
 
 -- nothing follows its "="
-pub join-tail : (gs : List (List ℕ)) → Wholes gs → tail_of (join gs) ≡ Clear
+pub join-tail : (gs : List (List ℕ)) → Wholes gs → tail_of (join gs) ≡ None
 join-tail gs w =
     let n = length (parted gs) in
     let none = lead-end parting (join gs) (n + 1) (omega (arith, length-join gs)) in

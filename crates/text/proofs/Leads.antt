@@ -2,13 +2,15 @@
 -- Assumes nothing.
 use mathlib.Core.Path.{◌≡◌, refl, sym, ap, ◌∙◌}
 use mathlib.Core.Bool.{Bool, true, false, cond, ◌&&◌, and-false, and-eq-true_iff, false≢true}
-use mathlib.Core.List.{List, [], ◌∷◌, ◌++◌}
-use Prim.Native.Nat.{ℕ, zero, suc, ◌+◌, ◌-◌, ◌≤◌, ◌<◌}
-use native.Mathlib.Numerals.{add-one, sub-one}
+use mathlib.Core.List.{List, [], ◌∷◌}
+use Prim.Native.Nat.{ℕ, zero, suc, ◌+◌, ◌≤◌, ◌<◌}
+use native.Mathlib.Numerals.{add-one}
 use native.Mathlib.Omega.{arith}
 use lib.ListN.{length, get_or, take, drop, drop_of_length-le}
-use lib.Seq.{drop-cons, take-suc, take-length, length-take-le}
+use lib.Seq.{drop-cons}
 use lib.Dec.{eqb, eqb-suc-zero}
+use Rattle.std.proofs.Common.{Option, Some, None}
+use Rattle.std.specs.Option.{MatchOption}
 use Rattle.figures.specs.Figures.{every}
 use Rattle.text.specs.Bytes.{parting, lead, last_end}
 
@@ -94,33 +96,25 @@ last-le (x ∷ xs) = go (parting x && eqb (last_end xs) 0) (last-le xs)
     go true h = omega arith
     go false h = omega arith
 
--- a byte put at the end of a list
-pub last-parting : (l : List ℕ) (y : ℕ) → parting y ≡ true → last_end (l ++ (y ∷ [])) ≡ last_end l
+-- where all bytes are parting bytes it is 0
+last-nowhere : (l : List ℕ) → ((k : ℕ) → k < length l → parting (get_or l k 0) ≡ true) → last_end l ≡ 0
 unfolding last_end
-last-parting [] y e = last-nothing y [] e refl
-last-parting (x ∷ l) y e = rw (last-parting l y e, last_end)
+last-nowhere [] h = refl
+last-nowhere (x ∷ l) h = last-nothing x l (h 0 (omega arith)) (last-nowhere l (λ k i. h (suc k) (omega arith)))
 
-pub last-other : (l : List ℕ) (y : ℕ) → parting y ≡ false → last_end (l ++ (y ∷ [])) ≡ suc (length l)
+-- where the bytes after a byte that is none are, it is after that byte
+last-after : (l : List ℕ) (i : ℕ) → i < length l → parting (get_or l i 0) ≡ false
+    → ((k : ℕ) → i < k → k < length l → parting (get_or l k 0) ≡ true) → last_end l ≡ suc i
 unfolding last_end
-last-other [] y e = rw (e, last_end)
-last-other (x ∷ l) y e = rw (last-other l y e, last_end) (rw (eqb-suc-zero, and-false))
+last-after [] i h e f = absurd (omega arith)
+last-after (x ∷ l) zero h e f = rw (e, last-nowhere l (λ k i. f (suc k) (omega arith) (omega arith)))
+last-after (x ∷ l) (suc i) h e f =
+    rw (last-after l i (omega arith) e (λ k j n. f (suc k) (omega arith) (omega arith)), eqb-suc-zero, and-false)
 
--- the byte before a position of a text, where the loop from the end stands
-module _ (t : List ℕ) where
-  one-back : (n : ℕ) → 0 < n → n ≤ length t → take n t ≡ take (n - 1) t ++ (get_or t (n - 1) 0 ∷ [])
-  one-back zero p h = absurd (omega arith)
-  one-back (suc n) p h = rw sub-one (take-suc t n 0 (omega arith))
-
-  pub last-back : (n : ℕ) → 0 < n → n ≤ length t → parting (get_or t (n - 1) 0) ≡ true → last_end (take (n - 1) t) ≡ last_end (take n t)
-  last-back n p h e = sym (ap last_end (one-back n p h) ∙ last-parting _ _ e)
-
-  pub last-here : (n : ℕ) → 0 < n → n ≤ length t → parting (get_or t (n - 1) 0) ≡ false → last_end (take n t) ≡ n
-  last-here n p h e = ap last_end (one-back n p h) ∙ last-other (take (n - 1) t) _ e ∙ omega (arith, length-take-le (n - 1) t (omega arith))
-
-  pub last-whole : last_end (take (length t) t) ≡ last_end t
-  last-whole = ap last_end (take-length t)
-
-  pub last_none : (n : ℕ) → n ≤ 0 → last_end (take n t) ≡ 0
-  unfolding last_end
-  last_none zero h = refl
-  last_none (suc n) h = absurd (omega arith)
+-- what a search from the end answers
+pub last-found : (l : List ℕ) (o : Option ℕ) (r : ℕ)
+    → MatchOption o ((k : ℕ) → k < length l → parting (get_or l k 0) ≡ true)
+    (λ i. (i < length l) × (parting (get_or l i 0) ≡ false) × ((k : ℕ) → i < k → k < length l → parting (get_or l k 0) ≡ true))
+    → MatchOption o (r ≡ 0) (λ i. r ≡ i + 1) → r ≡ last_end l
+last-found l None r h e = e ∙ sym (last-nowhere l h)
+last-found l (Some i) r h e = e ∙ rw add-one (sym (last-after l i h.0 h.1 h.2))

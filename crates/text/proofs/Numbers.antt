@@ -1,16 +1,14 @@
 -- The paper's numbers tell answers apart: no two refusals have one number, and none has 0. So a promise on the numbers is one on the answer.
 -- Assumes nothing.
+use Rattle.std.specs.Prelude.{Err, Ok, Result}
 use Prim.Native.Nat.{ℕ}
 use mathlib.Core.Path.{◌≡◌, refl, sym, ap, ◌∙◌}
 use mathlib.Core.List.{[], ◌∷◌}
 use lib.ListN.{get_or}
 use Rattle.text.specs.declared.kinds.Refusal.{Refusal}
 use Rattle.text.specs.declared.kinds.Refusal.TheVariants as refusal
-use Rattle.text.specs.declared.kinds.Verdict.{Verdict}
-use Rattle.text.specs.declared.kinds.Verdict.TheVariants as verdict
-use Rattle.text.specs.declared.kinds.Written.{Written}
-use Rattle.text.specs.declared.kinds.Written.TheVariants as answer
-use Rattle.text.specs.Refusals.{number_of}
+use Rattle.text.specs.declared.kinds.Refused.{Refused}
+use Rattle.text.specs.Refusals.{number_of, refused_with}
 use Rattle.text.specs.Numbers.{AnswerNumbers, verdict_numbers, written_numbers}
 
 -- the refusals in the order of their numbers, 0 being none
@@ -53,24 +51,24 @@ by_number refusal.Value = refl
 by_number refusal.Times = refl
 
 -- the answer that has these numbers
-abbrev verdict_of : Numbered → ℕ → Verdict
-verdict_of none n = verdict.Accepted n
-verdict_of (some f) n = verdict.Refused f n
+abbrev verdict_of : Numbered → ℕ → Result ℕ Refused
+verdict_of none n = Ok n
+verdict_of (some f) n = Err (refused_with f n)
 
-abbrev written_by : Numbered → ℕ → Written
-written_by none n = answer.Count n
-written_by (some f) n = answer.Refused f
+abbrev written_by : Numbered → ℕ → Result ℕ Refusal
+written_by none n = Ok n
+written_by (some f) n = Err f
 
-verdict-back : (v : Verdict) → verdict_of (numbered (verdict_numbers v).refusal) (verdict_numbers v).value ≡ v
-verdict-back (verdict.Accepted rest) = refl
-verdict-back (verdict.Refused f at) = rw (by_number f)
+verdict-back : (v : Result ℕ Refused) → verdict_of (numbered (verdict_numbers v).refusal) (verdict_numbers v).value ≡ v
+verdict-back (Ok rest) = refl
+verdict-back (Err x) = rw (by_number x.refusal)
 
-written_back : (w : Written) → written_by (numbered (written_numbers w).refusal) (written_numbers w).value ≡ w
-written_back (answer.Count n) = refl
-written_back (answer.Refused f) = rw (by_number f)
+written_back : (w : Result ℕ Refusal) → written_by (numbered (written_numbers w).refusal) (written_numbers w).value ≡ w
+written_back (Ok n) = refl
+written_back (Err f) = rw (by_number f)
 
-pub verdict-told : (v w : Verdict) → verdict_numbers v ≡ verdict_numbers w → v ≡ w
+pub verdict-told : (v w : Result ℕ Refused) → verdict_numbers v ≡ verdict_numbers w → v ≡ w
 verdict-told v w e = sym (verdict-back v) ∙ ap (λ (n : AnswerNumbers). verdict_of (numbered n.refusal) n.value) e ∙ verdict-back w
 
-pub written-told : (v w : Written) → written_numbers v ≡ written_numbers w → v ≡ w
+pub written-told : (v w : Result ℕ Refusal) → written_numbers v ≡ written_numbers w → v ≡ w
 written-told v w e = sym (written_back v) ∙ ap (λ (n : AnswerNumbers). written_by (numbered n.refusal) n.value) e ∙ written_back w

@@ -1,5 +1,6 @@
 -- A text as a whole, by the cases that the code comes to: what follows its "=", and its trimmed part.
 -- Assumes nothing.
+use Rattle.std.specs.Prelude.{None, Some}
 use mathlib.Core.Path.{◌≡◌, sym, ◌∙◌}
 use mathlib.Core.Bool.{or-true}
 use mathlib.Core.List.{List}
@@ -8,7 +9,6 @@ use native.Mathlib.Omega.{arith}
 use borrow.Author.Tests.{le-leb, lt-leb, lt-ltb, le-ltb, eq-eqb, ne_eqb}
 use lib.ListN.{length, drop}
 use Rattle.text.specs.declared.kinds.Bytes.TheVariants.{Sound, Length, Byte}
-use Rattle.text.specs.declared.kinds.Tail.TheVariants.{Clear, Junk}
 use Rattle.text.specs.Bytes.{parting, allowed, lead, last_end}
 use Rattle.text.specs.Groups.{past_parting}
 use Rattle.text.specs.Text.{equals_at, bytes_of, junk_from, tail_of, is_bare, trimmed_start, trimmed_end}
@@ -34,17 +34,17 @@ module _ (t : List ℕ) (some : length t ≡ 0 → ⊥) (fits : length t ≤ 204
   bytes-sound h = rw (← first, ne_eqb (length t) 0 some, le-ltb 2048 (length t) fits, le-ltb b (length t) h)
 
 -- ---- what follows position p
-pub junk-there : (t : List ℕ) (p s : ℕ) → past_parting t p ≡ s → s < length t → junk_from t p ≡ Junk s
+pub junk-there : (t : List ℕ) (p s : ℕ) → past_parting t p ≡ s → s < length t → junk_from t p ≡ Some s
 unfolding junk_from
 junk-there t p s e h = rw (e, lt-ltb s (length t) h)
 
-pub junk-none : (t : List ℕ) (p s : ℕ) → past_parting t p ≡ s → length t ≤ s → junk_from t p ≡ Clear
+pub junk-none : (t : List ℕ) (p s : ℕ) → past_parting t p ≡ s → length t ≤ s → junk_from t p ≡ None
 unfolding junk_from
 junk-none t p s e h = rw (e, le-ltb s (length t) h)
 
 -- ---- a text whose first "=" is at q
 module _ (t : List ℕ) (q : ℕ) (equals : q ≡ equals_at t) where
-  pub tail_none : length t ≤ q → tail_of t ≡ Clear
+  pub tail_none : length t ≤ q → tail_of t ≡ None
   unfolding tail_of
   tail_none h = rw (← equals) (junk-none t (q + 1) (length t) (past_end t (q + 1) (omega arith)) (omega arith))
 
@@ -53,11 +53,11 @@ module _ (t : List ℕ) (q : ℕ) (equals : q ≡ equals_at t) where
     at-s : past_parting t (q + 1) ≡ s
     at-s = past-within t (q + 1) (omega arith) ∙ sym past
 
-    pub tail-junk : s < length t → tail_of t ≡ Junk s
+    pub tail-junk : s < length t → tail_of t ≡ Some s
     unfolding tail_of
     tail-junk h = rw (← equals) (junk-there t (q + 1) s at-s h)
 
-    pub tail-clear : length t ≤ s → tail_of t ≡ Clear
+    pub tail-clear : length t ≤ s → tail_of t ≡ None
     unfolding tail_of
     tail-clear h = rw (← equals) (junk-none t (q + 1) s at-s h)
 

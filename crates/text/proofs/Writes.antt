@@ -1,5 +1,6 @@
 -- Groups written one after the other over a buffer, and the report that they make. A buffer that is too short changes none of these laws.
 -- Assumes nothing.
+use Rattle.std.specs.Prelude.{Err, Ok}
 use mathlib.Core.Path.{◌≡◌, refl, sym, ap, ◌∙◌}
 use mathlib.Core.Bool.{Bool, true, false}
 use mathlib.Core.List.{List, [], ◌∷◌, ◌++◌, append-nil}
@@ -13,8 +14,6 @@ use lib.Dec.{leb}
 use Rattle.figures.specs.Put.{after, Put}
 use Rattle.figures.proofs.Puts.{put-none, put_next, put-before, splice-out, length-put, then}
 use Rattle.text.specs.declared.kinds.Refusal.TheVariants as refusal
-use Rattle.text.specs.declared.kinds.Judged.TheVariants as judged
-use Rattle.text.specs.declared.kinds.Written.TheVariants as answer
 use Rattle.text.specs.Groups.{join, opening, written, Wholes}
 use Rattle.text.specs.Write.{answer_by, buffer_by}
 use Rattle.text.proofs.Joins.{written-append, parted-written}
@@ -80,11 +79,11 @@ module _ {n end : ℕ} {e : List ℕ} (gs : List (List ℕ)) (w : Wholes gs) (sh
   made-text = rw (made-end, ← zero-add (length (join gs))) (put-before made fits)
 
 -- ---- the lent buffer without room, and with it
-pub no_room : (x b : List ℕ) → length b < length x → (answer.Refused refusal.Room ≡ answer_by judged.Fine x (length b)) × (b ≡ buffer_by judged.Fine x b)
+pub no_room : (x b : List ℕ) → length b < length x → (Err refusal.Room ≡ answer_by (Ok tt) x (length b)) × (b ≡ buffer_by (Ok tt) x b)
 no_room x b h = (rw (lt-leb (length x) (length b) h), rw (lt-leb (length x) (length b) h))
 
 pub with-room : {x b e : List ℕ} {n : ℕ} → length x ≤ length b → Put b 0 x n e
-    → (answer.Count n ≡ answer_by judged.Fine x (length b)) × (e ≡ buffer_by judged.Fine x b)
+    → (Ok n ≡ answer_by (Ok tt) x (length b)) × (e ≡ buffer_by (Ok tt) x b)
 with-room {x} {b} h p =
     let l = le-leb (length x) (length b) h in
-    (rw l (ap answer.Count (put_next p (omega arith) ∙ zero-add (length x))), rw l p.text)
+    (rw l (ap Ok (put_next p (omega arith) ∙ zero-add (length x))), rw l p.text)

@@ -1,13 +1,12 @@
 -- What the writer judges, 11 before 7 at each group: a value outside its range or half of a pair, then a disagreement.
 -- Assumes nothing: these are definitions.
-use Rattle.std.specs.Prelude.{Bool, cond}
+use Rattle.std.specs.Prelude.{⊤, Bool, cond, Err, Ok, Result}
+use Rattle.text.specs.declared.kinds.Refusal.{Refusal}
 use Rattle.text.specs.declared.kinds.Refusal.TheVariants as refusal
-use Rattle.text.specs.declared.kinds.Judged.{Judged}
-use Rattle.text.specs.declared.kinds.Judged.TheVariants as judged
 
-abbrev pub judge : Bool → Bool → Judged
-judge within agrees = cond within (cond agrees judged.Fine (judged.Refused refusal.Disagreement)) (judged.Refused refusal.Value)
+abbrev pub judge : Bool → Bool → Result ⊤ Refusal
+judge within agrees = cond within (cond agrees (Ok tt) (Err refusal.Disagreement)) (Err refusal.Value)
 
-abbrev pub and_then : Judged → Judged → Judged
-and_then judged.Fine b = b
-and_then (judged.Refused f) b = judged.Refused f
+abbrev pub and_then : Result ⊤ Refusal → Result ⊤ Refusal → Result ⊤ Refusal
+and_then (Ok tt) b = b
+and_then (Err f) b = Err f

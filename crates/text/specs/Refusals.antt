@@ -3,6 +3,7 @@
 use Rattle.std.specs.Prelude.{ℕ}
 use Rattle.text.specs.declared.kinds.Refusal.{Refusal}
 use Rattle.text.specs.declared.kinds.Refusal.TheVariants as refusal
+use Rattle.text.specs.declared.kinds.Refused.{Refused}
 
 abbrev pub number_of : Refusal → ℕ
 -- the text is empty or over 2,048 bytes
@@ -29,3 +30,7 @@ number_of refusal.Room = 10
 number_of refusal.Value = 11
 -- document 02, No. 9: the times of a forecast that is moved to the other edition do not fit one another, or can't be written there
 number_of refusal.Times = 15
+
+-- what a reader answers of a text that it refuses: the refusal, and its place
+abbrev pub refused_with : Refusal → ℕ → Refused
+refused_with f at = record { refusal = f; place = at }

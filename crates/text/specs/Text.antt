@@ -1,12 +1,10 @@
 -- What is judged over a text as a whole: its length and bytes, what follows its "=", and its trimmed part.
 -- Assumes nothing: these are definitions.
-use Rattle.std.specs.Prelude.{ℕ, ◌+◌, Bool, cond, ◌||◌, List, length, leb, ltb, eqb}
+use Rattle.std.specs.Prelude.{ℕ, ◌+◌, Bool, cond, ◌||◌, List, length, leb, ltb, eqb, None, Option, Some}
 use Rattle.std.specs.Borrow.{Bor}
 use Rattle.text.specs.Bytes.{parting, other, allowed, lead, last_end}
 use Rattle.text.specs.Groups.{part_of, past_parting}
 use Rattle.text.specs.Part.{PartAt}
-use Rattle.text.specs.declared.kinds.Tail.{Tail}
-use Rattle.text.specs.declared.kinds.Tail.TheVariants.{Clear, Junk}
 use Rattle.text.specs.declared.kinds.Bytes.{Bytes}
 use Rattle.text.specs.declared.kinds.Bytes.TheVariants.{Sound, Length, Byte}
 
@@ -21,11 +19,11 @@ bytes_of text =
     (cond (ltb (lead allowed text) (length text)) (Byte (lead allowed text)) Sound)
 
 -- the first byte from position p on that is no parting byte
-unfoldable pub junk_from : List ℕ → ℕ → Tail
-junk_from text p = cond (ltb (past_parting text p) (length text)) (Junk (past_parting text p)) Clear
+unfoldable pub junk_from : List ℕ → ℕ → Option ℕ
+junk_from text p = cond (ltb (past_parting text p) (length text)) (Some (past_parting text p)) None
 
 -- "An "=" ends the report; only parting bytes may follow it, anything else there is refusal 4."
-unfoldable pub tail_of : List ℕ → Tail
+unfoldable pub tail_of : List ℕ → Option ℕ
 tail_of text = junk_from text (equals_at text + 1)
 
 -- does no group stand before an "=" or the end?

@@ -1,30 +1,20 @@
-// Judgements of the writer, put together.
+// What the writer judges of a group. Judgements one after the other are put together by `?`: the first refusal stands.
 ghost use Rattle.std.specs.Prelude.{◌≡◌};
-ghost use Rattle.text.specs.Judge.{judge, and_then};
+ghost use Rattle.text.specs.Judge.{judge};
 
-use crate::kinds::{Judged, Refusal};
+use crate::kinds::Refusal;
 
 // In range and agreeing, or refusal 11, or refusal 7.
-pub fn judge(within: bool, agrees: bool) -> Judged
+pub fn judge(within: bool, agrees: bool) -> Result<(), Refusal>
     ensures { result ≡ judge within agrees }
 {
     if within {
         if agrees {
-            Judged::Fine
+            Ok(())
         } else {
-            Judged::Refused(Refusal::Disagreement)
+            Err(Refusal::Disagreement)
         }
     } else {
-        Judged::Refused(Refusal::Value)
-    }
-}
-
-// The first refusal of the two.
-pub fn and_then(first: Judged, second: Judged) -> Judged
-    ensures { result ≡ and_then first second }
-{
-    match first {
-        Judged::Fine => second,
-        Judged::Refused(refusal) => Judged::Refused(refusal),
+        Err(Refusal::Value)
     }
 }

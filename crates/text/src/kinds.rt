@@ -1,6 +1,6 @@
 // The answers of the cutting functions, document 01's refusals by name, and what every reader and writer answers.
 
-// What stands at or after a position of a text.
+// What stands at or after a position of a text. An enum of its own: neither case is a failure, and both have a place in the text.
 #[derive(Clone, Copy)]
 pub enum Cut {
     // A group, from start up to end.
@@ -9,14 +9,7 @@ pub enum Cut {
     End { at: usize },
 }
 
-// What follows the first "=": parting bytes only, or the place of the first other byte.
-#[derive(Clone, Copy)]
-pub enum Tail {
-    Clear,
-    Junk(usize),
-}
-
-// Refusals 1 and 2, judged over the whole text.
+// Refusals 1 and 2, judged over the whole text. An enum of its own and no Result: one of the two refusals has a place, and the laws on sound texts name the case.
 #[derive(Clone, Copy)]
 pub enum Bytes {
     Sound,
@@ -41,24 +34,9 @@ pub enum Refusal {
     Times,
 }
 
-// What the writer judges of a part of a record: it can be written, or its refusal, 11 or 7.
+// What a reader answers of a text that it refuses; of one that it accepts it answers where the unread rest begins.
 #[derive(Clone, Copy)]
-pub enum Judged {
-    Fine,
-    Refused(Refusal),
-}
-
-// What a reader answers of a text.
-#[derive(Clone, Copy)]
-pub enum Verdict {
-    // The unread rest begins at `rest`.
-    Accepted { rest: usize },
-    Refused { refusal: Refusal, place: usize },
-}
-
-// What a writer answers of a record: how many bytes were written, or why none was.
-#[derive(Clone, Copy)]
-pub enum Written {
-    Count(usize),
-    Refused(Refusal),
+pub struct Refused {
+    pub refusal: Refusal,
+    pub place: usize,
 }

@@ -13,7 +13,7 @@ ghost use Rattle.text.specs.Groups.{next_of, part_of};
 ghost use Rattle.text.specs.Part.{PartAt};
 ghost use Rattle.text.specs.Text.{equals_at, bytes_of, tail_of, TrimmedPart};
 
-use kinds::{Bytes, Cut, Refusal, Tail};
+use kinds::{Bytes, Cut, Refusal};
 
 // Document 01's number of a refusal.
 pub fn refusal_number(r: Refusal) -> u8
@@ -92,15 +92,12 @@ fn passes(run: Run, b: u8) -> bool
 fn reach(text: &[u8], at: usize, run: Run) -> usize
     ensures { result ≡ at + lead (passes run) (drop at text.now) }
 {
-    let mut i = at;
-    while i < text.len() {
-        if passes(run, text[i]) {
-            i += 1;
-        } else {
+    for i in at..text.len() {
+        if !passes(run, text[i]) {
             return i;
         }
     }
-    i
+    at.max(text.len())
 }
 
 // The next group at or after `at`, or where the groups end.
@@ -162,15 +159,9 @@ pub fn anew(g: &[u8]) -> &[u8]
 fn find_last_end(text: &[u8]) -> usize
     ensures { result ≡ last_end text.now }
 {
-    let mut end = text.len();
-    while 0 < end {
-        if is_parting(text[end - 1]) {
-            end -= 1;
-        } else {
-            return end;
-        }
-    }
-    0
+    text.iter()
+        .rposition(|&b| !is_parting(b))
+        .map_or(0, |i| i + 1)
 }
 
 // Are all bytes of the text of the run? The loop looks at every byte and does not leave early, so that the compiler takes many bytes at a time.
@@ -178,10 +169,8 @@ fn are_all(text: &[u8], run: Run) -> bool
     ensures { result ≡ every (passes run) text.now }
 {
     let mut fine = true;
-    let mut i = 0;
-    while i < text.len() {
-        fine = fine & passes(run, text[i]);
-        i += 1;
+    for &b in text {
+        fine &= passes(run, b);
     }
     fine
 }
@@ -221,18 +210,18 @@ pub fn judge_bytes(text: &[u8]) -> Bytes
 }
 
 // What follows the first "=".
-pub fn tail(text: &[u8]) -> Tail
+pub fn tail(text: &[u8]) -> Option<usize>
     ensures { result ≡ tail_of text.now }
 {
     let equals = find_equals(text);
     if text.len() <= equals {
-        return Tail::Clear;
+        return None;
     }
     let place = reach(text, equals + 1, Run::Parting);
     if place < text.len() {
-        Tail::Junk(place)
+        Some(place)
     } else {
-        Tail::Clear
+        None
     }
 }
 

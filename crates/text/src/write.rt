@@ -1,11 +1,10 @@
 // Writing over a lent buffer: what parts a group from the one before it, the end of a report, and a whole text or nothing.
-ghost use Rattle.std.specs.Prelude.{◌≡◌, cond, ◌∷◌, [], length};
+ghost use Rattle.std.specs.Prelude.{◌≡◌, cond, ◌∷◌, [], length, Ok};
 ghost use Rattle.figures.specs.Put.{Put};
-ghost use Rattle.text.specs.declared.kinds.Judged.TheVariants as judged;
 ghost use Rattle.text.specs.Groups.{opening, written};
 ghost use Rattle.text.specs.Write.{answer_by, buffer_by};
 
-use crate::kinds::{Refusal, Written};
+use crate::kinds::Refusal;
 use figures::put;
 
 // Parts a group from the one before it, if any stands before it.
@@ -42,12 +41,12 @@ pub fn close_report(out: &mut [u8], at: usize) -> usize
 }
 
 // The text of a record that is judged fine goes into the lent buffer if it has room.
-pub fn deliver(text: &[u8], out: &mut [u8]) -> Written
-    ensures { (result ≡ answer_by judged.Fine text.now (length out.old)) × (out.new ≡ buffer_by judged.Fine text.now out.old) }
+pub fn deliver(text: &[u8], out: &mut [u8]) -> Result<usize, Refusal>
+    ensures { (result ≡ answer_by (Ok tt) text.now (length out.old)) × (out.new ≡ buffer_by (Ok tt) text.now out.old) }
 {
     if out.len() < text.len() {
-        return Written::Refused(Refusal::Room);
+        return Err(Refusal::Room);
     }
     let count = put::put_text(out, 0, text);
-    Written::Count(count)
+    Ok(count)
 }

@@ -1,5 +1,7 @@
 -- The laws of one group of a trend's change: what it says goes into the change as its place reads it.
 -- Assumes nothing.
+use Rattle.std.specs.Prelude.{Ok, Result}
+use Rattle.text.specs.declared.kinds.Refusal.{Refusal}
 use Prim.Native.Nat.{ℕ, ◌≤◌}
 use mathlib.Core.Path.{◌≡◌, refl}
 use mathlib.Core.Bool.{Bool, true, false}
@@ -8,7 +10,7 @@ use lib.Dec.{T}
 use types.Run.{OneOf}
 use denote.Enum.Declared.{tag_of}
 use Rattle.text.specs.declared.kinds.Refusal.TheVariants as refusal
-use Rattle.places.specs.Engine.{Group, Read, Good, then, place_at, onward}
+use Rattle.places.specs.Engine.{Group, then, place_at, onward}
 use Rattle.places.proofs.Rows.{endless}
 use Rattle.places.proofs.Loop.{at_most}
 use Rattle.record.specs.declared.aerodrome.Times.{Times}
@@ -64,7 +66,7 @@ module _ (k : ℕ) (g : Group) (t : Times) (b : Body) where
   SaysAt i x = (free : Bool) → Says free i k g t b x
 
   -- the times, with those that stand already
-  says-times : (i : ℕ) (read : Times → Read Times) → ((free : Bool) (c : TrendChange) → (place_at (row free) i).read k g c ≡ then (read c.times) (λ x. Good (set_times x c)))
+  says-times : (i : ℕ) (read : Times → Result Times Refusal) → ((free : Bool) (c : TrendChange) → (place_at (row free) i).read k g c ≡ then (read c.times) (λ x. Ok (set_times x c)))
       → SaysAt i (as_times (read t))
   unfolding change_said
   says-times i read reads free = value-says (row free) change_said seen k g i said.Times set_times (read t) (λ c x. refl) (λ c is. rw (← is.0) (reads free c))
@@ -83,7 +85,7 @@ module _ (k : ℕ) (g : Group) (t : Times) (b : Body) where
 
   -- the body
   pub says-body : (i j : ℕ) {x : Said} → BodySays true true false j k g b x
-      → ((free : Bool) (c : TrendChange) → (place_at (row free) i).read k g c ≡ then ((place_at (body_row changing) j).read k g c.body) (λ b. Good (set_body b c))) → SaysAt i x
+      → ((free : Bool) (c : TrendChange) → (place_at (row free) i).read k g c ≡ then ((place_at (body_row changing) j).read k g c.body) (λ b. Ok (set_body b c))) → SaysAt i x
   says-body i j s reads free = body-says (row free) change_said seen k g (λ c. c.body) set_body b (λ c is. is.1) (of-body k g) i s (λ c is. (false, false, reads free c))
 
   -- past the row no group is taken

@@ -1,5 +1,6 @@
 -- The laws of a trend's parts: what a word comes to, how a part is read from group to group, and how the trend is read from part to part.
 -- Assumes nothing.
+use Rattle.std.specs.Prelude.{Ok, Result}
 use Prim.Native.Nat.{ℕ, ◌+◌, ◌-◌, ◌≤◌, ◌<◌}
 use native.Mathlib.Omega.{arith}
 use mathlib.Core.Path.{◌≡◌, refl, sym, ap, ◌∙◌}
@@ -10,8 +11,7 @@ use lib.Dec.{ltb}
 use borrow.Author.Tests.{lt-ltb, ltb-false, leb-true, leb-false, not-false}
 use Rattle.text.specs.declared.kinds.Refusal.{Refusal}
 use Rattle.text.specs.declared.kinds.Refusal.TheVariants as refusal
-use Rattle.text.specs.declared.kinds.Verdict.{Verdict}
-use Rattle.text.specs.declared.kinds.Verdict.TheVariants as verdict
+use Rattle.text.specs.declared.kinds.Refused.{Refused}
 use Rattle.text.specs.Groups.{Piece, groups_from, part_of as bytes_of}
 use Rattle.text.specs.Text.{tail_of}
 use Rattle.figures.specs.Quote.{bytes}
@@ -70,7 +70,7 @@ module _ (g : Group) (start end n : ℕ) where
   pub meets-lacking : (nosig : Bool) → MetWord g start end n nosig true (refused_at refusal.Absence start)
   meets-lacking nosig = record { reads = λ text r h. refl; ahead = λ w to e. impossible (cc) }
 
-  pub meets-stop : (nosig : Bool) → has_any stop_words g ≡ true → MetWord g start end n nosig false (next.End (verdict.Accepted start))
+  pub meets-stop : (nosig : Bool) → has_any stop_words g ≡ true → MetWord g start end n nosig false (next.End (Ok start))
   unfolding comes_to
   meets-stop nosig is = record { reads = λ text r h. rw is; ahead = λ w to e. impossible (cc) }
 
@@ -203,7 +203,7 @@ module _ {text : List ℕ} {first : Word} {at : ℕ} {t : Trend} {w : Word} {n f
       ∙ done.reads (part_after (record { observation = o; trend = t }) w).takes (rw taken (holds stands read.change o))
       ∙ rw (taken, with_it)
 
-  pub trend-ends : {v : Verdict} → read.next ≡ next.End v → TrendRead text first at (record { verdict = v; trend = t' })
+  pub trend-ends : {v : Result ℕ Refused} → read.next ≡ next.End v → TrendRead text first at (record { verdict = v; trend = t' })
   trend-ends ends o = rw ends at (goes_by o)
 
   pub trend-goes : {v : Word} {to : ℕ} → read.next ≡ next.Part v to → Stands text first at t' v (n + 1) to

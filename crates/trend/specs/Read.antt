@@ -1,10 +1,10 @@
 -- Reading a trend: the parts of a METAR or SPECI after its observation (places, Parts), each opened by NOSIG, BECMG or TEMPO.
 -- Assumes nothing: these are definitions.
-use Rattle.std.specs.Prelude.{◌+◌, true, false, cond, set, ltb}
+use Rattle.std.specs.Prelude.{◌+◌, true, false, cond, set, ltb, Ok}
 use Rattle.figures.specs.Quote.{bytes}
 use Rattle.text.specs.declared.kinds.Refusal.TheVariants as refusal
 use Rattle.shapes.specs.Pattern.{has_pattern, has_any}
-use Rattle.places.specs.Engine.{Group, Good}
+use Rattle.places.specs.Engine.{Group}
 use Rattle.places.specs.Parts.{Word as Coming, Ends, Opens, Bars, Part, Parts}
 use Rattle.record.specs.declared.aerodrome.Tendency.{Tendency}
 use Rattle.record.specs.declared.aerodrome.Tendency.TheVariants as tendency
@@ -29,7 +29,7 @@ abbrev pub start_of : Word → TrendChange
 start_of w = set_tendency (tendency_of w) blank_trend_change
 
 abbrev pub opens : Word → Coming Word TrendChange
-opens w = Opens (Good (record { kind = w; start = start_of w }))
+opens w = Opens (Ok (record { kind = w; start = start_of w }))
 
 -- ---- what a word comes to, after what was read of the trend
 

@@ -1,12 +1,12 @@
 -- What the functions that read a trend answer, in terms of its parts.
 -- Assumes nothing: these are definitions.
-use Rattle.std.specs.Prelude.{ℕ, ◌+◌, ◌-◌, ◌≤◌, ◌<◌, ◌≡◌, Bool, true, false, cond, not, List, length, ltb}
+use Rattle.std.specs.Prelude.{ℕ, ◌+◌, ◌-◌, ◌≤◌, ◌<◌, ◌≡◌, Bool, true, false, cond, not, List, length, ltb, Err}
 use Rattle.figures.specs.Quote.{bytes}
 use Rattle.text.specs.declared.kinds.Refusal.{Refusal}
 use Rattle.text.specs.declared.kinds.Refusal.TheVariants as refusal
-use Rattle.text.specs.declared.kinds.Verdict.TheVariants as verdict
 use Rattle.text.specs.Groups.{groups_from}
 use Rattle.text.specs.Text.{tail_of}
+use Rattle.text.specs.Refusals.{refused_with}
 use Rattle.shapes.specs.Pattern.{has_pattern}
 use Rattle.places.specs.Engine.{Group, Outcome}
 use Rattle.places.specs.Answer.{outcome_of}
@@ -38,7 +38,7 @@ part_by text w takes n at = part_from (tail_of text) (length text) (part_in w ta
 -- ---- what follows a part, or the observation
 
 abbrev pub refused_at : Refusal → ℕ → Next
-refused_at f at = next.End (verdict.Refused f at)
+refused_at f at = next.End (Err (refused_with f at))
 
 abbrev pub after_part : List ℕ → ℕ → Metar → Next → Outcome Metar
 after_part text n r (next.End v) = outcome_of v r

@@ -1,10 +1,9 @@
 -- Writing a trend: what the writer judges of it, the groups that are written, and the trend that is read back.
 -- Assumes nothing: these are definitions.
-use Rattle.std.specs.Prelude.{Bool, true, cond, not, ◌&&◌, List, [], ◌∷◌, ◌++◌, map, take, drop, leb}
+use Rattle.std.specs.Prelude.{⊤, Bool, true, cond, not, ◌&&◌, List, [], ◌∷◌, ◌++◌, map, take, drop, leb, Ok, Result}
+use Rattle.text.specs.declared.kinds.Refusal.{Refusal}
 use Rattle.figures.specs.Quote.{bytes}
 use Rattle.figures.specs.Figures.{every}
-use Rattle.text.specs.declared.kinds.Judged.{Judged}
-use Rattle.text.specs.declared.kinds.Judged.TheVariants as judged
 use Rattle.text.specs.Judge.{judge, and_then}
 use Rattle.places.specs.Engine.{Group, written, put_all}
 use Rattle.record.specs.declared.aerodrome.Tendency.{Tendency}
@@ -20,18 +19,18 @@ use Rattle.trend_row.specs.Row.{row}
 
 -- ---- judging: the count and the slots past it, then change by change its word, its times, its body, and that it has an element
 
-abbrev pub judge_change_body : Body → Judged
+abbrev pub judge_change_body : Body → Result ⊤ Refusal
 judge_change_body b = and_then (judge_body changing b) (judge (has_element b) true)
 
 -- "NOSIG beside one 7": at the word, before its times and its body
-unfoldable pub judge_change : Bool → TrendChange → Judged
+unfoldable pub judge_change : Bool → TrendChange → Result ⊤ Refusal
 judge_change nosig c = and_then (judge (not (no_tendency c.tendency)) (not nosig)) (and_then (judge (hours_fit c.times.is) true) (judge_change_body c.body))
 
-abbrev pub judge_each : Bool → List TrendChange → Judged
-judge_each nosig [] = judged.Fine
+abbrev pub judge_each : Bool → List TrendChange → Result ⊤ Refusal
+judge_each nosig [] = Ok tt
 judge_each nosig (c ∷ cs) = and_then (judge_change nosig c) (judge_each nosig cs)
 
-unfoldable pub judge_trend : Trend → Judged
+unfoldable pub judge_trend : Trend → Result ⊤ Refusal
 judge_trend t = and_then (judge (leb t.count 3 && every is_blank_trend_change (drop t.count t.items)) true) (judge_each t.nosig (take t.count t.items))
 
 -- ---- the groups

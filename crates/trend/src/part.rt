@@ -41,14 +41,9 @@ fn tendency_of(word: Word) -> Tendency
 fn start_of(word: Word) -> TrendChange
     ensures { result ≡ start_of word }
 {
-    let blank = blank_trend_change();
-    let tendency = tendency_of(word);
-    let times = blank.times;
-    let body = blank.body;
     TrendChange {
-        tendency,
-        times,
-        body,
+        tendency: tendency_of(word),
+        ..blank_trend_change()
     }
 }
 
@@ -57,10 +52,10 @@ fn start_of(word: Word) -> TrendChange
 fn end_part(text: &[u8], word: Word, change: TrendChange) -> PartRead
     ensures { result ≡ record { next = next.End (end_verdict (tail_of text.now) (length text.now) (lacks_in word change.body)); change = change } }
 {
-    let body = change.body;
-    let verdict = end_verdict(text, lacks(word, body));
-    let next = Next::End(verdict);
-    PartRead { next, change }
+    PartRead {
+        next: Next::End(end_verdict(text, lacks(word, change.body))),
+        change,
+    }
 }
 
 fn leave_part(
@@ -73,16 +68,18 @@ fn leave_part(
 ) -> PartRead
     ensures { (result.change ≡ change) × MetWord g.now start end n (not (is_change word)) (lacks_in word change.body) result.next }
 {
-    let body = change.body;
-    let next = meet_word(g, start, end, n, !is_change(word), lacks(word, body));
+    let lacking = lacks(word, change.body);
+    let next = meet_word(g, start, end, n, !is_change(word), lacking);
     PartRead { next, change }
 }
 
 fn refuse_part(refusal: Refusal, place: usize, change: TrendChange) -> PartRead
     ensures { result ≡ record { next = refused_at refusal place; change = change } }
 {
-    let next = refuse(refusal, place);
-    PartRead { next, change }
+    PartRead {
+        next: refuse(refusal, place),
+        change,
+    }
 }
 
 // The next group of the text: where it goes in the row, and what it says there. Of the change it sees what a reading depends on.
@@ -101,8 +98,7 @@ fn meet(
         return Met::Over;
     };
     let g = text::part(text, start, end);
-    let turn = decide(free, place, count, g);
-    match turn {
+    match decide(free, place, count, g) {
         Turn::Halt => Met::Halt { start, end },
         Turn::Refused(refusal) => Met::Refused { refusal, start },
         Turn::At {

@@ -17,16 +17,14 @@ pub fn read_trend(text: &[u8], at: usize, first: Word) -> Ahead
     let mut n = 0;
     loop {
         let read = read_part(text, from, word, n + 1);
-        let change = read.change;
         if is_change(word) {
-            trend.items[n] = change;
+            trend.items[n] = read.change;
             trend.count = n + 1;
         } else {
             trend.nosig = true;
         }
         n += 1;
-        let next = read.next;
-        match next {
+        match read.next {
             Next::End(verdict) => return Ahead { verdict, trend },
             Next::Part {
                 word: other,

@@ -6,14 +6,14 @@ ghost use Rattle.trend.specs.Step.{refused_at, nosig_met, change_met, MetWord};
 
 use crate::kinds::Next;
 use shapes::has_pattern;
-use text::kinds::{Refusal, Verdict};
+use text::kinds::{Refusal, Refused};
 use trend_row::kinds::Word;
 use trend_row::tests::is_full;
 
 pub fn refuse(refusal: Refusal, place: usize) -> Next
     ensures { result ≡ refused_at refusal place }
 {
-    Next::End(Verdict::Refused { refusal, place })
+    Next::End(Err(Refused { refusal, place }))
 }
 
 fn is_stop_word(g: &[u8]) -> bool
@@ -50,17 +50,12 @@ fn meet_change(g: &[u8], start: usize, end: usize, n: usize, nosig: bool) -> Nex
     if is_full(n) {
         return refuse(Refusal::Limit, start);
     }
-    if has_pattern(g, b"BECMG") {
-        Next::Part {
-            word: Word::Becoming,
-            at: end,
-        }
+    let word = if has_pattern(g, b"BECMG") {
+        Word::Becoming
     } else {
-        Next::Part {
-            word: Word::Temporary,
-            at: end,
-        }
-    }
+        Word::Temporary
+    };
+    Next::Part { word, at: end }
 }
 
 // A word from start up to end, after n changes or after NOSIG: what stood before it must lack nothing.
@@ -71,7 +66,7 @@ pub fn meet_word(g: &[u8], start: usize, end: usize, n: usize, nosig: bool, lack
         return refuse(Refusal::Absence, start);
     }
     if is_stop_word(g) {
-        return Next::End(Verdict::Accepted { rest: start });
+        return Next::End(Ok(start));
     }
     if has_pattern(g, b"NOSIG") {
         meet_nosig(start, end, n, nosig)

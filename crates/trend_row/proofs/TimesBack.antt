@@ -1,6 +1,8 @@
 -- The times of a trend's change: what is written of times that fit has the shape of its place, takes six bytes, and is read back as it was; and of the three
 -- places together nothing is lost.
 -- Assumes nothing.
+use Rattle.std.specs.Prelude.{Ok, Result}
+use Rattle.text.specs.declared.kinds.Refusal.{Refusal}
 use Prim.Native.Nat.{ℕ, ◌≤◌}
 use native.Mathlib.Omega.{arith}
 use mathlib.Core.Path.{◌≡◌, refl, ◌∙◌}
@@ -15,7 +17,7 @@ use Rattle.figures.specs.Figures.{figures, field_at, field_text, number_text}
 use Rattle.figures.proofs.Figures.{length-field, field_back}
 use Rattle.shapes.specs.Pattern.{low, high, fits, has_pattern}
 use Rattle.shapes.proofs.Patterns.{both, or_cases, pattern-append, field-pattern}
-use Rattle.places.specs.Engine.{Group, Read, Good, then}
+use Rattle.places.specs.Engine.{Group, then}
 use Rattle.places.proofs.ReadBack.{one-pattern}
 use Rattle.places.proofs.Sizes.{measured, sized-any}
 use Rattle.places.proofs.Kept.{Kept, keep_one, keep-none}
@@ -55,7 +57,7 @@ module _ (a b : ℕ) (end : Bool) (t : Moment) (e : moment_fits end t ≡ true) 
       pattern-append (number_text 2 t.hour) (number_text 2 t.minute) (replicate 2 35) (replicate 2 35) refl two ∙ rw (h, m)
 
   -- IT IS READ AS IT WAS.
-  moment-back : read_moment end said ≡ Good t
+  moment-back : read_moment end said ≡ Ok t
   unfolding read_moment field_text number_text figures
   moment-back =
       let f = few in
@@ -65,8 +67,8 @@ module _ (a b : ℕ) (end : Bool) (t : Moment) (e : moment_fits end t ≡ true) 
 
   -- so a place of these letters that writes it, and reads it as the next times, keeps it
   kept-moment : has_pattern said shape ≡ true → measured 6 (shape ∷ []) ≡ true
-      → (read : Group → Times → Read Times) (show : Hours → List Group) (put : Hours → Hours → Hours) (next : Moment → Hours) (h : Hours) (acc : Times)
-      → show h ≡ said ∷ [] → read said acc ≡ then (read_moment end said) (λ m. Good (times_of (next m))) → put h acc.is ≡ next t
+      → (read : Group → Times → Result Times Refusal) (show : Hours → List Group) (put : Hours → Hours → Hours) (next : Moment → Hours) (h : Hours) (acc : Times)
+      → show h ≡ said ∷ [] → read said acc ≡ then (read_moment end said) (λ m. Ok (times_of (next m))) → put h acc.is ≡ next t
       → Kept (moment_place shape read show put) 6 (times_of h) acc
   kept-moment shaped room read show put next h acc is reads puts =
       let covered = one-pattern shape said shaped in

@@ -1,15 +1,10 @@
--- What the row's tests in the code say, and those that decide at a word or at a change's end.
+-- What the tests in the code that decide at a word or at a change's end say.
 -- Assumes nothing: these are definitions.
-use Rattle.std.specs.Prelude.{ℕ, ◌≡◌, Bool, not, ◌&&◌, leb}
-use Rattle.places.specs.Engine.{Group, place_at}
+use Rattle.std.specs.Prelude.{ℕ, Bool, not, ◌&&◌, leb}
 use Rattle.record.specs.declared.aerodrome.Body.{Body}
 use Rattle.elements.specs.Body.{has_element}
 use Rattle.trend_row.specs.declared.kinds.Word.{Word}
-use Rattle.trend_row.specs.Row.{is_change, row}
-
--- whether place i has the group's shape, after any word
-abbrev pub HasAt : ℕ → Group → Bool → Type 0
-HasAt i g b = (free : Bool) → b ≡ (place_at (row free) i).has g
+use Rattle.trend_row.specs.Row.{is_change}
 
 -- "A change body needs one element"; after NOSIG nothing is needed
 abbrev pub lacks_in : Word → Body → Bool

@@ -1,12 +1,13 @@
 -- The times of a trend's change: "each with up to two times (FM, TL or AT and GGgg, 0000 to 2359, TL to 2400; AT alone, FM written before TL whatever
 -- their hours)". Three places, in this order, which the row of a trend's change lifts; "times otherwise joined .. are 6".
 -- Assumes nothing: these are definitions.
-use Rattle.std.specs.Prelude.{ℕ, Bool, true, false, cond, not, ◌&&◌, ◌||◌, List, [], ◌∷◌, ◌++◌, eqb}
+use Rattle.std.specs.Prelude.{ℕ, Bool, true, false, cond, not, ◌&&◌, ◌||◌, List, [], ◌∷◌, ◌++◌, eqb, Err, Ok, Result}
+use Rattle.text.specs.declared.kinds.Refusal.{Refusal}
 use Rattle.figures.specs.Quote.{bytes}
 use Rattle.figures.specs.Figures.{field_at, number_text}
 use Rattle.text.specs.declared.kinds.Refusal.TheVariants as refusal
 use Rattle.shapes.specs.Pattern.{Pattern, has_pattern}
-use Rattle.places.specs.Engine.{Group, Read, Good, Bad, then, Place}
+use Rattle.places.specs.Engine.{Group, then, Place}
 use Rattle.record.specs.declared.aerodrome.Moment.{Moment}
 use Rattle.record.specs.declared.aerodrome.Hours.{Hours}
 use Rattle.record.specs.declared.aerodrome.Hours.TheVariants as hours
@@ -33,8 +34,8 @@ moment_fits end t = (is_hour t.hour && is_minute t.minute) || (end && (eqb t.hou
 abbrev pub moment_of : ℕ → ℕ → Moment
 moment_of h m = record { hour = h; minute = m }
 
-unfoldable pub read_moment : Bool → Group → Read Moment
-read_moment end g = figured (field_at g 2 2) (λ h. figured (field_at g 4 2) (λ m. provided (moment_fits end (moment_of h m)) (Good (moment_of h m))))
+unfoldable pub read_moment : Bool → Group → Result Moment Refusal
+read_moment end g = figured (field_at g 2 2) (λ h. figured (field_at g 4 2) (λ m. provided (moment_fits end (moment_of h m)) (Ok (moment_of h m))))
 
 -- ---- reading, with the times that stand already
 
@@ -60,16 +61,16 @@ is_barred mark.From h = false
 is_barred mark.Until h = false
 is_barred mark.At h = not (no_hours h)
 
-abbrev pub read_time : Mark → Group → Hours → Read Times
-read_time m g h = cond (is_barred m h) (Bad refusal.Order) (then (read_moment (is_end m) g) (λ t. Good (times_of (with_time m h t))))
+abbrev pub read_time : Mark → Group → Hours → Result Times Refusal
+read_time m g h = cond (is_barred m h) (Err refusal.Order) (then (read_moment (is_end m) g) (λ t. Ok (times_of (with_time m h t))))
 
-abbrev pub read_from : Group → Read Times
+abbrev pub read_from : Group → Result Times Refusal
 read_from g = read_time mark.From g hours.None
 
-abbrev pub read_until : Group → Times → Read Times
+abbrev pub read_until : Group → Times → Result Times Refusal
 read_until g t = read_time mark.Until g t.is
 
-abbrev pub read_at : Group → Times → Read Times
+abbrev pub read_at : Group → Times → Result Times Refusal
 read_at g t = read_time mark.At g t.is
 
 -- ---- writing
@@ -131,7 +132,7 @@ hours_fit (hours.At t) = moment_fits false t
 
 -- ---- the places
 
-abbrev pub moment_place : Pattern → (Group → Times → Read Times) → (Hours → List Group) → (Hours → Hours → Hours) → Place Times
+abbrev pub moment_place : Pattern → (Group → Times → Result Times Refusal) → (Hours → List Group) → (Hours → Hours → Hours) → Place Times
 moment_place shape read show put =
     record {
       has = λ g. has_pattern g shape;

@@ -11,9 +11,7 @@ use record::aerodrome::Body;
 pub fn lacks(word: Word, b: Body) -> bool
     ensures { result ≡ lacks_in word b }
 {
-    let change = is_change(word);
-    let some = has_element(b);
-    change & !some
+    is_change(word) & !has_element(b)
 }
 
 // There is no room for one change more.

@@ -31,10 +31,8 @@ fn is_end(mark: Mark) -> bool
 fn is_right(end: bool, t: Moment) -> bool
     ensures { result ≡ moment_fits end t }
 {
-    let hour = t.hour;
-    let minute = t.minute;
-    let usual = (hour <= 23) & (minute <= 59);
-    let last = (hour == 24) & (minute == 0);
+    let usual = (t.hour <= 23) & (t.minute <= 59);
+    let last = (t.hour == 24) & (t.minute == 0);
     usual | (end & last)
 }
 
@@ -66,6 +64,7 @@ fn is_barred(mark: Mark, hours: Hours) -> bool
     }
 }
 
+#[tactic(auto, unfolding(crate::specs::Times::read_moment))]
 fn read_time(mark: Mark, g: &[u8], hours: Hours) -> Said
     ensures { result ≡ as_times (read_time mark g.now hours) }
 {
@@ -80,8 +79,9 @@ fn read_time(mark: Mark, g: &[u8], hours: Hours) -> Said
     };
     let moment = Moment { hour, minute };
     if is_right(is_end(mark), moment) {
-        let is = with_time(mark, hours, moment);
-        Said::Times(Times { is })
+        Said::Times(Times {
+            is: with_time(mark, hours, moment),
+        })
     } else {
         Said::Refused(Refusal::Figure)
     }
@@ -90,25 +90,19 @@ fn read_time(mark: Mark, g: &[u8], hours: Hours) -> Said
 pub fn read_from(g: &[u8]) -> Said
     ensures { result ≡ as_times (read_from g.now) }
 {
-    let mark = Mark::From;
-    let none = Hours::None;
-    read_time(mark, g, none)
+    read_time(Mark::From, g, Hours::None)
 }
 
 pub fn read_until(g: &[u8], times: Times) -> Said
     ensures { result ≡ as_times (read_until g.now times) }
 {
-    let mark = Mark::Until;
-    let hours = times.is;
-    read_time(mark, g, hours)
+    read_time(Mark::Until, g, times.is)
 }
 
 pub fn read_at(g: &[u8], times: Times) -> Said
     ensures { result ≡ as_times (read_at g.now times) }
 {
-    let mark = Mark::At;
-    let hours = times.is;
-    read_time(mark, g, hours)
+    read_time(Mark::At, g, times.is)
 }
 
 // ---- judging
@@ -140,8 +134,7 @@ fn put_moment(out: &mut [u8], at: usize, word: &[u8], t: Moment) -> usize
 pub fn put_times(out: &mut [u8], at: usize, times: Times) -> usize
     ensures { Put out.old at (written at (show_from times.is ++ (show_until times.is ++ show_at times.is))) result out.new }
 {
-    let hours = times.is;
-    match hours {
+    match times.is {
         Hours::None => at,
         Hours::From(from) => put_moment(out, at, b"FM", from),
         Hours::Until(until) => put_moment(out, at, b"TL", until),

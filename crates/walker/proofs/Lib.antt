@@ -1,4 +1,3 @@
--- The laws of a walk, for the proofs of the functions and for other crates; and the calls that those proofs share.
--- Assumes nothing but the `Given` that `Asking` takes.
+-- The laws of a walk, for other crates.
+-- Assumes nothing.
 pub mod Walks
-pub mod Asking

@@ -2,7 +2,7 @@
 -- from where the walk goes on.
 -- Assumes nothing.
 use mathlib.Core.Path.{◌≡◌, refl}
-use mathlib.Core.List.{List, []}
+use mathlib.Core.List.{List}
 use Prim.Native.Nat.{ℕ}
 use Rattle.figures.specs.Quote.{bytes}
 use Rattle.text.specs.Bytes.{lead}

@@ -22,7 +22,7 @@ pub fn after(cut: Cut) -> usize
     ensures { result ≡ after_of cut }
 {
     match cut {
-        Cut::Group { start: _, end } => end,
+        Cut::Group { end, .. } => end,
         Cut::End { at } => at,
     }
 }
@@ -56,8 +56,8 @@ pub fn past<'a>(w: Walker<'a>, cut: Cut) -> Walker<'a>
     ensures { (result.text ≡ w.entry.text) × (result.at ≡ after_of cut) }
 {
     Walker {
-        text: w.text,
         at: after(cut),
+        ..w
     }
 }
 
@@ -65,7 +65,7 @@ pub fn past<'a>(w: Walker<'a>, cut: Cut) -> Walker<'a>
 pub fn next<'s, 'a>(w: &'s mut Walker<'a>) -> Cut
     ensures { (result ≡ next_of w.old.text.now w.old.at) × (w.new.text ≡ w.old.text) × (w.new.at ≡ after_of (next_of w.old.text.now w.old.at)) }
 {
-    let cut = text::next_group(w.text, w.at);
+    let cut = group(*w);
     w.at = after(cut);
     cut
 }

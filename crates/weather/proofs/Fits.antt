@@ -1,6 +1,7 @@
 -- What codes that are joined as they may be are: codes of the table, a descriptor only in front, one or more, and after VC at most one beside it.
 -- And which descriptors stand alone.
 -- Assumes nothing.
+use Rattle.std.specs.Prelude.{None, Option, Some}
 use mathlib.Core.Path.{◌≡◌, refl}
 use mathlib.Core.Bool.{Bool, true, false, cond, not, ◌&&◌, and-true, and-false, or-false}
 use mathlib.Core.List.{List, [], ◌∷◌}
@@ -14,7 +15,6 @@ use Rattle.shapes.proofs.Patterns.{both, or_cases}
 use Rattle.record.specs.declared.aerodrome.Intensity.{Intensity}
 use Rattle.record.specs.declared.aerodrome.Intensity.TheVariants as intensity
 use Rattle.record.specs.declared.aerodrome.Code.{Code}
-use Rattle.record.specs.declared.aerodrome.Code.TheVariants as code
 use Rattle.elements.specs.Weather.{codes_of, among, one, is_descriptor, is_precipitation, is_phenomenon, all_among, differ, precipitations, single, suits, bare, listed, under, Under, joined, right, in_vicinity, is_described, intensity_fits}
 use Rattle.weather.proofs.Table.{in_table, all-in-table}
 
@@ -91,51 +91,51 @@ module _ (cs : List (List ℕ)) where
   bare-plain h = or_cases (single is_phenomenon cs) (precipitations cs) h (lone (codes_of (bytes "BRFGFUVADUSAHZPOSQFCSSDS")) (unfold codes_of in refl)) fallen
 
   -- under one there may be none, as TS stands alone
-  right-plain : (d : Code) → right (under d cs) ≡ true → all_among is_plain cs ≡ true
-  right-plain code.None h = (bare-plain h).1
-  right-plain (code.Letters a b) h =
-      or_cases (one "TS" (a ∷ b ∷ []) && eqb (length cs) 0) (suits (a ∷ b ∷ []) cs) h
-      (λ h. none-plain (eqb-true (length cs) 0 (both (one "TS" (a ∷ b ∷ [])) _ h).1))
-      (λ h. (suits-plain (a ∷ b ∷ []) h).1)
+  right-plain : (d : Option Code) → right (under d cs) ≡ true → all_among is_plain cs ≡ true
+  right-plain None h = (bare-plain h).1
+  right-plain (Some x) h =
+      or_cases (one "TS" (x.first ∷ x.second ∷ []) && eqb (length cs) 0) (suits (x.first ∷ x.second ∷ []) cs) h
+      (λ h. none-plain (eqb-true (length cs) 0 (both (one "TS" (x.first ∷ x.second ∷ [])) _ h).1))
+      (λ h. (suits-plain (x.first ∷ x.second ∷ []) h).1)
 
   -- after VC
   dusty : single (one "DSSSFGFCPOVA") cs ≡ true → Plain cs
   dusty = lone (codes_of (bytes "DSSSFGFCPOVA")) (unfold codes_of in refl)
 
-  near-plain : (d : Code) → in_vicinity (under d cs) ≡ true → (all_among is_plain cs ≡ true) × (length cs ≤ 1)
-  near-plain code.None h = ((dusty h).1, omega (arith, single-one cs (one "DSSSFGFCPOVA") h))
-  near-plain (code.Letters a b) h =
-      or_cases (one "SHTS" (a ∷ b ∷ []) && eqb (length cs) 0) (one "BL" (a ∷ b ∷ []) && single (one "DUSASN") cs) h
-      (λ h. let e = eqb-true (length cs) 0 (both (one "SHTS" (a ∷ b ∷ [])) _ h).1 in (none-plain e, omega arith))
-      (λ h. let s = (both (one "BL" (a ∷ b ∷ [])) _ h).1 in ((drift s).1, omega (arith, single-one cs (one "DUSASN") s)))
+  near-plain : (d : Option Code) → in_vicinity (under d cs) ≡ true → (all_among is_plain cs ≡ true) × (length cs ≤ 1)
+  near-plain None h = ((dusty h).1, omega (arith, single-one cs (one "DSSSFGFCPOVA") h))
+  near-plain (Some x) h =
+      or_cases (one "SHTS" (x.first ∷ x.second ∷ []) && eqb (length cs) 0) (one "BL" (x.first ∷ x.second ∷ []) && single (one "DUSASN") cs) h
+      (λ h. let e = eqb-true (length cs) 0 (both (one "SHTS" (x.first ∷ x.second ∷ [])) _ h).1 in (none-plain e, omega arith))
+      (λ h. let s = (both (one "BL" (x.first ∷ x.second ∷ [])) _ h).1 in ((drift s).1, omega (arith, single-one cs (one "DUSASN") s)))
 
-  pub fit-plain : (i : Intensity) (d : Code) → intensity_fits i (under d cs) ≡ true → all_among is_plain cs ≡ true
+  pub fit-plain : (i : Intensity) (d : Option Code) → intensity_fits i (under d cs) ≡ true → all_among is_plain cs ≡ true
   fit-plain intensity.None d h = right-plain d h
   fit-plain intensity.Light d h = right-plain d (both (right (under d cs)) _ h).0
   fit-plain intensity.Heavy d h = right-plain d (both (right (under d cs)) _ h).0
   fit-plain intensity.Vicinity d h = (near-plain d h).0
 
   -- without a descriptor there is a code
-  pub fit-some : (i : Intensity) → intensity_fits i (under code.None cs) ≡ true → 1 ≤ length cs
+  pub fit-some : (i : Intensity) → intensity_fits i (under None cs) ≡ true → 1 ≤ length cs
   fit-some intensity.None h = (bare-plain h).0
   fit-some intensity.Light h = (bare-plain (both (bare cs) _ h).0).0
   fit-some intensity.Heavy h = (bare-plain (both (bare cs) _ h).0).0
   fit-some intensity.Vicinity h = (dusty h).0
 
   -- after VC at most one code beside the descriptor
-  pub fit-few : (d : Code) → intensity_fits intensity.Vicinity (under d cs) ≡ true → length cs ≤ 1
+  pub fit-few : (d : Option Code) → intensity_fits intensity.Vicinity (under d cs) ≡ true → length cs ≤ 1
   fit-few d h = (near-plain d h).1
 
   -- a descriptor and the codes after it
-  pub fit-coded : (i : Intensity) (d : Code) → is_described d ≡ true → intensity_fits i (under d cs) ≡ true → all_among is_joined (listed d cs) ≡ true
+  pub fit-coded : (i : Intensity) (d : Option Code) → is_described d ≡ true → intensity_fits i (under d cs) ≡ true → all_among is_joined (listed d cs) ≡ true
   fit-coded i d e h = go d e
     where
       rest : all_among is_joined cs ≡ true
       rest = all-in-table is_joined plains (unfold codes_of in refl) cs (fit-plain i d h)
 
-      go : (d : Code) → is_described d ≡ true → all_among is_joined (listed d cs) ≡ true
-      go code.None e = rest
-      go (code.Letters a b) e = rw (in_table is_joined (codes_of (bytes "MIBCPRDRBLSHTSFZ")) (unfold codes_of in refl) (a ∷ b ∷ []) e) rest
+      go : (d : Option Code) → is_described d ≡ true → all_among is_joined (listed d cs) ≡ true
+      go None e = rest
+      go (Some x) e = rw (in_table is_joined (codes_of (bytes "MIBCPRDRBLSHTSFZ")) (unfold codes_of in refl) (x.first ∷ x.second ∷ []) e) rest
 
 -- ---- WHICH DESCRIPTORS STAND ALONE, in a text and in a record: TS, after VC also SH, and after a sign none
 
@@ -166,7 +166,7 @@ plain-only c h =
     (in_table (λ c. not (is_descriptor c)) plains (unfold codes_of in refl) c h)
 
 -- codes are read under the descriptor that they were written under
-pub fit-joined : (i : Intensity) (d : Code) (cs : List (List ℕ)) → is_described d ≡ true → intensity_fits i (under d cs) ≡ true → joined (listed d cs) ≡ under d cs
-fit-joined i code.None [] e h = refl
-fit-joined i code.None (c ∷ cs) e h = rw (plain-only c (both (is_plain c) _ (fit-plain (c ∷ cs) i code.None h)).0)
-fit-joined i (code.Letters a b) cs e h = rw e
+pub fit-joined : (i : Intensity) (d : Option Code) (cs : List (List ℕ)) → is_described d ≡ true → intensity_fits i (under d cs) ≡ true → joined (listed d cs) ≡ under d cs
+fit-joined i None [] e h = refl
+fit-joined i None (c ∷ cs) e h = rw (plain-only c (both (is_plain c) _ (fit-plain (c ∷ cs) i None h)).0)
+fit-joined i (Some x) cs e h = rw e

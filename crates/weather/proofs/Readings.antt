@@ -1,7 +1,8 @@
 -- What a group says in the words of the code: its shape, its sign and descriptor by position, and its reading by its answer.
 -- Assumes nothing.
+use Rattle.std.specs.Prelude.{Err, Ok, None, Option, Some}
 use mathlib.Core.Path.{◌≡◌, refl, sym}
-use mathlib.Core.Bool.{Bool, true, false, cond, not, ◌&&◌, and-true, and-false, and_assoc, or-false, false≢true}
+use mathlib.Core.Bool.{Bool, true, false, not, ◌&&◌, and-true, and-false, and_assoc, or-false, false≢true}
 use mathlib.Core.List.{List, [], ◌∷◌}
 use Prim.Native.Nat.{ℕ, suc, ◌%◌}
 use native.Mathlib.Omega.{arith}
@@ -9,16 +10,12 @@ use lib.ListN.{length, drop, get_or}
 use lib.Dec.{ltb, eqb}
 use Rattle.figures.specs.Quote.{bytes}
 use Rattle.text.specs.declared.kinds.Refusal.TheVariants as refusal
-use Rattle.places.specs.Engine.{Group, Read, Good, Bad}
+use Rattle.places.specs.Engine.{Group}
 use Rattle.record.specs.declared.aerodrome.Intensity.{Intensity}
 use Rattle.record.specs.declared.aerodrome.Code.{Code}
-use Rattle.record.specs.declared.aerodrome.Code.TheVariants as code
-use Rattle.record.specs.declared.aerodrome.Phenomena.TheVariants as phenomena
-use Rattle.record.specs.declared.aerodrome.Weather.{Weather}
-use Rattle.elements.specs.declared.kinds.WeatherRead.TheVariants as weather
-use Rattle.elements.specs.Answers.{as_weather}
-use Rattle.elements.specs.Weather.{codes_of, among, all_among, all_codes, is_code, is_descriptor, is_sign, are_codes, some_codes, signed_codes, has_recent, under, joined, intensity_fits, weather_of, code_at, said_weather, unless_unknown, only_plain, read_recent, one}
-use Rattle.weather.specs.Split.{intensity_of, sign_length, descriptor_of, code_length, told, reading_of}
+use Rattle.record.specs.Values.{phenomena_of}
+use Rattle.elements.specs.Weather.{codes_of, among, all_among, all_codes, is_code, is_descriptor, are_codes, some_codes, under, joined, intensity_fits, weather_of, code_at, said_weather, unless_unknown, only_plain, read_recent, one}
+use Rattle.weather.specs.Split.{intensity_of, sign_length, descriptor_of, code_length, told}
 use Rattle.weather.proofs.Table.{in_table, all_alike, code-among}
 
 -- ---- shapes
@@ -38,21 +35,10 @@ are-codes (a ∷ b ∷ s) = rw (are-codes s, even-next (length s)) (swap (is_cod
     swap false true z = refl
     swap false false z = refl
 
-pub some-codes : (s : List ℕ) → some_codes s ≡ (ltb 0 (length s) && eqb (length s % 2) 0 && all_among (λ c. among c all_codes) (codes_of s))
-some-codes s =
+pub codes_some : (s : List ℕ) → some_codes s ≡ (ltb 0 (length s) && eqb (length s % 2) 0 && all_among (λ c. among c all_codes) (codes_of s))
+codes_some s =
     rw (are-codes s, all_alike (λ c. among c all_codes) is_code code-among (codes_of s))
     (sym (and_assoc (ltb 0 (length s)) (eqb (length s % 2) 0) (all_among is_code (codes_of s))))
-
-pub signed-codes : (g : Group) → signed_codes g ≡ cond (is_sign (get_or g 0 0)) (some_codes (drop 1 g)) (some_codes g)
-unfolding signed_codes
-signed-codes [] = refl
-signed-codes (b ∷ g) = refl
-
-pub recent-codes : (g : Group) → has_recent g ≡ (eqb (get_or g 0 0) 82 && eqb (get_or g 1 0) 69 && signed_codes (drop 2 g))
-unfolding has_recent
-recent-codes [] = refl
-recent-codes (r ∷ []) = rw (and-false (eqb r 82))
-recent-codes (r ∷ e ∷ g) = refl
 
 -- ---- the descriptor
 
@@ -75,24 +61,24 @@ joined_is (a ∷ b ∷ s) = go (is_descriptor (a ∷ b ∷ [])) refl
     go true h = rw h
     go false h = rw h
 
-pub weather-of : (i : Intensity) (d : Code) (cs : List (List ℕ))
-    → weather_of i (under d cs) ≡ record { is = phenomena.Is i d (code_at cs 0) (code_at cs 1) (code_at cs 2) }
-weather-of i code.None cs = refl
-weather-of i (code.Letters a b) cs = refl
+pub weather-of : (i : Intensity) (d : Option Code) (cs : List (List ℕ))
+    → weather_of i (under d cs) ≡ record { is = Some (phenomena_of i d (code_at cs 0) (code_at cs 1) (code_at cs 2)) }
+weather-of i None cs = refl
+weather-of i (Some x) cs = refl
 
 -- codes after their sign or VC, by the descriptor and what stands after it
-module _ (i : Intensity) (s : List ℕ) {d : Code} {rest : List ℕ} (named : d ≡ descriptor_of s) (left : rest ≡ drop (code_length d) s) where
+module _ (i : Intensity) (s : List ℕ) {d : Option Code} {rest : List ℕ} (named : d ≡ descriptor_of s) (left : rest ≡ drop (code_length d) s) where
   parts : joined (codes_of s) ≡ under d (codes_of rest)
   parts = rw (joined_is s, ← named, ← left)
 
-  pub told-good : intensity_fits i (under d (codes_of rest)) ≡ true
-      → weather.Good (record { is = phenomena.Is i d (code_at (codes_of rest) 0) (code_at (codes_of rest) 1) (code_at (codes_of rest) 2) }) ≡ as_weather (told i (codes_of s))
+  pub told_good : intensity_fits i (under d (codes_of rest)) ≡ true
+      → Ok (record { is = Some (phenomena_of i d (code_at (codes_of rest) 0) (code_at (codes_of rest) 1) (code_at (codes_of rest) 2)) }) ≡ told i (codes_of s)
   unfolding told
-  told-good h = rw (parts, h, weather-of i d (codes_of rest))
+  told_good h = rw (parts, h, weather-of i d (codes_of rest))
 
-  pub told-bad : intensity_fits i (under d (codes_of rest)) ≡ false → weather.Bad refusal.Figure ≡ as_weather (told i (codes_of s))
+  pub told_bad : intensity_fits i (under d (codes_of rest)) ≡ false → Err refusal.Figure ≡ told i (codes_of s)
   unfolding told
-  told-bad h = rw (parts, h)
+  told_bad h = rw (parts, h)
 
 -- ---- the sign or VC
 
@@ -113,10 +99,10 @@ is-vicinity : (a b : ℕ) → one "VC" (a ∷ b ∷ []) ≡ (eqb a 86 && eqb b 6
 unfolding codes_of
 is-vicinity a b = rw (and-true (eqb b 67), or-false (eqb a 86 && eqb b 67))
 
-pub said-is : (g : Group) → said_weather g ≡ told (intensity_of g) (codes_of (drop (sign_length (intensity_of g)) g))
+pub said_is : (g : Group) → said_weather g ≡ told (intensity_of g) (codes_of (drop (sign_length (intensity_of g)) g))
 unfolding said_weather intensity_of told
-said-is [] = rw no-codes
-said-is (b ∷ g) = plus (eqb b 43) refl
+said_is [] = rw no-codes
+said_is (b ∷ g) = plus (eqb b 43) refl
   where
     Same : Type 0
     Same = said_weather (b ∷ g) ≡ told (intensity_of (b ∷ g)) (codes_of (drop (sign_length (intensity_of (b ∷ g))) (b ∷ g)))
@@ -137,12 +123,8 @@ said-is (b ∷ g) = plus (eqb b 43) refl
 
 -- ---- a reading and its answer
 
-pub reading-of : (x : Read Weather) → reading_of (as_weather x) ≡ x
-reading-of (Good w) = refl
-reading-of (Bad f) = refl
-
-pub recent-is : (automatic : Bool) (g : Group) → read_recent automatic g ≡ unless_unknown automatic (only_plain (said_weather (drop 2 g)))
+pub recent_is : (automatic : Bool) (g : Group) → read_recent automatic g ≡ unless_unknown automatic (only_plain (said_weather (drop 2 g)))
 unfolding read_recent said_weather
-recent-is automatic [] = refl
-recent-is automatic (r ∷ []) = refl
-recent-is automatic (r ∷ e ∷ g) = refl
+recent_is automatic [] = refl
+recent_is automatic (r ∷ []) = refl
+recent_is automatic (r ∷ e ∷ g) = refl

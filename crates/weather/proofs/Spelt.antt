@@ -1,9 +1,10 @@
 -- Codes of the table written one after the other, after a sign, VC or neither: the group's shape, what is read of it, and its bytes.
 -- Assumes nothing.
+use Rattle.std.specs.Prelude.{None, Option, Some}
 use mathlib.Core.Path.{◌≡◌, refl, ap}
 use mathlib.Core.Bool.{Bool, true, false, not, ◌&&◌, and-false}
 use mathlib.Core.List.{List, [], ◌∷◌, ◌++◌, append_assoc, append-nil}
-use Prim.Native.Nat.{ℕ, ◌+◌, ◌*◌, ◌≤◌}
+use Prim.Native.Nat.{ℕ, ◌*◌, ◌≤◌}
 use native.Mathlib.Omega.{arith}
 use lib.ListN.{length}
 use lib.Dec.{leb, eqb}
@@ -16,8 +17,7 @@ use Rattle.shapes.proofs.Patterns.{both}
 use Rattle.record.specs.declared.aerodrome.Intensity.{Intensity}
 use Rattle.record.specs.declared.aerodrome.Intensity.TheVariants as intensity
 use Rattle.record.specs.declared.aerodrome.Code.{Code}
-use Rattle.record.specs.declared.aerodrome.Code.TheVariants as code
-use Rattle.record.specs.declared.aerodrome.Phenomena.TheVariants as phenomena
+use Rattle.record.specs.declared.aerodrome.Phenomena.{Phenomena}
 use Rattle.elements.specs.Weather.{codes_of, one, is_code, are_codes, some_codes, signed_codes, all_among, listed, said_weather, code_text, sign_text, phenomena_text}
 use Rattle.weather.specs.Split.{told}
 use Rattle.weather.proofs.Table.{in_table}
@@ -29,14 +29,20 @@ abbrev pub spelt : List (List ℕ) → List ℕ
 spelt [] = []
 spelt (c ∷ cs) = c ++ spelt cs
 
-spelt-listed : (a : Code) (cs : List (List ℕ)) → spelt (listed a cs) ≡ code_text a ++ spelt cs
-spelt-listed code.None cs = refl
-spelt-listed (code.Letters x y) cs = refl
+spelt-listed : (a : Option Code) (cs : List (List ℕ)) → spelt (listed a cs) ≡ code_text a ++ spelt cs
+spelt-listed None cs = refl
+spelt-listed (Some z) cs = refl
+
+-- a record's codes after its descriptor
+abbrev pub codes_in : Phenomena → List (List ℕ)
+codes_in x = listed x.first (listed x.second (listed x.third []))
 
 -- a record's text is its codes one after the other
-pub text-spelt : (i : Intensity) (d a b c : Code) → phenomena_text (phenomena.Is i d a b c) ≡ sign_text i ++ spelt (listed d (listed a (listed b (listed c []))))
-text-spelt i d a b c =
-    rw (spelt-listed d (listed a (listed b (listed c []))), spelt-listed a (listed b (listed c [])), spelt-listed b (listed c []), spelt-listed c [])
+pub text-spelt : (x : Phenomena) → phenomena_text (Some x) ≡ sign_text x.intensity ++ spelt (listed x.descriptor (codes_in x))
+text-spelt x =
+    let after = listed x.third [] in
+    let two = listed x.second after in
+    rw (spelt-listed x.descriptor (listed x.first two), spelt-listed x.first two, spelt-listed x.second after, spelt-listed x.third [])
     (simp (append_assoc, append-nil))
 
 -- a code in its two letters

@@ -1,5 +1,6 @@
 -- What is written of a weather that is judged fine fits one of the patterns that weather speaks: PR stands before FG alone.
 -- Assumes nothing.
+use Rattle.std.specs.Prelude.{Ok, None, Option, Some}
 use mathlib.Core.Path.{◌≡◌, refl}
 use mathlib.Core.Bool.{Bool, true, false, ◌&&◌, ◌||◌, false≢true}
 use mathlib.Core.List.{List, [], ◌∷◌, ◌++◌}
@@ -7,21 +8,18 @@ use Prim.Native.Nat.{ℕ, ◌≤◌}
 use native.Mathlib.Omega.{arith}
 use lib.ListN.{length}
 use Rattle.figures.specs.Quote.{bytes}
-use Rattle.text.specs.declared.kinds.Judged.TheVariants as judged
 use Rattle.shapes.specs.Pattern.{has_pattern, has_any, fits, low, high}
 use Rattle.shapes.proofs.Patterns.{both, or_cases, or_right}
 use Rattle.record.specs.declared.aerodrome.Intensity.{Intensity}
 use Rattle.record.specs.declared.aerodrome.Intensity.TheVariants as intensity
 use Rattle.record.specs.declared.aerodrome.Code.{Code}
-use Rattle.record.specs.declared.aerodrome.Code.TheVariants as code
 use Rattle.record.specs.declared.aerodrome.Phenomena.{Phenomena}
-use Rattle.record.specs.declared.aerodrome.Phenomena.TheVariants as phenomena
 use Rattle.record.specs.declared.aerodrome.Weather.{Weather}
 use Rattle.elements.specs.Weather.{codes_of, same, among, one, covering, spoken_codes, weather_spoken, all_among, single, Under, right, signed, sign_text, listed, under, is_described, intensity_fits, show_weather, judge_weather}
 use Rattle.weather.proofs.Table.{same-eq, in_table}
 use Rattle.weather.proofs.Covers.{any_append, covered-by}
 use Rattle.weather.proofs.Fits.{plains, is_plain, single-all, single-one, fit-some, fit-plain}
-use Rattle.weather.proofs.Spelt.{spelt, text-spelt}
+use Rattle.weather.proofs.Spelt.{spelt, codes_in, text-spelt}
 use Rattle.weather.proofs.RoundTrip.{fitted, fits-of}
 
 -- ---- a code that is spoken, after a sign or none
@@ -100,22 +98,22 @@ under-spoken i d cs e h =
     (λ p. let is = same-eq d partial p in rw is (partial-spoken i cs (rw is at h)))
     (λ m. spoken-after i d (spelt cs) m)
 
-joined-spoken : (i : Intensity) (d : Code) (cs : List (List ℕ)) → is_described d ≡ true → intensity_fits i (under d cs) ≡ true
+joined-spoken : (i : Intensity) (d : Option Code) (cs : List (List ℕ)) → is_described d ≡ true → intensity_fits i (under d cs) ≡ true
     → has_any weather_spoken (sign_text i ++ spelt (listed d cs)) ≡ true
-joined-spoken i code.None cs e h = bare-spoken i cs (fit-some cs i h) (fit-plain cs i code.None h)
-joined-spoken i (code.Letters x y) cs e h =
-    under-spoken i (x ∷ y ∷ []) cs
-    (in_table (λ c. same c partial || among c spoken_codes) (codes_of (bytes "MIBCPRDRBLSHTSFZ")) (unfold codes_of in refl) (x ∷ y ∷ []) e) h
+joined-spoken i None cs e h = bare-spoken i cs (fit-some cs i h) (fit-plain cs i None h)
+joined-spoken i (Some z) cs e h =
+    under-spoken i (z.first ∷ z.second ∷ []) cs
+    (in_table (λ c. same c partial || among c spoken_codes) (codes_of (bytes "MIBCPRDRBLSHTSFZ")) (unfold codes_of in refl) (z.first ∷ z.second ∷ []) e) h
 
 -- WHAT IS WRITTEN OF A WEATHER THAT IS JUDGED FINE is spoken.
-pub weather-spoken : (forecast automatic beside : Bool) (w : Weather) → judge_weather forecast automatic beside w ≡ judged.Fine
+pub weather-spoken : (forecast automatic beside : Bool) (w : Weather) → judge_weather forecast automatic beside w ≡ Ok tt
     → has_any weather_spoken (show_weather w) ≡ true
 unfolding show_weather
 weather-spoken forecast automatic beside w = go w.is
   where
-    go : (p : Phenomena) → judge_weather forecast automatic beside (record { is = p }) ≡ judged.Fine → has_any weather_spoken (show_weather (record { is = p })) ≡ true
-    go phenomena.Missing h = unfold has_any has_pattern fits low high in refl
-    go (phenomena.Is i d a b c) h =
-        let f = fits-of forecast automatic beside i d a b c h in
-        let t = fitted i d a b c f in
-        rw (text-spelt i d a b c) (joined-spoken i d (listed a (listed b (listed c []))) t.0 t.2)
+    go : (p : Option Phenomena) → judge_weather forecast automatic beside (record { is = p }) ≡ Ok tt → has_any weather_spoken (show_weather (record { is = p })) ≡ true
+    go None h = unfold has_any has_pattern fits low high in refl
+    go (Some x) h =
+        let f = fits-of forecast automatic beside x h in
+        let t = fitted x f in
+        rw (text-spelt x) (joined-spoken x.intensity x.descriptor (codes_in x) t.0 t.2)

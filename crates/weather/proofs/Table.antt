@@ -1,7 +1,7 @@
 -- The laws of the table's codes: what a computed test of a list of codes says of each code of the list, and lists one after the other.
 -- Assumes nothing.
 use mathlib.Core.Path.{◌≡◌, refl, sym, ap, ◌∙◌}
-use mathlib.Core.Bool.{Bool, true, false, ◌||◌, or_assoc, false≢true}
+use mathlib.Core.Bool.{Bool, true, ◌||◌, or_assoc, false≢true}
 use mathlib.Core.List.{List, [], ◌∷◌, ◌++◌}
 use Prim.Native.Nat.{ℕ}
 use lib.Dec.{eqb}

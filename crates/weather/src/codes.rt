@@ -6,52 +6,39 @@ ghost use Rattle.weather.specs.Split.{descriptor_of, code_length};
 
 use figures::byte_at;
 use record::aerodrome::{Code, Intensity};
-use shapes::scan::rest_from;
 
 // The code of these two letters is one of the codes.
 pub fn is_one(codes: &[u8], a: u8, b: u8) -> bool
     ensures { result ≡ among (a ∷ b ∷ []) (codes_of codes.now) }
 {
-    let mut i = 0;
-    while 2 <= codes.len() - i {
-        if (a == codes[i]) & (b == codes[i + 1]) {
-            return true;
-        }
-        i += 2;
-    }
-    false
+    let (codes, _) = codes.as_chunks::<2>();
+    codes.iter().any(|code| (a == code[0]) & (b == code[1]))
 }
 
 // Every code of s is one of the codes.
 pub fn all_among(codes: &[u8], s: &[u8]) -> bool
     ensures { result ≡ all_among (λ c. among c (codes_of codes.now)) (codes_of s.now) }
 {
-    let mut i = 0;
-    while 2 <= s.len() - i {
-        if is_one(codes, s[i], s[i + 1]) {
-            i += 2;
-        } else {
-            return false;
-        }
-    }
-    true
+    let (written, _) = s.as_chunks::<2>();
+    written.iter().all(|code| is_one(codes, code[0], code[1]))
 }
 
 // No code of s stands there twice.
 fn all_differ(s: &[u8]) -> bool
     ensures { result ≡ differ (codes_of s.now) }
 {
-    let mut i = 0;
-    while 2 <= s.len() - i {
-        if is_one(rest_from(s, i + 2), s[i], s[i + 1]) {
+    let mut left = s;
+    while let [first, second, rest @ ..] = left {
+        if is_one(rest, *first, *second) {
             return false;
         }
-        i += 2;
+        left = rest;
     }
     true
 }
 
 // One to three different precipitations.
+#[tactic(auto, using(crate::proofs::Letters::code_count))]
 fn are_precipitations(s: &[u8]) -> bool
     ensures { result ≡ precipitations (codes_of s.now) }
 {
@@ -64,6 +51,7 @@ fn are_precipitations(s: &[u8]) -> bool
 }
 
 // A single code, one of these.
+#[tactic(auto, using(crate::proofs::Letters::code_count))]
 fn is_single(codes: &[u8], s: &[u8]) -> bool
     ensures { result ≡ single (λ c. among c (codes_of codes.now)) (codes_of s.now) }
 {
@@ -102,24 +90,26 @@ fn suit(a: u8, b: u8, s: &[u8]) -> bool
 }
 
 // The codes under their descriptor, or bare, are joined as they may be.
-pub fn is_right(d: Code, s: &[u8]) -> bool
+#[tactic(auto, using(crate::proofs::Letters::code_count))]
+pub fn is_right(d: Option<Code>, s: &[u8]) -> bool
     ensures { result ≡ right (under d (codes_of s.now)) }
 {
     match d {
-        Code::None => is_single(b"BRFGFUVADUSAHZPOSQFCSSDS", s) | are_precipitations(s),
-        Code::Letters { first, second } => {
+        None => is_single(b"BRFGFUVADUSAHZPOSQFCSSDS", s) | are_precipitations(s),
+        Some(Code { first, second }) => {
             (is_one(b"TS", first, second) & (s.len() / 2 == 0)) | suit(first, second, s)
         }
     }
 }
 
 // They may stand after VC.
-pub fn is_near(d: Code, s: &[u8]) -> bool
+#[tactic(auto, using(crate::proofs::Letters::code_count))]
+pub fn is_near(d: Option<Code>, s: &[u8]) -> bool
     ensures { result ≡ in_vicinity (under d (codes_of s.now)) }
 {
     match d {
-        Code::None => is_single(b"DSSSFGFCPOVA", s),
-        Code::Letters { first, second } => {
+        None => is_single(b"DSSSFGFCPOVA", s),
+        Some(Code { first, second }) => {
             (is_one(b"SHTS", first, second) & (s.len() / 2 == 0))
                 | (is_one(b"BL", first, second) & is_single(b"DUSASN", s))
         }
@@ -127,21 +117,17 @@ pub fn is_near(d: Code, s: &[u8]) -> bool
 }
 
 // They may stand after a sign.
-pub fn takes_sign(heavy: bool, d: Code, s: &[u8]) -> bool
+pub fn takes_sign(heavy: bool, d: Option<Code>, s: &[u8]) -> bool
     ensures { result ≡ signed heavy (under d (codes_of s.now)) }
 {
     match d {
-        Code::None => {
-            are_precipitations(s) | is_single(b"DSSS", s) | (heavy & is_single(b"FCPO", s))
-        }
-        Code::Letters { first, second } => {
-            are_precipitations(s) & !is_one(b"DRBL", first, second)
-        }
+        None => { are_precipitations(s) | is_single(b"DSSS", s) | (heavy & is_single(b"FCPO", s)) }
+        Some(Code { first, second }) => { are_precipitations(s) & !is_one(b"DRBL", first, second) }
     }
 }
 
 // They may stand after this sign, or VC, or neither.
-pub fn intensity_fits(i: Intensity, d: Code, s: &[u8]) -> bool
+pub fn intensity_fits(i: Intensity, d: Option<Code>, s: &[u8]) -> bool
     ensures { result ≡ intensity_fits i (under d (codes_of s.now)) }
 {
     match i {
@@ -159,38 +145,40 @@ pub fn is_descriptor(a: u8, b: u8) -> bool
 }
 
 // The descriptor that stands first, if one does.
-pub fn descriptor_of(s: &[u8]) -> Code
+#[tactic(auto, unfolding(crate::specs::Split::descriptor_of))]
+pub fn descriptor_of(s: &[u8]) -> Option<Code>
     ensures { result ≡ descriptor_of s.now }
 {
     let first = byte_at(s, 0);
     let second = byte_at(s, 1);
     if is_descriptor(first, second) {
-        Code::Letters { first, second }
+        Some(Code { first, second })
     } else {
-        Code::None
+        None
     }
 }
 
-pub fn code_length(c: Code) -> usize
+pub fn code_length(c: Option<Code>) -> usize
     ensures { result ≡ code_length c }
 {
     match c {
-        Code::None => 0,
-        Code::Letters { .. } => 2,
+        None => 0,
+        Some(_) => 2,
     }
 }
 
 // The code number i, if there are so many.
-pub fn code_at(s: &[u8], i: usize) -> Code
+#[tactic(auto, using(crate::proofs::Letters::code_there, crate::proofs::Letters::code_past))]
+pub fn code_at(s: &[u8], i: usize) -> Option<Code>
     ensures { result ≡ code_at (codes_of s.now) i }
 {
     if i < s.len() / 2 {
         let at = 2 * i;
-        Code::Letters {
+        Some(Code {
             first: s[at],
             second: s[at + 1],
-        }
+        })
     } else {
-        Code::None
+        None
     }
 }

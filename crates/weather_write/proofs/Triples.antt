@@ -1,5 +1,7 @@
 -- Up to three weathers, in the words of the code: the weather at each place, where the count says that one stands there.
 -- Assumes nothing.
+use Rattle.std.specs.Prelude.{⊤, Err, Ok, Result}
+use Rattle.text.specs.declared.kinds.Refusal.{Refusal}
 use mathlib.Core.Path.{◌≡◌, refl, ap, ◌∙◌}
 use mathlib.Core.Bool.{Bool, true, false, cond}
 use mathlib.Core.List.{List, [], ◌∷◌, ◌++◌, map}
@@ -9,8 +11,6 @@ use lib.ListN.{length, take, get_or}
 use lib.Seq.{take-nil}
 use lib.Dec.{ltb}
 use borrow.Author.Tests.{lt-ltb}
-use Rattle.text.specs.declared.kinds.Judged.{Judged}
-use Rattle.text.specs.declared.kinds.Judged.TheVariants as judged
 use Rattle.text.specs.Judge.{and_then}
 use Rattle.figures.specs.Quote.{bytes}
 use Rattle.places.specs.Engine.{Group}
@@ -32,17 +32,17 @@ past : (i n : ℕ) → i ≤ 2 → ltb i (suc (suc (suc n))) ≡ true
 past i n h = lt-ltb i (suc (suc (suc n))) (omega arith)
 
 -- what stands before a count
-judged-each : (test : Weather → Judged) (x y z : Weather) (n : ℕ)
-    → and_then (cond (ltb 0 n) (test x) judged.Fine) (and_then (cond (ltb 1 n) (test y) judged.Fine) (cond (ltb 2 n) (test z) judged.Fine))
+judged-each : (test : Weather → Result ⊤ Refusal) (x y z : Weather) (n : ℕ)
+    → and_then (cond (ltb 0 n) (test x) (Ok tt)) (and_then (cond (ltb 1 n) (test y) (Ok tt)) (cond (ltb 2 n) (test z) (Ok tt)))
     ≡ judge_each test (take n (x ∷ y ∷ z ∷ []))
 judged-each test x y z zero = refl
 judged-each test x y z (suc zero) = refl
 judged-each test x y z (suc (suc zero)) = refl
-judged-each test x y z (suc (suc (suc n))) = rw (past 0 n (omega arith), past 1 n (omega arith), past 2 n (omega arith), take-nil {A = Weather} n) (ap (λ (j : Judged). and_then (test x) (and_then (test y) j)) (last (test z)))
+judged-each test x y z (suc (suc (suc n))) = rw (past 0 n (omega arith), past 1 n (omega arith), past 2 n (omega arith), take-nil {A = Weather} n) (ap (λ (j : Result ⊤ Refusal). and_then (test x) (and_then (test y) j)) (last (test z)))
   where
-    last : (j : Judged) → j ≡ and_then j judged.Fine
-    last judged.Fine = refl
-    last (judged.Refused f) = refl
+    last : (j : Result ⊤ Refusal) → j ≡ and_then j (Ok tt)
+    last (Ok tt) = refl
+    last (Err f) = refl
 
 shown-each : (show : Weather → Group) (x y z : Weather) (n : ℕ)
     → cond (ltb 0 n) (show x ∷ []) [] ++ cond (ltb 1 n) (show y ∷ []) [] ++ cond (ltb 2 n) (show z ∷ []) [] ≡ map show (take n (x ∷ y ∷ z ∷ []))
@@ -52,15 +52,15 @@ shown-each show x y z (suc (suc zero)) = refl
 shown-each show x y z (suc (suc (suc n))) = rw (past 0 n (omega arith), past 1 n (omega arith), past 2 n (omega arith), take-nil {A = Weather} n)
 
 module _ (items : List Weather) (e : length items ≡ 3) where
-  pub each-judged : (test : Weather → Judged) (n : ℕ)
-      → and_then (cond (ltb 0 n) (test (get_or items 0 blank_weather)) judged.Fine) (and_then (cond (ltb 1 n) (test (get_or items 1 blank_weather)) judged.Fine) (cond (ltb 2 n) (test (get_or items 2 blank_weather)) judged.Fine))
+  pub each_judged : (test : Weather → Result ⊤ Refusal) (n : ℕ)
+      → and_then (cond (ltb 0 n) (test (get_or items 0 blank_weather)) (Ok tt)) (and_then (cond (ltb 1 n) (test (get_or items 1 blank_weather)) (Ok tt)) (cond (ltb 2 n) (test (get_or items 2 blank_weather)) (Ok tt)))
       ≡ judge_each test (take n items)
-  each-judged test n = judged-each test _ _ _ n ∙ ap (λ (l : List Weather). judge_each test (take n l)) (three-of items blank_weather e)
+  each_judged test n = judged-each test _ _ _ n ∙ ap (λ (l : List Weather). judge_each test (take n l)) (three-of items blank_weather e)
 
-  pub each-shown : (show : Weather → Group) (n : ℕ)
+  pub each_shown : (show : Weather → Group) (n : ℕ)
       → cond (ltb 0 n) (show (get_or items 0 blank_weather) ∷ []) [] ++ cond (ltb 1 n) (show (get_or items 1 blank_weather) ∷ []) [] ++ cond (ltb 2 n) (show (get_or items 2 blank_weather) ∷ []) []
       ≡ map show (take n items)
-  each-shown show n = shown-each show _ _ _ n ∙ ap (λ (l : List Weather). map show (take n l)) (three-of items blank_weather e)
+  each_shown show n = shown-each show _ _ _ n ∙ ap (λ (l : List Weather). map show (take n l)) (three-of items blank_weather e)
 
 -- a weather's group by its parts
 pub shown-as : (recent : Bool) (w : Weather) → shown_as recent w ≡ cond recent (bytes "RE") [] ++ phenomena_text w.is

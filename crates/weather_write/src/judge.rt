@@ -1,44 +1,40 @@
 // What the writer judges of weather before it writes anything: first that its codes are the table's and rightly joined (refusal 11), then its agreement
 // (refusal 7).
-ghost use Rattle.std.specs.Prelude.{◌≡◌, cond, []};
-ghost use Rattle.text.specs.declared.kinds.Judged.TheVariants as judged;
-ghost use Rattle.elements.specs.Weather.{is_none, gapless, listed, under, is_described, intensity_fits, phenomena_fit, judge_weather, judge_recent, three_fit, judge_weathers};
+ghost use Rattle.std.specs.Prelude.{◌≡◌, cond, [], Ok};
+ghost use Rattle.elements.specs.Weather.{gapless, listed, under, is_described, intensity_fits, phenomena_fit, judge_weather, judge_recent, three_fit, judge_weathers};
 ghost use Rattle.weather_write.specs.Three.{judge_three};
 
 use crate::write::put_code;
 use record::aerodrome::{Code, Intensity, Phenomena, Weather, Weathers};
-use text::judge::{and_then, judge};
-use text::kinds::Judged;
+use text::judge::judge;
+use text::kinds::Refusal;
 use weather::codes::{intensity_fits, is_descriptor};
 use weather::read::{has_unknown, is_plain};
 
-fn is_none(c: Code) -> bool
-    ensures { result ≡ is_none c }
-{
-    match c {
-        Code::None => true,
-        Code::Letters { .. } => false,
-    }
-}
-
 // No code after one that is not there.
-fn has_no_gap(a: Code, b: Code, c: Code) -> bool
+fn has_no_gap(a: Option<Code>, b: Option<Code>, c: Option<Code>) -> bool
     ensures { result ≡ gapless a b c }
 {
-    (!is_none(a) | (is_none(b) & is_none(c))) & (!is_none(b) | is_none(c))
+    (a.is_some() | (b.is_none() & c.is_none())) & (b.is_some() | c.is_none())
 }
 
-fn is_described(d: Code) -> bool
+fn is_described(d: Option<Code>) -> bool
     ensures { result ≡ is_described d }
 {
     match d {
-        Code::None => true,
-        Code::Letters { first, second } => is_descriptor(first, second),
+        None => true,
+        Some(Code { first, second }) => is_descriptor(first, second),
     }
 }
 
 // The codes are joined as they may be.
-fn codes_fit(i: Intensity, d: Code, a: Code, b: Code, c: Code) -> bool
+fn codes_fit(
+    i: Intensity,
+    d: Option<Code>,
+    a: Option<Code>,
+    b: Option<Code>,
+    c: Option<Code>,
+) -> bool
     ensures { result ≡ intensity_fits i (under d (listed a (listed b (listed c [])))) }
 {
     let mut letters = [0u8; 6];
@@ -48,37 +44,38 @@ fn codes_fit(i: Intensity, d: Code, a: Code, b: Code, c: Code) -> bool
     intensity_fits(i, d, &letters[..third])
 }
 
-fn phenomena_fit(p: Phenomena) -> bool
+fn phenomena_fit(p: Option<Phenomena>) -> bool
     ensures { result ≡ phenomena_fit p }
 {
     match p {
-        Phenomena::Missing => false,
-        Phenomena::Is {
-            intensity,
-            descriptor,
-            first,
-            second,
-            third,
-        } => {
-            is_described(descriptor)
-                & has_no_gap(first, second, third)
-                & codes_fit(intensity, descriptor, first, second, third)
+        None => false,
+        Some(p) => {
+            is_described(p.descriptor)
+                & has_no_gap(p.first, p.second, p.third)
+                & codes_fit(p.intensity, p.descriptor, p.first, p.second, p.third)
         }
     }
 }
 
 // Beside CAVOK or NSW no weather stands.
-pub fn judge_weather(forecast: bool, automatic: bool, beside: bool, w: Weather) -> Judged
+#[tactic(auto, unfolding(elements::specs::Weather::judge_weather))]
+pub fn judge_weather(
+    forecast: bool,
+    automatic: bool,
+    beside: bool,
+    w: Weather,
+) -> Result<(), Refusal>
     ensures { result ≡ judge_weather forecast automatic beside w }
 {
     let is = w.is;
     judge(
-        phenomena_fit(is) | (!forecast & is.is_missing()),
+        phenomena_fit(is) | (!forecast & is.is_none()),
         !beside & (automatic | !has_unknown(is)),
     )
 }
 
-pub fn judge_recent(automatic: bool, w: Weather) -> Judged
+#[tactic(auto, unfolding(elements::specs::Weather::judge_recent))]
+pub fn judge_recent(automatic: bool, w: Weather) -> Result<(), Refusal>
     ensures { result ≡ judge_recent automatic w }
 {
     let is = w.is;
@@ -97,24 +94,35 @@ pub fn count_fits(ws: Weathers) -> bool
 }
 
 // A judgement, where there is something to judge.
-fn judge_where(stands: bool, j: Judged) -> Judged
-    ensures { result ≡ cond stands j judged.Fine }
+fn judge_where(stands: bool, j: Result<(), Refusal>) -> Result<(), Refusal>
+    ensures { result ≡ cond stands j (Ok tt) }
 {
-    if stands { j } else { Judged::Fine }
+    if stands { j } else { Ok(()) }
 }
 
 // Three judgements, the first `count` of them.
-fn judge_three(ws: Weathers, a: Judged, b: Judged, c: Judged) -> Judged
+fn judge_three(
+    ws: Weathers,
+    a: Result<(), Refusal>,
+    b: Result<(), Refusal>,
+    c: Result<(), Refusal>,
+) -> Result<(), Refusal>
     ensures { result ≡ judge_three ws a b c }
 {
     let count = ws.count;
-    let third = judge_where(2 < count, c);
-    let second = and_then(judge_where(1 < count, b), third);
-    let first = and_then(judge_where(0 < count, a), second);
-    and_then(judge(count_fits(ws), true), first)
+    judge(count_fits(ws), true)?;
+    judge_where(0 < count, a)?;
+    judge_where(1 < count, b)?;
+    judge_where(2 < count, c)
 }
 
-pub fn judge_weathers(forecast: bool, automatic: bool, beside: bool, ws: Weathers) -> Judged
+#[tactic(auto, using(crate::proofs::Triples::each_judged), unfolding(elements::specs::Weather::judge_weathers))]
+pub fn judge_weathers(
+    forecast: bool,
+    automatic: bool,
+    beside: bool,
+    ws: Weathers,
+) -> Result<(), Refusal>
     ensures { result ≡ judge_weathers (judge_weather forecast automatic beside) ws }
 {
     let items = ws.items;
@@ -126,7 +134,8 @@ pub fn judge_weathers(forecast: bool, automatic: bool, beside: bool, ws: Weather
     )
 }
 
-pub fn judge_recents(automatic: bool, ws: Weathers) -> Judged
+#[tactic(auto, using(crate::proofs::Triples::each_judged), unfolding(elements::specs::Weather::judge_weathers))]
+pub fn judge_recents(automatic: bool, ws: Weathers) -> Result<(), Refusal>
     ensures { result ≡ judge_weathers (judge_recent automatic) ws }
 {
     let items = ws.items;

@@ -11,18 +11,19 @@ use figures::put::{put_byte, put_text};
 use record::aerodrome::{Code, Intensity, Phenomena, Weather, Weathers};
 use text::write::open_group;
 
-pub fn put_code(out: &mut [u8], at: usize, c: Code) -> usize
+pub fn put_code(out: &mut [u8], at: usize, c: Option<Code>) -> usize
     ensures { Put out.old at (code_text c) result out.new }
 {
     match c {
-        Code::None => at,
-        Code::Letters { first, second } => {
+        None => at,
+        Some(Code { first, second }) => {
             let begun = put_byte(out, at, first);
             put_byte(out, begun, second)
         }
     }
 }
 
+#[tactic(auto, unfolding(figures::specs::Put::after, figures::specs::Put::splice))]
 fn put_intensity(out: &mut [u8], at: usize, i: Intensity) -> usize
     ensures { Put out.old at (sign_text i) result out.new }
 {
@@ -34,28 +35,23 @@ fn put_intensity(out: &mut [u8], at: usize, i: Intensity) -> usize
     }
 }
 
-fn put_phenomena(out: &mut [u8], at: usize, p: Phenomena) -> usize
+fn put_phenomena(out: &mut [u8], at: usize, p: Option<Phenomena>) -> usize
     ensures { Put out.old at (phenomena_text p) result out.new }
 {
     match p {
-        Phenomena::Missing => put_text(out, at, b"//"),
-        Phenomena::Is {
-            intensity,
-            descriptor,
-            first,
-            second,
-            third,
-        } => {
-            let signed = put_intensity(out, at, intensity);
-            let described = put_code(out, signed, descriptor);
-            let one = put_code(out, described, first);
-            let two = put_code(out, one, second);
-            put_code(out, two, third)
+        None => put_text(out, at, b"//"),
+        Some(p) => {
+            let signed = put_intensity(out, at, p.intensity);
+            let described = put_code(out, signed, p.descriptor);
+            let first = put_code(out, described, p.first);
+            let second = put_code(out, first, p.second);
+            put_code(out, second, p.third)
         }
     }
 }
 
 // What opens a recent weather.
+#[tactic(auto, unfolding(figures::specs::Put::after, figures::specs::Put::splice))]
 fn put_recent(out: &mut [u8], at: usize, recent: bool) -> usize
     ensures { Put out.old at (cond recent (bytes "RE") []) result out.new }
 {
@@ -87,12 +83,14 @@ fn put_each(out: &mut [u8], at: usize, recent: bool, ws: Weathers) -> usize
     put_weather(out, second, 2 < count, recent, items[2])
 }
 
+#[tactic(auto, unfolding(elements::specs::Weather::show_weathers))]
 pub fn put_weathers(out: &mut [u8], at: usize, ws: Weathers) -> usize
     ensures { Put out.old at (written at (show_weathers ws)) result out.new }
 {
     put_each(out, at, false, ws)
 }
 
+#[tactic(auto, unfolding(elements::specs::Weather::show_recents))]
 pub fn put_recents(out: &mut [u8], at: usize, ws: Weathers) -> usize
     ensures { Put out.old at (written at (show_recents ws)) result out.new }
 {

@@ -1,6 +1,7 @@
 -- The variation's round trip: what is judged fine is written as no group or as one of its shape, which is read back as its class, and the class is
 -- written the same again.
 -- Assumes nothing.
+use Rattle.std.specs.Prelude.{Ok, None, Option, Some}
 use Prim.Native.Nat.{ℕ, ◌+◌, ◌≤◌}
 use native.Mathlib.Omega.{arith}
 use mathlib.Core.Path.{◌≡◌, refl, ap, ◌∙◌}
@@ -14,15 +15,13 @@ use Rattle.figures.specs.Quote.{bytes}
 use Rattle.figures.specs.declared.kinds.Field.TheVariants as field
 use Rattle.figures.specs.Figures.{figures, number_text, field_text, field_at}
 use Rattle.figures.proofs.Figures.{length-figures, field_back}
-use Rattle.text.specs.declared.kinds.Judged.TheVariants as judged
 use Rattle.text.proofs.Judging.{fine}
 use Rattle.shapes.specs.Pattern.{low, high, fits, has_pattern, has_any}
 use Rattle.shapes.proofs.Patterns.{both, pattern-append, field-pattern}
 use Rattle.scales.specs.Rounded.{rounded_direction, ddd_figure}
 use Rattle.scales.proofs.DirectionLaws.{rounded-below, ddd-most, ddd-back, ddd-again}
-use Rattle.places.specs.Engine.{Group, Good}
+use Rattle.places.specs.Engine.{Group}
 use Rattle.record.specs.declared.aerodrome.Extremes.{Extremes}
-use Rattle.record.specs.declared.aerodrome.Extremes.TheVariants as extremes
 use Rattle.record.specs.declared.aerodrome.Variation.{Variation}
 use Rattle.elements.specs.Wind.{variation_shape, read_variation, show_variation, extremes_group, extremes_fit, extremes_agree, judge_variation, class_extremes, class_variation}
 
@@ -62,54 +61,54 @@ module _ (a b : ℕ) (h : a ≤ 360) (k : b ≤ 360) where
 
 -- ---- the extremes
 
-group-shaped : (x : Extremes) → extremes_fit x ≡ true → (g : Group) → extremes_group x ≡ g ∷ [] → has_pattern g variation_shape ≡ true
-group-shaped extremes.Missing h g s = impossible (cc)
-group-shaped (extremes.Between a b) h g s =
-    let t = both (leb a 359) (leb b 359) h in
-    let same : pair (ddd_figure a) (ddd_figure b) (ddd-most a) (ddd-most b) ≡ g = cc in
-    rw same at (pair-shaped (ddd_figure a) (ddd_figure b) (ddd-most a) (ddd-most b))
+group-shaped : (x : Option Extremes) → extremes_fit x ≡ true → (g : Group) → extremes_group x ≡ g ∷ [] → has_pattern g variation_shape ≡ true
+group-shaped None h g s = impossible (cc)
+group-shaped (Some x) h g s =
+    let t = both (leb x.from 359) (leb x.to 359) h in
+    let same : pair (ddd_figure x.from) (ddd_figure x.to) (ddd-most x.from) (ddd-most x.to) ≡ g = cc in
+    rw same at (pair-shaped (ddd_figure x.from) (ddd_figure x.to) (ddd-most x.from) (ddd-most x.to))
 
-group-back : (x : Extremes) → extremes_fit x ≡ true → extremes_agree x ≡ true → (g : Group) → extremes_group x ≡ g ∷ []
-    → read_variation g ≡ Good (record { is = class_extremes x })
+group-back : (x : Option Extremes) → extremes_fit x ≡ true → extremes_agree x ≡ true → (g : Group) → extremes_group x ≡ g ∷ []
+    → read_variation g ≡ Ok (record { is = class_extremes x })
 unfolding read_variation
-group-back extremes.Missing h e g s = impossible (cc)
-group-back (extremes.Between a b) h e g s =
-    let t = both (leb a 359) (leb b 359) h in
-    let m = ddd-most a in
-    let n = ddd-most b in
-    let same : pair (ddd_figure a) (ddd_figure b) m n ≡ g = cc in
+group-back None h e g s = impossible (cc)
+group-back (Some x) h e g s =
+    let t = both (leb x.from 359) (leb x.to 359) h in
+    let m = ddd-most x.from in
+    let n = ddd-most x.to in
+    let same : pair (ddd_figure x.from) (ddd_figure x.to) m n ≡ g = cc in
     rw (
       ← same,
-      pair-from (ddd_figure a) (ddd_figure b) m n,
-      pair-to (ddd_figure a) (ddd_figure b) m n,
-      ddd-back a (leb-true a 359 t.0),
-      ddd-back b (leb-true b 359 t.1),
+      pair-from (ddd_figure x.from) (ddd_figure x.to) m n,
+      pair-to (ddd_figure x.from) (ddd_figure x.to) m n,
+      ddd-back x.from (leb-true x.from 359 t.0),
+      ddd-back x.to (leb-true x.to 359 t.1),
       e,
     )
 
-group-again : (x : Extremes) → extremes_fit x ≡ true → extremes_group (class_extremes x) ≡ extremes_group x
-group-again extremes.Missing h = refl
-group-again (extremes.Between a b) h =
-    let t = both (leb a 359) (leb b 359) h in
-    rw (ddd-again a (leb-true a 359 t.0), ddd-again b (leb-true b 359 t.1))
+group-again : (x : Option Extremes) → extremes_fit x ≡ true → extremes_group (class_extremes x) ≡ extremes_group x
+group-again None h = refl
+group-again (Some x) h =
+    let t = both (leb x.from 359) (leb x.to 359) h in
+    rw (ddd-again x.from (leb-true x.from 359 t.0), ddd-again x.to (leb-true x.to 359 t.1))
 
-fits-classed : (x : Extremes) → extremes_fit (class_extremes x) ≡ true
-fits-classed extremes.Missing = refl
-fits-classed (extremes.Between a b) = rw (le-leb (rounded_direction a) 359 (omega (arith, rounded-below a)), le-leb (rounded_direction b) 359 (omega (arith, rounded-below b)))
+fits-classed : (x : Option Extremes) → extremes_fit (class_extremes x) ≡ true
+fits-classed None = refl
+fits-classed (Some x) = rw (le-leb (rounded_direction x.from) 359 (omega (arith, rounded-below x.from)), le-leb (rounded_direction x.to) 359 (omega (arith, rounded-below x.to)))
 
-agree-classed : (x : Extremes) → extremes_fit x ≡ true → extremes_agree (class_extremes x) ≡ extremes_agree x
-agree-classed extremes.Missing h = refl
-agree-classed (extremes.Between a b) h =
-    let t = both (leb a 359) (leb b 359) h in
-    rw (ddd-again a (leb-true a 359 t.0), ddd-again b (leb-true b 359 t.1))
+agree-classed : (x : Option Extremes) → extremes_fit x ≡ true → extremes_agree (class_extremes x) ≡ extremes_agree x
+agree-classed None h = refl
+agree-classed (Some x) h =
+    let t = both (leb x.from 359) (leb x.to 359) h in
+    rw (ddd-again x.from (leb-true x.from 359 t.0), ddd-again x.to (leb-true x.to 359 t.1))
 
-none-shown : (x : Extremes) → extremes_group x ≡ [] → x ≡ extremes.Missing
-none-shown extremes.Missing s = refl
-none-shown (extremes.Between a b) s = impossible (cc)
+none-shown : (x : Option Extremes) → extremes_group x ≡ [] → x ≡ None
+none-shown None s = refl
+none-shown (Some x) s = impossible (cc)
 
 -- ---- the variation
 
-module _ (v : Variation) (e : judge_variation v ≡ judged.Fine) where
+module _ (v : Variation) (e : judge_variation v ≡ Ok tt) where
   pub judged-fine : (extremes_fit v.is ≡ true) × (extremes_agree v.is ≡ true)
   unfolding judge_variation
   judged-fine = fine (extremes_fit v.is) (extremes_agree v.is) e
@@ -118,7 +117,7 @@ module _ (v : Variation) (e : judge_variation v ≡ judged.Fine) where
   unfolding show_variation
   variation-shaped g s = let has = group-shaped v.is judged-fine.0 g s in (has, variation-covered g has)
 
-  pub variation-back : (g : Group) → show_variation v ≡ g ∷ [] → read_variation g ≡ Good (class_variation v)
+  pub variation-back : (g : Group) → show_variation v ≡ g ∷ [] → read_variation g ≡ Ok (class_variation v)
   unfolding show_variation
   variation-back g s = group-back v.is judged-fine.0 judged-fine.1 g s
 
@@ -126,6 +125,6 @@ module _ (v : Variation) (e : judge_variation v ≡ judged.Fine) where
   unfolding show_variation
   variation-again = group-again v.is judged-fine.0
 
-  pub variation-classed : judge_variation (class_variation v) ≡ judged.Fine
+  pub variation-classed : judge_variation (class_variation v) ≡ Ok tt
   unfolding judge_variation
   variation-classed = rw (fits-classed v.is, agree-classed v.is judged-fine.0, judged-fine.1)

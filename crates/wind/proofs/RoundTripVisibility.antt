@@ -1,5 +1,6 @@
 -- The visibility's round trip: what is judged fine is written as a group of a visibility's shape, read back as its class, and written the same again.
 -- Assumes nothing.
+use Rattle.std.specs.Prelude.{Ok}
 use Prim.Native.Nat.{◌<◌}
 use native.Mathlib.Omega.{arith}
 use mathlib.Core.Path.{◌≡◌, refl}
@@ -10,11 +11,9 @@ use Rattle.figures.specs.declared.kinds.Field.{Field}
 use Rattle.figures.specs.declared.kinds.Field.TheVariants as field
 use Rattle.figures.specs.Figures.{number_text, slashes, field_text, field_at, Fits}
 use Rattle.figures.proofs.Figures.{field_back}
-use Rattle.text.specs.declared.kinds.Judged.TheVariants as judged
 use Rattle.text.proofs.Judging.{fine}
 use Rattle.shapes.specs.Pattern.{low, high, fits, has_pattern, has_any, clash}
 use Rattle.shapes.proofs.Patterns.{field-pattern, excluded}
-use Rattle.places.specs.Engine.{Good}
 use Rattle.scales.specs.Scale.{figure_of}
 use Rattle.scales.specs.Metres.{visibility}
 use Rattle.scales.proofs.Answers.{foot-low, metres-read}
@@ -46,7 +45,7 @@ view-shaped forecast view.Missing h = unfold field_text slashes in rw (field-sha
 view-shaped forecast view.Cavok h = unfold has_pattern fits low high in refl
 view-shaped forecast (view.Metres m) h = unfold field_text number_text in rw (field-shaped (field.Number (figure_of visibility m)) (omega (arith, figure-small m)))
 
-view-back : (forecast : Bool) (x : View) → view_fits forecast x ≡ true → read_visibility forecast (view_group x) ≡ Good (record { is = class_view x })
+view-back : (forecast : Bool) (x : View) → view_fits forecast x ≡ true → read_visibility forecast (view_group x) ≡ Ok (record { is = class_view x })
 unfolding read_visibility field_text number_text slashes
 view-back forecast view.Missing h = rw (field_plain field.Missing tt, field-read field.Missing tt, h)
 view-back forecast view.Cavok h = unfold has_pattern fits low high in refl
@@ -67,7 +66,7 @@ view-classed forecast (view.Metres m) h = foot-low visibility-laws m h
 
 -- ---- the visibility
 
-module _ (forecast : Bool) (v : Visibility) (e : judge_visibility forecast v ≡ judged.Fine) where
+module _ (forecast : Bool) (v : Visibility) (e : judge_visibility forecast v ≡ Ok tt) where
   view-fits : view_fits forecast v.is ≡ true
   unfolding judge_visibility
   view-fits = (fine (view_fits forecast v.is) true e).0
@@ -76,7 +75,7 @@ module _ (forecast : Bool) (v : Visibility) (e : judge_visibility forecast v ≡
   unfolding show_visibility
   visibility-shaped = view-shaped forecast v.is view-fits
 
-  pub visibility-back : read_visibility forecast (show_visibility v) ≡ Good (class_visibility v)
+  pub visibility-back : read_visibility forecast (show_visibility v) ≡ Ok (class_visibility v)
   unfolding show_visibility
   visibility-back = view-back forecast v.is view-fits
 
@@ -84,6 +83,6 @@ module _ (forecast : Bool) (v : Visibility) (e : judge_visibility forecast v ≡
   unfolding show_visibility
   visibility-again = view-again v.is
 
-  pub visibility-classed : judge_visibility forecast (class_visibility v) ≡ judged.Fine
+  pub visibility-classed : judge_visibility forecast (class_visibility v) ≡ Ok tt
   unfolding judge_visibility
   visibility-classed = rw (view-classed forecast v.is view-fits)

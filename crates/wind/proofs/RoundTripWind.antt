@@ -1,5 +1,6 @@
 -- The wind's round trip: what is judged fine is written as a group of the wind's shape, read back as its class, and written the same again.
 -- Assumes nothing.
+use Rattle.std.specs.Prelude.{Ok}
 use Prim.Native.Nat.{ℕ, ◌≤◌}
 use native.Mathlib.Omega.{arith}
 use mathlib.Core.Path.{◌≡◌, refl, sym, ap, ◌∙◌}
@@ -10,7 +11,6 @@ use lib.Dec.{leb, ltb, eqb}
 use borrow.Author.Tests.{leb-true, leb-false, le-leb, lt-ltb, eq-eqb}
 use Rattle.figures.specs.Quote.{bytes}
 use Rattle.figures.specs.declared.kinds.Field.TheVariants as field
-use Rattle.text.specs.declared.kinds.Judged.TheVariants as judged
 use Rattle.text.proofs.Judging.{fine}
 use Rattle.shapes.specs.declared.kinds.Value.{Value}
 use Rattle.shapes.specs.declared.kinds.Scan.{Scan}
@@ -20,7 +20,7 @@ use Rattle.shapes.proofs.Patterns.{both}
 use Rattle.shapes.proofs.Shapes.{scan-back, covered}
 use Rattle.scales.specs.Rounded.{rounded_direction}
 use Rattle.scales.proofs.DirectionLaws.{rounded-below, ddd-most, ddd-some, ddd-back, ddd-again}
-use Rattle.places.specs.Engine.{Group, Good}
+use Rattle.places.specs.Engine.{Group}
 use Rattle.elements.proofs.Scanned.{print-enough}
 use Rattle.record.specs.declared.values.Direction.{Direction}
 use Rattle.record.specs.declared.values.Direction.TheVariants as direction
@@ -141,28 +141,28 @@ parts-fit forecast u (direction.Degrees d) s g h =
 -- ---- what was printed is read as its class
 
 -- a speed that is there; a gust is read as a speed is
-above-back : (u : Unit) → (speed_of u (speed_value (speed.Above (last_exact u))) ≡ Good (speed.Above (last_exact u)))
-    × (gust_of u (gust_value (speed.Above (last_exact u))) ≡ Good (speed.Above (last_exact u)))
+above-back : (u : Unit) → (speed_of u (speed_value (speed.Above (last_exact u))) ≡ Ok (speed.Above (last_exact u)))
+    × (gust_of u (gust_value (speed.Above (last_exact u))) ≡ Ok (speed.Above (last_exact u)))
 above-back unit.Missing = (refl, refl)
 above-back unit.Knots = (refl, refl)
 above-back unit.MetresPerSecond = (refl, refl)
 above-back unit.KilometresPerHour = (refl, refl)
 
-exact-back : (u : Unit) (n : ℕ) → n ≤ last_exact u → (speed_of u (speed_value (speed.Is n)) ≡ Good (speed.Is n)) × (gust_of u (gust_value (speed.Is n)) ≡ Good (speed.Is n))
+exact-back : (u : Unit) (n : ℕ) → n ≤ last_exact u → (speed_of u (speed_value (speed.Is n)) ≡ Ok (speed.Is n)) × (gust_of u (gust_value (speed.Is n)) ≡ Ok (speed.Is n))
 exact-back u n h = go (leb 100 n) refl
   where
     go : (x : Bool) → leb 100 n ≡ x
-        → (speed_of u (numbered (cond x 0 1) (field.Number n)) ≡ Good (speed.Is n)) × (gust_of u (numbered (cond x 0 1) (field.Number n)) ≡ Good (speed.Is n))
+        → (speed_of u (numbered (cond x 0 1) (field.Number n)) ≡ Ok (speed.Is n)) × (gust_of u (numbered (cond x 0 1) (field.Number n)) ≡ Ok (speed.Is n))
     go true e = let l = le-leb n 199 (omega (arith, last-small u)) in (rw (e, l), rw (e, l))
     go false e = (refl, refl)
 
-speed-back : {u : Unit} {s q : Speed} → SpeedKept u s q → no_speed s ≡ false → speed_of u (speed_value q) ≡ Good q
+speed-back : {u : Unit} {s q : Speed} → SpeedKept u s q → no_speed s ≡ false → speed_of u (speed_value q) ≡ Ok q
 speed-back no-speed there = absurd (false≢true (sym there))
 speed-back {u} (exact {n} h) there = (exact-back u n h).0
 speed-back {u} (over h) there = (above-back u).0
 speed-back {u} above there = (above-back u).0
 
-gust-back : {u : Unit} {s q : Speed} → SpeedKept u s q → gust_of u (gust_value q) ≡ Good q
+gust-back : {u : Unit} {s q : Speed} → SpeedKept u s q → gust_of u (gust_value q) ≡ Ok q
 gust-back no-speed = refl
 gust-back {u} (exact {n} h) = (exact-back u n h).1
 gust-back {u} (over h) = (above-back u).1
@@ -185,8 +185,8 @@ agree-classed (direction.Degrees d) s (speed.Above g) = refl
 
 -- a wind whose direction d is written as one that is there, and read as its class
 known : (forecast : Bool) (u : Unit) (d : Direction) (s g : Speed) → (v : Value) → direction_value d ≡ v → is_no_wind v (speed_value (class_speed u s)) (gust_value (class_speed u g)) ≡ false
-    → direction_of v ≡ Good (class_direction d) → speed_fits u s ≡ true → gust_fits u g ≡ true → wind_agrees d (class_speed u s) (class_speed u g) ≡ true
-    → wind_by forecast u (direction_value d) (speed_value (class_speed u s)) (gust_value (class_speed u g)) ≡ Good (wind_with u (class_direction d) (class_speed u s) (class_speed u g))
+    → direction_of v ≡ Ok (class_direction d) → speed_fits u s ≡ true → gust_fits u g ≡ true → wind_agrees d (class_speed u s) (class_speed u g) ≡ true
+    → wind_by forecast u (direction_value d) (speed_value (class_speed u s)) (gust_value (class_speed u g)) ≡ Ok (wind_with u (class_direction d) (class_speed u s) (class_speed u g))
 unfolding wind_by
 known forecast u d s g v is blows reads f h e =
     let t = speed-fits u s f in
@@ -194,7 +194,7 @@ known forecast u d s g v is blows reads f h e =
 
 -- the values are read as the class
 values-back : (forecast : Bool) (u : Unit) (d : Direction) (s g : Speed) → wind_fits forecast u d s g ≡ true → wind_agrees d (class_speed u s) (class_speed u g) ≡ true
-    → wind_by forecast u (direction_value d) (speed_value (class_speed u s)) (gust_value (class_speed u g)) ≡ Good (wind_with u (class_direction d) (class_speed u s) (class_speed u g))
+    → wind_by forecast u (direction_value d) (speed_value (class_speed u s)) (gust_value (class_speed u g)) ≡ Ok (wind_with u (class_direction d) (class_speed u s) (class_speed u g))
 values-back forecast u direction.Missing s g h e =
     let t = both (not forecast && no_speed s) (no_speed g) h in
     let r = both (not forecast) (no_speed s) t.0 in
@@ -242,7 +242,7 @@ fits-classed forecast u d s g h = go d h
 
 -- ---- the wind
 
-module _ (forecast : Bool) (w : Wind) (e : judge_wind forecast w ≡ judged.Fine) where
+module _ (forecast : Bool) (w : Wind) (e : judge_wind forecast w ≡ Ok tt) where
   abbrev mean : Speed
   mean = class_speed w.unit w.speed
 
@@ -289,14 +289,14 @@ module _ (forecast : Bool) (w : Wind) (e : judge_wind forecast w ≡ judged.Fine
   unfolding read_wind
   read-shown = rw (scan-shown, unit-back w.unit judged-fine.0)
 
-  pub wind-back : read_wind forecast (show_wind w) ≡ Good (class_wind w)
+  pub wind-back : read_wind forecast (show_wind w) ≡ Ok (class_wind w)
   wind-back = let j = judged-fine in read-shown ∙ values-back forecast w.unit w.direction w.speed w.gust j.1 j.2
 
   pub wind-again : show_wind (class_wind w) ≡ show_wind w
   unfolding show_wind
   wind-again = rw (own-class mean-kept, own-class gust-kept, direction-again w.direction direction-fits)
 
-  pub wind-classed : judge_wind forecast (class_wind w) ≡ judged.Fine
+  pub wind-classed : judge_wind forecast (class_wind w) ≡ Ok tt
   unfolding judge_wind
   wind-classed =
       let j = judged-fine in

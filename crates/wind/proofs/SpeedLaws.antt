@@ -4,14 +4,14 @@ use Prim.Native.Nat.{ℕ, ◌+◌, ◌≤◌, ◌<◌}
 use native.Mathlib.Omega.{arith}
 use mathlib.Core.Path.{◌≡◌, refl}
 use mathlib.Core.Bool.{Bool, true, false, cond, false≢true}
-use lib.Dec.{leb, ltb, eqb}
+use lib.Dec.{leb, ltb}
 use borrow.Author.Tests.{leb-true, leb-false, ltb-true, ltb-false, eqb-true, le-leb, lt-ltb, le-ltb}
 use Rattle.record.specs.declared.values.Speed.{Speed}
 use Rattle.record.specs.declared.values.Speed.TheVariants as speed
 use Rattle.record.specs.declared.aerodrome.Unit.{Unit}
 use Rattle.record.specs.declared.aerodrome.Unit.TheVariants as unit
 use Rattle.record.specs.Missing.{no_speed}
-use Rattle.elements.specs.Wind.{last_exact, is_over, class_speed, speed_fits, gust_fits, speed_rank}
+use Rattle.elements.specs.Wind.{last_exact, is_over, class_speed, gust_fits, speed_rank}
 
 pub last-small : (u : Unit) → last_exact u ≤ 199
 last-small unit.Missing = omega arith

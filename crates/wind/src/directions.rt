@@ -4,7 +4,6 @@ ghost use Rattle.scales.specs.Rounded.{ddd_figure, ddd_reading};
 ghost use Rattle.wind.specs.Parts.{is_used};
 
 use scales::direction::direction_figure;
-use scales::kinds::Figure;
 
 pub fn is_tens(d: u32) -> bool
     ensures { result ≡ is_used (ddd_reading d) }
@@ -16,9 +15,8 @@ pub fn is_tens(d: u32) -> bool
 pub fn degrees_text(d: u32) -> u32
     ensures { result ≡ ddd_figure d }
 {
-    let f = direction_figure(d);
-    match f {
-        Figure::Is(tens) => tens * 10,
-        Figure::OutOfRange => 0,
+    match direction_figure(d) {
+        Some(tens) => tens * 10,
+        None => 0,
     }
 }

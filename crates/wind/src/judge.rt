@@ -8,7 +8,7 @@ use crate::directions::degrees_text;
 use record::aerodrome::{Extremes, Unit, Variation, View, Visibility, Wind};
 use record::values::{Direction, Speed};
 use text::judge::judge;
-use text::kinds::Judged;
+use text::kinds::Refusal;
 use wind_values::agree::wind_agrees;
 use wind_values::speeds::{class_speed, last_exact};
 
@@ -55,47 +55,47 @@ fn wind_fits(forecast: bool, unit: Unit, d: Direction, s: Speed, g: Speed) -> bo
 }
 
 // The parts agree by the figures that would be written.
-pub fn judge_wind(forecast: bool, w: Wind) -> Judged
+#[tactic(auto, unfolding(elements::specs::Wind::judge_wind))]
+pub fn judge_wind(forecast: bool, w: Wind) -> Result<(), Refusal>
     ensures { result ≡ judge_wind forecast w }
 {
-    let direction = w.direction;
-    let speed = w.speed;
-    let gust = w.gust;
     let unit = w.unit;
-    let mean_written = class_speed(unit, speed);
-    let gust_written = class_speed(unit, gust);
     judge(
-        !unit.is_missing() & wind_fits(forecast, unit, direction, speed, gust),
-        wind_agrees(direction, mean_written, gust_written),
+        !unit.is_missing() & wind_fits(forecast, unit, w.direction, w.speed, w.gust),
+        wind_agrees(
+            w.direction,
+            class_speed(unit, w.speed),
+            class_speed(unit, w.gust),
+        ),
     )
 }
 
 // ---- variation
 
-fn extremes_fit(e: Extremes) -> bool
+fn extremes_fit(e: Option<Extremes>) -> bool
     ensures { result ≡ extremes_fit e }
 {
     match e {
-        Extremes::Missing => true,
-        Extremes::Between { from, to } => (from <= 359) & (to <= 359),
+        None => true,
+        Some(Extremes { from, to }) => (from <= 359) & (to <= 359),
     }
 }
 
 // On the figures that would be written.
-fn extremes_agree(e: Extremes) -> bool
+fn extremes_agree(e: Option<Extremes>) -> bool
     ensures { result ≡ extremes_agree e }
 {
     match e {
-        Extremes::Missing => true,
-        Extremes::Between { from, to } => !(degrees_text(from) == degrees_text(to)),
+        None => true,
+        Some(Extremes { from, to }) => degrees_text(from) != degrees_text(to),
     }
 }
 
-pub fn judge_variation(v: Variation) -> Judged
+#[tactic(auto, unfolding(elements::specs::Wind::judge_variation))]
+pub fn judge_variation(v: Variation) -> Result<(), Refusal>
     ensures { result ≡ judge_variation v }
 {
-    let e = v.is;
-    judge(extremes_fit(e), extremes_agree(e))
+    judge(extremes_fit(v.is), extremes_agree(v.is))
 }
 
 // ---- visibility
@@ -110,9 +110,9 @@ fn view_fits(forecast: bool, v: View) -> bool
     }
 }
 
-pub fn judge_visibility(forecast: bool, v: Visibility) -> Judged
+#[tactic(auto, unfolding(elements::specs::Visibility::judge_visibility))]
+pub fn judge_visibility(forecast: bool, v: Visibility) -> Result<(), Refusal>
     ensures { result ≡ judge_visibility forecast v }
 {
-    let view = v.is;
-    judge(view_fits(forecast, view), true)
+    judge(view_fits(forecast, v.is), true)
 }

@@ -4,13 +4,11 @@ ghost use Rattle.std.specs.Prelude.{◌≡◌};
 ghost use Rattle.shapes.specs.Pattern.{has_pattern, has_any};
 ghost use Rattle.shapes.specs.Shape.{has_shape, scan_of};
 ghost use Rattle.scales.specs.Metres.{visibility, metres_reading};
-ghost use Rattle.places.specs.Engine.{Good};
-ghost use Rattle.elements.specs.Parts.{agreeing, is_missing};
-ghost use Rattle.elements.specs.Wind.{wind_shape, variation_shape, unit_of, speed_of, gust_of, direction_of, wind_agrees, wind_with, is_no_wind, wind_by, read_wind, read_variation};
+ghost use Rattle.elements.specs.Parts.{is_missing};
+ghost use Rattle.elements.specs.Wind.{wind_shape, variation_shape, unit_of, speed_of, gust_of, direction_of, is_no_wind, wind_by, read_wind, read_variation};
 ghost use Rattle.elements.specs.Visibility.{visibility_shapes, read_visibility, is_cavok};
 ghost use Rattle.elements.specs.Answers.{as_wind, as_variation, as_visibility};
-ghost use Rattle.wind_values.specs.Parts.{as_direction, as_speed};
-ghost use Rattle.wind.specs.Parts.{wind_of, seen_by, unseen};
+ghost use Rattle.wind.specs.Parts.{seen_by, unseen};
 
 use crate::directions::is_tens;
 use elements::kinds::Said;
@@ -18,13 +16,11 @@ use figures::field;
 use figures::kinds::Field;
 use record::aerodrome::{Extremes, Unit, Variation, View, Visibility, Wind};
 use record::values::{Direction, Speed};
-use scales::kinds::Reading;
 use shapes::has_pattern;
 use shapes::kinds::{Scan, Value};
 use shapes::scan::{absent, figures_or, nothing, scanned, word_or};
 use text::kinds::Refusal;
 use wind_values::agree::wind_agrees;
-use wind_values::kinds::{DirectionRead, SpeedRead};
 use wind_values::speeds::{in_width, speed_by};
 
 // ---- wind
@@ -54,11 +50,11 @@ fn scan_wind(g: &[u8]) -> Scan
     scanned(g, unit.past, direction, speed, gust, unit, none, none)
 }
 
+#[tactic(auto, unfolding(shapes::specs::Shape::has_shape))]
 pub fn has_wind(g: &[u8]) -> bool
     ensures { result ≡ has_shape wind_shape g.now }
 {
-    let s = scan_wind(g);
-    s.fits
+    scan_wind(g).fits
 }
 
 fn unit_of(which: usize) -> Unit
@@ -77,57 +73,52 @@ fn is_missing(f: Field) -> bool
     ensures { result ≡ is_missing f }
 {
     match f {
-        Field::Number(_) => false,
         Field::Missing => true,
-        Field::Mixed => false,
-        Field::Other => false,
+        _ => false,
     }
 }
 
-fn speed_of(unit: Unit, v: Value) -> SpeedRead
-    ensures { result ≡ as_speed (speed_of unit v) }
+fn speed_of(unit: Unit, v: Value) -> Result<Speed, Refusal>
+    ensures { result ≡ speed_of unit v }
 {
-    let which = v.which;
-    let f = v.field;
-    let Field::Number(n) = f else {
-        return SpeedRead::Bad(Refusal::Figure);
+    let Field::Number(n) = v.field else {
+        return Err(Refusal::Figure);
     };
-    if in_width(which, n) {
-        speed_by(unit, which, n)
+    if in_width(v.which, n) {
+        speed_by(unit, v.which, n)
     } else {
-        SpeedRead::Bad(Refusal::Figure)
+        Err(Refusal::Figure)
     }
 }
 
 // Alternative number 4 of the gust is nothing.
-fn gust_of(unit: Unit, v: Value) -> SpeedRead
-    ensures { result ≡ as_speed (gust_of unit v) }
+fn gust_of(unit: Unit, v: Value) -> Result<Speed, Refusal>
+    ensures { result ≡ gust_of unit v }
 {
     if v.which == 4 {
-        SpeedRead::Good(Speed::Missing)
+        Ok(Speed::Missing)
     } else {
         speed_of(unit, v)
     }
 }
 
 // Alternative number 1 of the direction is VRB.
-fn direction_of(v: Value) -> DirectionRead
-    ensures { result ≡ as_direction (direction_of v) }
+fn direction_of(v: Value) -> Result<Direction, Refusal>
+    ensures { result ≡ direction_of v }
 {
     if v.which == 1 {
-        return DirectionRead::Good(Direction::Variable);
+        return Ok(Direction::Variable);
     }
-    let f = v.field;
-    let Field::Number(d) = f else {
-        return DirectionRead::Bad(Refusal::Figure);
+    let Field::Number(d) = v.field else {
+        return Err(Refusal::Figure);
     };
     if d == 0 {
-        return DirectionRead::Good(Direction::Calm);
+        return Ok(Direction::Calm);
     }
     if is_tens(d) {
-        DirectionRead::Good(Direction::Degrees(d % 360))
+        Ok(Direction::Degrees(d % 360))
     } else {
-        DirectionRead::Bad(Refusal::Figure)
+        Err(Refusal::Figure)
     }
 }
 
@@ -135,74 +126,48 @@ fn direction_of(v: Value) -> DirectionRead
 fn is_no_wind(d: Value, s: Value, g: Value) -> bool
     ensures { result ≡ is_no_wind d s g }
 {
-    let direction = d.field;
-    let speed = s.field;
-    (d.which == 0) & is_missing(direction) & (s.which == 1) & is_missing(speed) & (g.which == 4)
+    (d.which == 0) & is_missing(d.field) & (s.which == 1) & is_missing(s.field) & (g.which == 4)
 }
 
-// A wind whose parts agree.
-fn wind_with(unit: Unit, direction: Direction, speed: Speed, gust: Speed) -> Said
-    ensures { result ≡ as_wind (agreeing (wind_agrees direction speed gust) (Good (wind_with unit direction speed gust))) }
-{
-    if wind_agrees(direction, speed, gust) {
-        Said::Wind(Wind {
-            direction,
-            speed,
-            gust,
-            unit,
-        })
-    } else {
-        Said::Refused(Refusal::Disagreement)
-    }
-}
-
-// The wind that the parts read make, or the first refusal among them.
-fn wind_of(unit: Unit, d: DirectionRead, s: SpeedRead, g: SpeedRead) -> Said
-    ensures { result ≡ as_wind (wind_of unit d s g) }
-{
-    match d {
-        DirectionRead::Bad(f) => Said::Refused(f),
-        DirectionRead::Good(direction) => match s {
-            SpeedRead::Bad(f) => Said::Refused(f),
-            SpeedRead::Good(mean) => match g {
-                SpeedRead::Bad(f) => Said::Refused(f),
-                SpeedRead::Good(gust) => wind_with(unit, direction, mean, gust),
-            },
-        },
-    }
-}
-
-// What the parts of the group say together.
-fn wind_by(forecast: bool, unit: Unit, d: Value, s: Value, g: Value) -> Said
-    ensures { result ≡ as_wind (wind_by forecast unit d s g) }
+// What the parts of the group say together: the wind, or the first refusal among them.
+#[tactic(auto, unfolding(elements::specs::Wind::wind_by))]
+fn wind_by(forecast: bool, unit: Unit, d: Value, s: Value, g: Value) -> Result<Wind, Refusal>
+    ensures { result ≡ wind_by forecast unit d s g }
 {
     if is_no_wind(d, s, g) {
         if forecast {
-            return Said::Refused(Refusal::Figure);
+            return Err(Refusal::Figure);
         }
-        return Said::Wind(Wind {
+        return Ok(Wind {
             direction: Direction::Missing,
             speed: Speed::Missing,
             gust: Speed::Missing,
             unit,
         });
     }
-    let direction = direction_of(d);
-    let mean = speed_of(unit, s);
-    let gust = gust_of(unit, g);
-    wind_of(unit, direction, mean, gust)
+    let direction = direction_of(d)?;
+    let speed = speed_of(unit, s)?;
+    let gust = gust_of(unit, g)?;
+    if wind_agrees(direction, speed, gust) {
+        Ok(Wind {
+            direction,
+            speed,
+            gust,
+            unit,
+        })
+    } else {
+        Err(Refusal::Disagreement)
+    }
 }
 
 pub fn read_wind(forecast: bool, g: &[u8]) -> Said
     ensures { result ≡ as_wind (read_wind forecast g.now) }
 {
-    let s = scan_wind(g);
-    let values = s.values;
-    let direction = values[0];
-    let speed = values[1];
-    let gust = values[2];
-    let unit = values[3];
-    wind_by(forecast, unit_of(unit.which), direction, speed, gust)
+    let [direction, speed, gust, unit, ..] = scan_wind(g).values;
+    match wind_by(forecast, unit_of(unit.which), direction, speed, gust) {
+        Ok(wind) => Said::Wind(wind),
+        Err(refusal) => Said::Refused(refusal),
+    }
 }
 
 // ---- variation
@@ -214,6 +179,7 @@ pub fn has_variation(g: &[u8]) -> bool
 }
 
 // dddVddd
+#[tactic(auto, unfolding(elements::specs::Wind::read_variation))]
 pub fn read_variation(g: &[u8]) -> Said
     ensures { result ≡ as_variation (read_variation g.now) }
 {
@@ -230,7 +196,7 @@ pub fn read_variation(g: &[u8]) -> Said
             let from = a % 360;
             let to = b % 360;
             Said::Variation(Variation {
-                is: Extremes::Between { from, to },
+                is: Some(Extremes { from, to }),
             })
         }
     } else {
@@ -240,6 +206,7 @@ pub fn read_variation(g: &[u8]) -> Said
 
 // ---- visibility
 
+#[tactic(auto, unfolding(shapes::specs::Pattern::has_any))]
 pub fn has_visibility(g: &[u8]) -> bool
     ensures { result ≡ has_any visibility_shapes g.now }
 {
@@ -249,11 +216,9 @@ pub fn has_visibility(g: &[u8]) -> bool
 pub fn is_cavok(v: Visibility) -> bool
     ensures { result ≡ is_cavok v }
 {
-    let view = v.is;
-    match view {
-        View::Missing => false,
+    match v.is {
         View::Cavok => true,
-        View::Metres(_) => false,
+        _ => false,
     }
 }
 
@@ -261,12 +226,11 @@ pub fn is_cavok(v: Visibility) -> bool
 fn seen_at(figure: u32) -> Said
     ensures { result ≡ as_visibility (seen_by (metres_reading visibility figure)) }
 {
-    let r = scales::metres::visibility_reading(figure);
-    match r {
-        Reading::Is(m) => Said::Visibility(Visibility {
+    match scales::metres::visibility_reading(figure) {
+        Some(m) => Said::Visibility(Visibility {
             is: View::Metres(m),
         }),
-        Reading::Unused => Said::Refused(Refusal::Figure),
+        None => Said::Refused(Refusal::Figure),
     }
 }
 
@@ -281,17 +245,16 @@ fn unseen(forecast: bool) -> Said
     }
 }
 
+#[tactic(auto, unfolding(elements::specs::Visibility::read_visibility))]
 pub fn read_visibility(forecast: bool, g: &[u8]) -> Said
     ensures { result ≡ as_visibility (read_visibility forecast g.now) }
 {
     if has_pattern(g, b"CAVOK") {
         return Said::Visibility(Visibility { is: View::Cavok });
     }
-    let f = field(g, 0, 4);
-    match f {
+    match field(g, 0, 4) {
         Field::Number(n) => seen_at(n),
         Field::Missing => unseen(forecast),
-        Field::Mixed => Said::Refused(Refusal::Figure),
-        Field::Other => Said::Refused(Refusal::Figure),
+        Field::Mixed | Field::Other => Said::Refused(Refusal::Figure),
     }
 }

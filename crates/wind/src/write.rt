@@ -17,7 +17,6 @@ use figures::kinds::Field;
 use figures::put::{put_byte, put_number, put_text};
 use record::aerodrome::{Extremes, Unit, Variation, View, Visibility, Wind};
 use record::values::{Direction, Speed};
-use scales::kinds::Figure;
 use scales::metres::visibility_figure;
 use shapes::kinds::Value;
 use shapes::print::put_shape;
@@ -53,16 +52,9 @@ fn direction_value(d: Direction) -> Value
 fn number_value(three: usize, two: usize, n: u32) -> Value
     ensures { result ≡ numbered (cond (leb 100 n) three two) (Number n) }
 {
-    if 100 <= n {
-        Value {
-            which: three,
-            field: Field::Number(n),
-        }
-    } else {
-        Value {
-            which: two,
-            field: Field::Number(n),
-        }
+    Value {
+        which: if 100 <= n { three } else { two },
+        field: Field::Number(n),
     }
 }
 
@@ -96,24 +88,15 @@ fn gust_value(s: Speed) -> Value
 fn unit_value(u: Unit) -> Value
     ensures { result ≡ unit_value u }
 {
-    let none = Field::Other;
-    match u {
-        Unit::Missing => Value {
-            which: 3,
-            field: none,
-        },
-        Unit::Knots => Value {
-            which: 0,
-            field: none,
-        },
-        Unit::MetresPerSecond => Value {
-            which: 1,
-            field: none,
-        },
-        Unit::KilometresPerHour => Value {
-            which: 2,
-            field: none,
-        },
+    let which = match u {
+        Unit::Missing => 3,
+        Unit::Knots => 0,
+        Unit::MetresPerSecond => 1,
+        Unit::KilometresPerHour => 2,
+    };
+    Value {
+        which,
+        field: Field::Other,
     }
 }
 
@@ -123,15 +106,11 @@ const WIND_SHAPE: [u8; 55] = *b"###|VRB ###|##|P###|P## G###|G##|GP###|GP##| KT|
 pub fn put_wind(out: &mut [u8], at: usize, w: Wind) -> usize
     ensures { Put out.old at (written at (show_wind w ∷ [])) result out.new }
 {
-    let direction = w.direction;
-    let speed = w.speed;
-    let gust = w.gust;
     let unit = w.unit;
-    let last = unit_value(unit);
-    let mut values = [last; 8];
-    values[0] = direction_value(direction);
-    values[1] = speed_value(class_speed(unit, speed));
-    values[2] = gust_value(class_speed(unit, gust));
+    let mut values = [unit_value(unit); 8];
+    values[0] = direction_value(w.direction);
+    values[1] = speed_value(class_speed(unit, w.speed));
+    values[2] = gust_value(class_speed(unit, w.gust));
     let opened = open_group(out, at);
     put_shape(out, opened, &WIND_SHAPE, values)
 }
@@ -149,13 +128,13 @@ fn put_extremes(out: &mut [u8], at: usize, from: u32, to: u32) -> usize
 }
 
 // Nothing where there is none.
+#[tactic(auto, unfolding(elements::specs::Wind::show_variation))]
 pub fn put_variation(out: &mut [u8], at: usize, v: Variation) -> usize
     ensures { Put out.old at (written at (show_variation v)) result out.new }
 {
-    let extremes = v.is;
-    match extremes {
-        Extremes::Missing => at,
-        Extremes::Between { from, to } => put_extremes(out, at, from, to),
+    match v.is {
+        None => at,
+        Some(Extremes { from, to }) => put_extremes(out, at, from, to),
     }
 }
 
@@ -165,19 +144,14 @@ pub fn put_variation(out: &mut [u8], at: usize, v: Variation) -> usize
 fn view_figure(metres: u32) -> u32
     ensures { result ≡ figure_of visibility metres }
 {
-    let f = visibility_figure(metres);
-    match f {
-        Figure::Is(n) => n,
-        Figure::OutOfRange => 9999,
-    }
+    visibility_figure(metres).unwrap_or(9999)
 }
 
 pub fn put_visibility(out: &mut [u8], at: usize, v: Visibility) -> usize
     ensures { Put out.old at (written at (show_visibility v ∷ [])) result out.new }
 {
-    let view = v.is;
     let opened = open_group(out, at);
-    match view {
+    match v.is {
         View::Missing => put_text(out, opened, b"////"),
         View::Cavok => put_text(out, opened, b"CAVOK"),
         View::Metres(m) => put_number(out, opened, 4, view_figure(m)),

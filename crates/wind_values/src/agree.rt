@@ -8,10 +8,8 @@ fn is_calm(d: Direction) -> bool
     ensures { result ≡ is_calm d }
 {
     match d {
-        Direction::Missing => false,
         Direction::Calm => true,
-        Direction::Variable => false,
-        Direction::Degrees(_) => false,
+        _ => false,
     }
 }
 

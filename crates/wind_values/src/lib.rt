@@ -3,5 +3,4 @@
 #![tactic(auto)]
 
 pub mod agree;
-pub mod kinds;
 pub mod speeds;

@@ -1,9 +1,7 @@
 // What the figures of a speed say; and the speeds over the last one that a unit writes as a number: an open class, which is written with P.
 ghost use Rattle.std.specs.Prelude.{◌≡◌};
 ghost use Rattle.elements.specs.Wind.{in_width, speed_by, last_exact, is_over, class_speed};
-ghost use Rattle.wind_values.specs.Parts.{as_speed};
 
-use crate::kinds::SpeedRead;
 use record::aerodrome::Unit;
 use record::values::Speed;
 use text::kinds::Refusal;
@@ -32,15 +30,15 @@ pub fn in_width(which: usize, n: u32) -> bool
 }
 
 // After P stands the greatest speed that is written as a number in this unit, and no other.
-pub fn speed_by(unit: Unit, which: usize, n: u32) -> SpeedRead
-    ensures { result ≡ as_speed (speed_by unit which n) }
+pub fn speed_by(unit: Unit, which: usize, n: u32) -> Result<Speed, Refusal>
+    ensures { result ≡ speed_by unit which n }
 {
     if which <= 1 {
-        SpeedRead::Good(Speed::Is(n))
+        Ok(Speed::Is(n))
     } else if n == last_exact(unit) {
-        SpeedRead::Good(Speed::Above(n))
+        Ok(Speed::Above(n))
     } else {
-        SpeedRead::Bad(Refusal::Figure)
+        Err(Refusal::Figure)
     }
 }
 

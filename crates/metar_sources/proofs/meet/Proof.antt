@@ -1,8 +1,7 @@
 -- `metar_sources::meet` meets its contract: the group that was cut, by its turn.
 -- Assumes nothing.
 use borrow.Author.Rules.{rules}
-use mathlib.Core.Path.{refl, ap}
-use Rattle.metar_sources.specs.declared.kinds.Met.TheVariants as met
+use mathlib.Core.Path.{refl}
 use Rattle.metar_sources.proofs.Steps.{met-end, met-turn}
 use Rattle.metar_sources.proofs.meet.Statement.{statement}
 use Rattle.metar_sources.proofs.meet.Tie as tie

@@ -9,6 +9,6 @@ end_verdict_spec =
     tie.close
     (tie.spec
     (λ c κs. search rules) (λ c. search rules) (λ c. search rules)
-    (λ c. rw (← c.tail-tail.ensures, c.in-Junk.is))
-    (λ c. rw (← c.tail-tail.ensures, c.in-Clear.is, c.if-lacking.true))
-    (λ c. rw (← c.tail-tail.ensures, c.in-Clear.is, c.if-lacking.false)))
+    (λ c. rw (← c.tail-tail.ensures, c.in-Some.is))
+    (λ c. rw (← c.tail-tail.ensures, c.in-None.is, c.if-lacking.true))
+    (λ c. rw (← c.tail-tail.ensures, c.in-None.is, c.if-lacking.false)))

@@ -2,29 +2,17 @@
 -- Assumes nothing.
 use borrow.Author.Rules.{rules}
 use mathlib.Core.Path.{sym}
-use mathlib.Core.List.{List, [], ◌∷◌}
 use lib.Seq.{length-take-le}
-use mir.Val.{Val}
-use denote.RattleType.{RattleType}
-use denote.Array.{each as owned}
-use denote.Shadow.{shadow}
 use Rattle.record.specs.declared.aerodrome.TrendChange.{TrendChange}
 use Rattle.record.specs.declared.aerodrome.Change.{Change}
 use Rattle.record.specs.contracts.aerodrome.TrendChange as trend-change
 use Rattle.record.specs.contracts.aerodrome.Change as change
-use Rattle.record.specs.Arrays.{BodyArrays, Each}
-use Rattle.body.proofs.Arrays.{body-arrays}
+use Rattle.record.specs.Arrays.{BodyArrays}
+use Rattle.body.proofs.Arrays.{body-arrays, each-owned}
 use Rattle.report_laws.proofs.RoundTrip.{Arrays}
 use Rattle.round_trip.proofs.Backs.{within, count-back, refused-back}
 use Rattle.round_trip.proofs.read_back_in.Statement.{statement}
 use Rattle.round_trip.proofs.read_back_in.Tie as tie
-
--- owning a list tells of each of its values
-each-in : (T : RattleType) (P : T.Denot → Type 0) → ((x : T.Denot) (us : List Val) → shadow (T.own_val x us) → P x)
-    → (xs : List T.Denot) (us : List Val) → shadow (owned T.Denot T.own_val xs us) → Each P xs
-each-in T P tells [] us s = tt
-each-in T P tells (x ∷ xs) [] s = absurd s
-each-in T P tells (x ∷ xs) (u ∷ us) s = (tells x (u ∷ []) s.0, each-in T P tells xs us s.1)
 
 -- an array's length is part of its type
 arrays : (c : tie.Start) → Arrays c.args.report
@@ -51,14 +39,14 @@ arrays c =
                   states = runways.1.1.1.1.0.1.1.0.1.0.1;
                 };
             trend = trend.1.0.1;
-            each = each-in trend-change.the_row (λ (x : TrendChange). BodyArrays x.body) (λ x us s. body-arrays x.body _ s.1.1.1.1.0) r.observed.trend.items _ trend.1.1;
+            each = each-owned trend-change.the_row (λ (x : TrendChange). BodyArrays x.body) (λ x us s. body-arrays x.body _ s.1.1.1.1.0) r.observed.trend.items _ trend.1.1;
           };
       forecast =
           record {
             letters = leg.1.0.1.1.0.1.0.1;
             body = body-arrays r.forecast.leg.body _ leg.1.1.1.1.1.1.0;
             changes = changes.1.0.1;
-            each = each-in change.the_row (λ (x : Change). BodyArrays x.body) (λ x us s. body-arrays x.body _ s.1.1.1.1.0) r.forecast.changes.items _ changes.1.1;
+            each = each-owned change.the_row (λ (x : Change). BodyArrays x.body) (λ x us s. body-arrays x.body _ s.1.1.1.1.0) r.forecast.changes.items _ changes.1.1;
           };
     }
 
@@ -68,12 +56,12 @@ read_back_in_spec =
     (tie.spec
     (λ c κs. tt) (λ c. search rules)
     (λ c.
-    within c.args.edition c.args.report c.args.out.now c.write_in-written.ensures _ c.in-Count.is)
+    within c.args.edition c.args.report c.args.out.now c.write_in-written.ensures _ c.in-Ok.is)
     (λ c.
-    sym (length-take-le _ _ (within c.args.edition c.args.report c.args.out.now c.write_in-written.ensures _ c.in-Count.is)))
+    sym (length-take-le _ _ (within c.args.edition c.args.report c.args.out.now c.write_in-written.ensures _ c.in-Ok.is)))
     (λ c κs. tt) (λ c. search rules) (λ c κs. tt) (λ c. search rules)
     (λ c.
-    count-back c.args.edition c.args.report c.args.out.now c.write_in-written.ensures _ c.in-Count.is (arrays c.before.before.before.before.before.before.before) c.read_in-reading.ensures)
+    count-back c.args.edition c.args.report c.args.out.now c.write_in-written.ensures _ c.in-Ok.is (arrays c.before.before.before.before.before.before.before) c.read_in-reading.ensures)
     (λ c. search rules)
     (λ c.
-    refused-back c.args.edition c.args.report c.args.out.now c.write_in-written.ensures _ c.in-Refused.is c.refuse-reading.ensures))
+    refused-back c.args.edition c.args.report c.args.out.now c.write_in-written.ensures _ c.in-Err.is c.refuse-reading.ensures))

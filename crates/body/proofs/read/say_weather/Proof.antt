@@ -2,8 +2,6 @@
 -- Assumes nothing.
 use borrow.Author.Rules.{rules}
 use mathlib.Core.Path.{sym, ◌∙◌}
-use Rattle.elements.specs.Weather.{read_weather}
-use Rattle.elements.proofs.Answers.{weather-is}
 use Rattle.body.proofs.read.say_weather.Statement.{statement}
 use Rattle.body.proofs.read.say_weather.Tie as tie
 
@@ -15,12 +13,12 @@ say_weather_spec =
     (λ c.
     let d = c in
     let a = d.args in
-    rw (weather-is (read_weather a.forecast a.automatic a.g.now) (sym c.in-Good.is ∙ d.read_weather-read.ensures), c.if-beside.true))
+    rw (sym d.read_weather-read.ensures ∙ c.in-Ok.is, c.if-beside.true))
     (λ c.
     let d = c in
     let a = d.args in
-    rw (weather-is (read_weather a.forecast a.automatic a.g.now) (sym c.in-Good.is ∙ d.read_weather-read.ensures), c.if-beside.false))
+    rw (sym d.read_weather-read.ensures ∙ c.in-Ok.is, c.if-beside.false))
     (λ c.
     let d = c in
     let a = d.args in
-    rw (weather-is (read_weather a.forecast a.automatic a.g.now) (sym c.in-Bad.is ∙ d.read_weather-read.ensures))))
+    rw (sym d.read_weather-read.ensures ∙ c.in-Err.is)))

@@ -1,7 +1,6 @@
 -- `body::read::say_weather_or_nsw` meets its contract, by whether the group is NSW.
 -- Assumes nothing.
 use borrow.Author.Rules.{rules}
-use mathlib.Core.Path.{sym, ◌∙◌}
 use Rattle.body.proofs.Says.{says-nsw, says-weather}
 use Rattle.body.proofs.read.say_weather_or_nsw.Statement.{statement}
 use Rattle.body.proofs.read.say_weather_or_nsw.Tie as tie

@@ -9,4 +9,4 @@ metres_fit_spec =
     tie.close
     (tie.spec
     (λ c. search rules) (λ c. search rules) (λ c. search rules)
-    (λ c. rw c.in-Is.is))
+    (λ c. rw c.in-Some.is))

@@ -1,5 +1,6 @@
 -- `figures::signed::signed_of` meets its contract: what fits is read back from its bits as it was.
 -- Assumes nothing.
+use Rattle.std.specs.Prelude.{Some}
 use mathlib.Core.Path.{◌≡◌, ap, ◌∙◌}
 use mathlib.Core.Bool.{true, false}
 use Prim.Native.Nat.{ℕ, ◌≤◌}
@@ -9,7 +10,6 @@ use borrow.Author.Tests.{lt-leb}
 use mir.Syntax.{w32}
 use mir.Val.{SFits, to_z}
 use mir.ValLaws.{to_z-of_z}
-use Rattle.figures.specs.declared.kinds.Signed.TheVariants.{Is}
 use Rattle.figures.specs.Signed.{with_sign, signed_of}
 use Rattle.figures.proofs.Signs.{signed-in, magnitude-fits}
 use Rattle.figures.proofs.signed.signed_of.Statement.{statement}
@@ -33,8 +33,8 @@ signed_of_spec =
     (λ c. fits c.if-m-le2147483647.true)
     (λ c.
     let h = c.if-m-le2147483647.true in
-    rw c.if-minus.true (ap Is (to_z-of_z w32 _ (fits h) ∙ minus h) ∙ signed-in true _ h))
+    rw c.if-minus.true (ap Some (to_z-of_z w32 _ (fits h) ∙ minus h) ∙ signed-in true _ h))
     (λ c.
     let h = c.if-m-le2147483647.true in
-    rw c.if-minus.false (ap Is (plus h) ∙ signed-in false _ h))
+    rw c.if-minus.false (ap Some (plus h) ∙ signed-in false _ h))
     (λ c. unfold signed_of in rw (lt-leb _ _ c.if-m-le2147483647.false)))

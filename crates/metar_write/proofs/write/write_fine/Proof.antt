@@ -7,26 +7,17 @@ use mathlib.Core.Path.{◌≡◌, sym}
 use mathlib.Core.List.{List, [], ◌∷◌, ◌++◌}
 use lib.ListN.{length, take, replicate}
 use lib.Seq.{length-take-le}
-use mir.Val.{Val}
-use denote.Array.{each as owned}
-use denote.Shadow.{shadow}
 use Rattle.figures.specs.Put.{Put}
 use Rattle.text.specs.Groups.{join, written}
 use Rattle.places.proofs.Delivered.{made, delivered}
 use Rattle.record.specs.declared.aerodrome.TrendChange.{TrendChange}
 use Rattle.record.specs.contracts.aerodrome.TrendChange.{the_row}
-use Rattle.record.specs.Arrays.{BodyArrays, MetarArrays, Each}
-use Rattle.body.proofs.Arrays.{body-arrays}
+use Rattle.record.specs.Arrays.{BodyArrays, MetarArrays}
+use Rattle.body.proofs.Arrays.{body-arrays, each-owned}
 use Rattle.metar.specs.Write.{groups_of, canonical_of, written_of, buffer_of}
 use Rattle.metar_laws.proofs.Canonical.{trend-listed, groups-sizes, length-canonical}
 use Rattle.metar_write.proofs.write.write_fine.Statement.{statement}
 use Rattle.metar_write.proofs.write.write_fine.Tie as tie
-
--- owning a list of changes tells of the arrays of each body
-each-body : (xs : List TrendChange) (us : List Val) → shadow (owned (the_row).Denot (the_row).own_val xs us) → Each (λ (x : TrendChange). BodyArrays x.body) xs
-each-body [] us s = tt
-each-body (x ∷ xs) [] s = absurd s
-each-body (x ∷ xs) (u ∷ us) s = (body-arrays x.body _ s.0.1.1.1.1.0, each-body xs us s.1)
 
 -- an array's length is part of its type
 arrays : (c : tie.Start) → MetarArrays c.args.r
@@ -45,7 +36,7 @@ arrays c =
             states = runways.1.1.1.1.0.1.1.0.1.0.1;
           };
       trend = items.1.0.1;
-      each = each-body r.trend.items _ items.1.1;
+      each = each-owned the_row (λ (x : TrendChange). BodyArrays x.body) (λ x us s. body-arrays x.body _ s.1.1.1.1.0) r.trend.items _ items.1.1;
     }
 
 -- the report as it is made over the array, which has room for the longest

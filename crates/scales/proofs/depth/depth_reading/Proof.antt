@@ -1,5 +1,6 @@
 -- `scales::depth::depth_reading` meets its contract: each branch is a run of the scale, or no class has the figure.
 -- Assumes nothing.
+use Rattle.std.specs.Prelude.{None, Some}
 use mathlib.Core.Path.{◌≡◌, refl, ◌∙◌}
 use mathlib.Core.List.{[]}
 use mathlib.Core.Logic.{◌⊎◌, inl, inr, ⊎_elim}
@@ -7,21 +8,20 @@ use Prim.Native.Nat.{ℕ, ◌-◌, ◌*◌, ◌≤◌, ◌<◌}
 use native.Mathlib.Omega.{arith}
 use lib.Dec.{eqb}
 use borrow.Author.Rules.{rules}
-use Rattle.scales.specs.Scale.{None, run, read_in}
+use Rattle.scales.specs.Scale.{run, read_in}
 use Rattle.scales.specs.Metres.{metres_reading}
 use Rattle.scales.specs.Depth.{depth}
-use Rattle.scales.specs.declared.kinds.Reading.TheVariants as reading
 use Rattle.scales.proofs.Answers.{read_is, foot-is}
 use Rattle.scales.proofs.Runs.{skip, meet}
 use Rattle.scales.proofs.depth.depth_reading.Statement.{statement}
 use Rattle.scales.proofs.depth.depth_reading.Tie as tie
 
 module _ (f : ℕ) where
-  by-1 : f ≤ 90 → reading.Is f ≡ metres_reading depth f
+  by-1 : f ≤ 90 → Some f ≡ metres_reading depth f
   unfolding depth run
   by-1 h = foot-is depth f (meet 1 1 f 91 0 0 _ f (omega arith) (omega arith) (omega arith)) (omega arith)
 
-  by-50 : 92 ≤ f → f ≤ 98 → reading.Is ((f - 90) * 50) ≡ metres_reading depth f
+  by-50 : 92 ≤ f → f ≤ 98 → Some ((f - 90) * 50) ≡ metres_reading depth f
   unfolding depth run
   by-50 l h =
       foot-is
@@ -35,7 +35,7 @@ module _ (f : ℕ) where
   unfolding read_in
   unread = refl
 
-  unused : 90 < f → (f < 92) ⊎ (98 < f) → reading.Unused ≡ metres_reading depth f
+  unused : 90 < f → (f < 92) ⊎ (98 < f) → None ≡ metres_reading depth f
   unfolding depth run
   unused l h =
       read_is

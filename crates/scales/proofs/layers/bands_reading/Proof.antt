@@ -1,6 +1,6 @@
 -- `scales::layers::bands_reading` meets its contract: figures from 90 on are those of 1600 h.
 -- Assumes nothing.
-use mathlib.Core.Path.{◌≡◌, sym, ap, ◌∙◌}
+use mathlib.Core.Path.{◌∙◌}
 use native.Mathlib.Omega.{arith}
 use borrow.Author.Rules.{rules}
 use Rattle.scales.proofs.LayersLaws.{read-bands, unused-bands}

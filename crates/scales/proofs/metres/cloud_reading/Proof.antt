@@ -1,5 +1,6 @@
 -- `scales::metres::cloud_reading` meets its contract: each branch is a run of the scale, or no class has the figure.
 -- Assumes nothing.
+use Rattle.std.specs.Prelude.{None, Some}
 use mathlib.Core.Path.{◌≡◌, refl, sym, ◌∙◌}
 use mathlib.Core.Logic.{◌⊎◌, inl, inr, ⊎_elim}
 use Prim.Native.Nat.{ℕ, ◌-◌, ◌*◌, ◌/◌, ◌%◌, ◌≤◌, ◌<◌}
@@ -9,18 +10,17 @@ use borrow.Author.Rules.{rules}
 use borrow.Author.Tests.{ne_eqb}
 use Rattle.scales.specs.Scale.{run, read_in}
 use Rattle.scales.specs.Metres.{cloud, metres_reading}
-use Rattle.scales.specs.declared.kinds.Reading.TheVariants as reading
 use Rattle.scales.proofs.Answers.{read_is, foot-is}
 use Rattle.scales.proofs.Runs.{skip, meet, other}
 use Rattle.scales.proofs.metres.cloud_reading.Statement.{statement}
 use Rattle.scales.proofs.metres.cloud_reading.Tie as tie
 
 module _ (f : ℕ) where
-  by-30 : f ≤ 100 → reading.Is (f * 30) ≡ metres_reading cloud f
+  by-30 : f ≤ 100 → Some (f * 30) ≡ metres_reading cloud f
   unfolding cloud run
   by-30 h = foot-is cloud f (meet 30 1 f 101 0 0 _ f (omega arith) (omega arith) (omega arith)) (omega arith)
 
-  by-300 : 100 < f → f ≤ 990 → f % 10 ≡ 0 → reading.Is (f / 10 * 300) ≡ metres_reading cloud f
+  by-300 : 100 < f → f ≤ 990 → f % 10 ≡ 0 → Some (f / 10 * 300) ≡ metres_reading cloud f
   unfolding cloud run
   by-300 l h d =
       foot-is
@@ -30,11 +30,11 @@ module _ (f : ℕ) where
       ∙ meet 300 10 f 89 3300 110 _ (f / 10 - 11) (omega arith) (omega arith) (omega arith))
       (omega arith)
 
-  over : f ≡ 999 → reading.Is 30000 ≡ metres_reading cloud f
+  over : f ≡ 999 → Some 30000 ≡ metres_reading cloud f
   unfolding cloud run read_in
   over e = rw e (read_is cloud 999 refl)
 
-  unused : 100 < f → (f ≡ 999 → ⊥) → ((f % 10 ≡ 0 → ⊥) ⊎ (990 < f)) → reading.Unused ≡ metres_reading cloud f
+  unused : 100 < f → (f ≡ 999 → ⊥) → ((f % 10 ≡ 0 → ⊥) ⊎ (990 < f)) → None ≡ metres_reading cloud f
   unfolding cloud run
   unused l n h =
       read_is

@@ -1,5 +1,6 @@
 -- `scales::metres::exact_reading` meets its contract: each branch is a run of the scale whose figures are its feet.
 -- Assumes nothing.
+use Rattle.std.specs.Prelude.{None, Some}
 use mathlib.Core.Path.{◌≡◌, refl, ◌∙◌}
 use mathlib.Core.Logic.{◌⊎◌, inl, inr, ⊎_elim}
 use Prim.Native.Nat.{ℕ, ◌+◌, ◌*◌, ◌%◌, ◌≤◌, ◌<◌}
@@ -8,10 +9,9 @@ use lib.Dec.{eqb}
 use borrow.Author.Rules.{rules}
 use mathlib.Core.Bool.{cond}
 use mathlib.Core.List.{List, ◌++◌}
-use Rattle.scales.specs.Scale.{Class, Foot, None, run, read_in}
+use Rattle.scales.specs.Scale.{Class, run, read_in}
 use Rattle.scales.specs.declared.kinds.Range.{Range}
-use Rattle.scales.specs.Metres.{runway, same_range, answered, range_reading}
-use Rattle.scales.specs.declared.kinds.Reading.TheVariants as reading
+use Rattle.scales.specs.Metres.{runway, same_range, range_reading}
 use Rattle.scales.specs.declared.kinds.Range.TheVariants.{Exact}
 use Rattle.scales.proofs.Answers.{range-read-is}
 use Rattle.scales.proofs.Runs.{miss, level}
@@ -25,7 +25,7 @@ module _ (f : ℕ) where
   unfolding same_range
   skip apart n foot = miss Exact apart apart same_range (Exact f) f (λ a. refl) n foot foot
 
-  by-25 : 50 ≤ f → f < 400 → answered (cond (eqb (f % 25) 0) (Foot f) None) ≡ range_reading (Exact f)
+  by-25 : 50 ≤ f → f < 400 → cond (eqb (f % 25) 0) (Some f) None ≡ range_reading (Exact f)
   unfolding runway same_range read_in
   by-25 l h =
       range-read-is
@@ -33,7 +33,7 @@ module _ (f : ℕ) where
       (level Exact 25 (omega arith) same_range (Exact f) f (λ a. refl) 14 2 _ (omega arith) (omega arith)
       (skip 50 8 400 _ (λ k m e. omega arith) ∙ skip 100 13 800 _ (λ k m e. omega arith)))
 
-  by-50 : 400 ≤ f → f < 800 → answered (cond (eqb (f % 50) 0) (Foot f) None) ≡ range_reading (Exact f)
+  by-50 : 400 ≤ f → f < 800 → cond (eqb (f % 50) 0) (Some f) None ≡ range_reading (Exact f)
   unfolding runway same_range read_in
   by-50 l h =
       range-read-is
@@ -42,7 +42,7 @@ module _ (f : ℕ) where
       ∙ level Exact 50 (omega arith) same_range (Exact f) f (λ a. refl) 8 8 _ (omega arith) (omega arith)
       (skip 100 13 800 _ (λ k m e. omega arith)))
 
-  by-100 : 800 ≤ f → f ≤ 2000 → answered (cond (eqb (f % 100) 0) (Foot f) None) ≡ range_reading (Exact f)
+  by-100 : 800 ≤ f → f ≤ 2000 → cond (eqb (f % 100) 0) (Some f) None ≡ range_reading (Exact f)
   unfolding runway same_range read_in
   by-100 l h =
       range-read-is
@@ -51,7 +51,7 @@ module _ (f : ℕ) where
       ∙ skip 50 8 400 _ (λ k m e. omega arith)
       ∙ level Exact 100 (omega arith) same_range (Exact f) f (λ a. refl) 13 8 _ (omega arith) (omega arith) refl)
 
-  unused : (f < 50) ⊎ (2000 < f) → reading.Unused ≡ range_reading (Exact f)
+  unused : (f < 50) ⊎ (2000 < f) → None ≡ range_reading (Exact f)
   unfolding runway same_range read_in
   unused h =
       range-read-is

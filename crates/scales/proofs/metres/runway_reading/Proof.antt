@@ -1,30 +1,30 @@
 -- `scales::metres::runway_reading` meets its contract: M and P have one class each, the rest is `exact_reading`'s.
 -- Assumes nothing.
+use Rattle.std.specs.Prelude.{None, Some}
 use mathlib.Core.Path.{◌≡◌, sym}
 use Prim.Native.Nat.{ℕ}
 use borrow.Author.Rules.{rules}
 use borrow.Author.Tests.{ne_eqb}
 use Rattle.scales.specs.Scale.{run, read_in}
 use Rattle.scales.specs.Metres.{runway, same_range, range_reading}
-use Rattle.scales.specs.declared.kinds.Reading.TheVariants as reading
 use Rattle.scales.specs.declared.kinds.Range.TheVariants.{Below, Above}
 use Rattle.scales.proofs.metres.runway_reading.Statement.{statement}
 use Rattle.scales.proofs.metres.runway_reading.Tie as tie
 
 module _ (f : ℕ) where
-  below : f ≡ 50 → reading.Is 0 ≡ range_reading (Below f)
+  below : f ≡ 50 → Some 0 ≡ range_reading (Below f)
   unfolding range_reading runway run read_in same_range
   below e = rw e
 
-  not-below : (f ≡ 50 → ⊥) → reading.Unused ≡ range_reading (Below f)
+  not-below : (f ≡ 50 → ⊥) → None ≡ range_reading (Below f)
   unfolding range_reading runway run read_in same_range
   not-below n = rw (ne_eqb 50 f (λ e. n (sym e)))
 
-  above : f ≡ 2000 → reading.Is 2001 ≡ range_reading (Above f)
+  above : f ≡ 2000 → Some 2001 ≡ range_reading (Above f)
   unfolding range_reading runway run read_in same_range
   above e = rw e
 
-  not-above : (f ≡ 2000 → ⊥) → reading.Unused ≡ range_reading (Above f)
+  not-above : (f ≡ 2000 → ⊥) → None ≡ range_reading (Above f)
   unfolding range_reading runway run read_in same_range
   not-above n = rw (ne_eqb 2000 f (λ e. n (sym e)))
 

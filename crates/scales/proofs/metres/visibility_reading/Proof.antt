@@ -1,5 +1,6 @@
 -- `scales::metres::visibility_reading` meets its contract: each branch is a run of the scale whose figures are its feet.
 -- Assumes nothing.
+use Rattle.std.specs.Prelude.{None, Some}
 use mathlib.Core.Path.{◌≡◌, refl, sym, ◌∙◌}
 use Prim.Native.Nat.{ℕ, ◌%◌, ◌≤◌, ◌<◌}
 use native.Mathlib.Omega.{arith}
@@ -7,16 +8,15 @@ use lib.Dec.{eqb}
 use borrow.Author.Rules.{rules}
 use borrow.Author.Tests.{ne_eqb}
 use mathlib.Core.Bool.{cond}
-use Rattle.scales.specs.Scale.{Foot, None, run, read_in}
-use Rattle.scales.specs.Metres.{visibility, answered, metres_reading}
-use Rattle.scales.specs.declared.kinds.Reading.TheVariants as reading
+use Rattle.scales.specs.Scale.{run, read_in}
+use Rattle.scales.specs.Metres.{visibility, metres_reading}
 use Rattle.scales.proofs.Answers.{read_is}
 use Rattle.scales.proofs.Runs.{plain, skip, level, other}
 use Rattle.scales.proofs.metres.visibility_reading.Statement.{statement}
 use Rattle.scales.proofs.metres.visibility_reading.Tie as tie
 
 module _ (f : ℕ) where
-  by-50 : f < 800 → answered (cond (eqb (f % 50) 0) (Foot f) None) ≡ metres_reading visibility f
+  by-50 : f < 800 → cond (eqb (f % 50) 0) (Some f) None ≡ metres_reading visibility f
   unfolding visibility run
   by-50 h =
       read_is
@@ -27,7 +27,7 @@ module _ (f : ℕ) where
       ∙ skip 1000 1000 f 5 5000 5000 _ (λ k m e. omega arith)
       ∙ other eqb _ f (ne_eqb 9999 f (λ e. omega arith))))
 
-  by-100 : 800 ≤ f → f < 5000 → answered (cond (eqb (f % 100) 0) (Foot f) None) ≡ metres_reading visibility f
+  by-100 : 800 ≤ f → f < 5000 → cond (eqb (f % 100) 0) (Some f) None ≡ metres_reading visibility f
   unfolding visibility run
   by-100 l h =
       read_is
@@ -38,7 +38,7 @@ module _ (f : ℕ) where
       (skip 1000 1000 f 5 5000 5000 _ (λ k m e. omega arith)
       ∙ other eqb _ f (ne_eqb 9999 f (λ e. omega arith))))
 
-  by-1000 : 5000 ≤ f → f ≤ 9000 → answered (cond (eqb (f % 1000) 0) (Foot f) None) ≡ metres_reading visibility f
+  by-1000 : 5000 ≤ f → f ≤ 9000 → cond (eqb (f % 1000) 0) (Some f) None ≡ metres_reading visibility f
   unfolding visibility run
   by-1000 l h =
       read_is
@@ -49,11 +49,11 @@ module _ (f : ℕ) where
       ∙ level plain 1000 (omega arith) eqb f f (λ a. refl) 5 5 _ (omega arith) (omega arith)
       (other eqb _ f (ne_eqb 9999 f (λ e. omega arith))))
 
-  over : f ≡ 9999 → reading.Is 10000 ≡ metres_reading visibility f
+  over : f ≡ 9999 → Some 10000 ≡ metres_reading visibility f
   unfolding visibility run read_in
   over e = rw e (read_is visibility 9999 refl)
 
-  unused : 9000 < f → (f ≡ 9999 → ⊥) → reading.Unused ≡ metres_reading visibility f
+  unused : 9000 < f → (f ≡ 9999 → ⊥) → None ≡ metres_reading visibility f
   unfolding visibility run
   unused l n =
       read_is

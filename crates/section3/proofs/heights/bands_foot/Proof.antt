@@ -14,5 +14,5 @@ bands_foot_spec =
     (λ c κs. search rules) (λ c. search rules) (λ c. search rules)
     (λ c. open-bands _ (sym c.bands_figure.ensures ∙ c.in_default.is))
     (λ c κs. search rules) (λ c. search rules) (λ c. search rules)
-    (λ c. absurd (always-told bands-laws _ c.bands_figure.ensures c.in-Is.is c.bands_reading.ensures c.in_default-bands_reading.is))
-    (λ c. foot-told bands-laws _ c.bands_figure.ensures c.in-Is.is c.bands_reading.ensures c.in-Is-bands_reading.is))
+    (λ c. absurd (always-told bands-laws _ c.bands_figure.ensures c.in-Some.is c.bands_reading.ensures c.in_default-bands_reading.is))
+    (λ c. foot-told bands-laws _ c.bands_figure.ensures c.in-Some.is c.bands_reading.ensures c.in-Some-bands_reading.is))

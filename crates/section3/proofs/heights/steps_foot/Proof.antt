@@ -14,5 +14,5 @@ steps_foot_spec =
     (λ c κs. search rules) (λ c. search rules) (λ c. search rules)
     (λ c. open-steps _ (sym c.steps_figure.ensures ∙ c.in_default.is))
     (λ c κs. search rules) (λ c. search rules) (λ c. search rules)
-    (λ c. absurd (always-told steps-laws _ c.steps_figure.ensures c.in-Is.is c.steps_reading.ensures c.in_default-steps_reading.is))
-    (λ c. foot-told steps-laws _ c.steps_figure.ensures c.in-Is.is c.steps_reading.ensures c.in-Is-steps_reading.is))
+    (λ c. absurd (always-told steps-laws _ c.steps_figure.ensures c.in-Some.is c.steps_reading.ensures c.in_default-steps_reading.is))
+    (λ c. foot-told steps-laws _ c.steps_figure.ensures c.in-Some.is c.steps_reading.ensures c.in-Some-steps_reading.is))

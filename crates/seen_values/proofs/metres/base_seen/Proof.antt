@@ -14,5 +14,5 @@ base_seen_spec =
     tie.close
     (tie.spec
     (λ c κs. search rules) (λ c κs. search rules) (λ c. search rules) (λ c κs. search rules) (λ c κs. search rules) (λ c. search rules)
-    (λ c. c.if_foot.ensures ∙ by-figure base base-laws base-rounds _ _ base-follows _ c.base_figure.ensures c.in-Is.is c.base_reading.ensures c.class_by-class.ensures)
-    (λ c. by-none base base-laws base-rounds _ _ base-follows _ c.base_figure.ensures c.in-OutOfRange.is))
+    (λ c. c.if_foot.ensures ∙ by-figure base base-laws base-rounds _ _ base-follows _ c.base_figure.ensures c.in-Some.is c.base_reading.ensures c.class_by-class.ensures)
+    (λ c. by-none base base-laws base-rounds _ _ base-follows _ c.base_figure.ensures c.in-None.is))

@@ -14,5 +14,5 @@ cloud_seen_spec =
     tie.close
     (tie.spec
     (λ c κs. search rules) (λ c κs. search rules) (λ c. search rules) (λ c κs. search rules) (λ c κs. search rules) (λ c. search rules)
-    (λ c. c.if_foot.ensures ∙ by-figure cloud cloud-laws cloud-rounds _ _ cloud-follows _ c.cloud_figure.ensures c.in-Is.is c.cloud_reading.ensures c.class_by-class.ensures)
-    (λ c. by-none cloud cloud-laws cloud-rounds _ _ cloud-follows _ c.cloud_figure.ensures c.in-OutOfRange.is))
+    (λ c. c.if_foot.ensures ∙ by-figure cloud cloud-laws cloud-rounds _ _ cloud-follows _ c.cloud_figure.ensures c.in-Some.is c.cloud_reading.ensures c.class_by-class.ensures)
+    (λ c. by-none cloud cloud-laws cloud-rounds _ _ cloud-follows _ c.cloud_figure.ensures c.in-None.is))

@@ -13,5 +13,5 @@ depth_seen_spec =
     tie.close
     (tie.spec
     (λ c κs. search rules) (λ c κs. search rules) (λ c. search rules) (λ c κs. search rules) (λ c κs. search rules) (λ c. search rules)
-    (λ c. c.if_foot.ensures ∙ by-figure depth depth-laws depth-rounds _ _ depth-follows _ c.depth_figure.ensures c.in-Is.is c.depth_reading.ensures c.class_by-class.ensures)
-    (λ c. by-none depth depth-laws depth-rounds _ _ depth-follows _ c.depth_figure.ensures c.in-OutOfRange.is))
+    (λ c. c.if_foot.ensures ∙ by-figure depth depth-laws depth-rounds _ _ depth-follows _ c.depth_figure.ensures c.in-Some.is c.depth_reading.ensures c.class_by-class.ensures)
+    (λ c. by-none depth depth-laws depth-rounds _ _ depth-follows _ c.depth_figure.ensures c.in-None.is))

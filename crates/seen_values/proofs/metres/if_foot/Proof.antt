@@ -10,6 +10,6 @@ if_foot_spec =
     tie.close
     (tie.spec
     (λ c. search rules) (λ c. search rules)
-    (λ c. rw (c.in-Is.is, eq-eqb _ _ c.if-foot-metres.true))
-    (λ c. rw (c.in-Is.is, ne_eqb _ _ c.if-foot-metres.false))
+    (λ c. rw (c.in-Some.is, eq-eqb _ _ c.if-foot-metres.true))
+    (λ c. rw (c.in-Some.is, ne_eqb _ _ c.if-foot-metres.false))
     (λ c. search rules))

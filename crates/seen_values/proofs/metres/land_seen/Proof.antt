@@ -14,5 +14,5 @@ land_seen_spec =
     tie.close
     (tie.spec
     (λ c κs. search rules) (λ c κs. search rules) (λ c. search rules) (λ c κs. search rules) (λ c κs. search rules) (λ c. search rules)
-    (λ c. c.if_foot.ensures ∙ by-figure land land-laws land-rounds _ _ land-follows _ c.land_figure.ensures c.in-Is.is c.land_reading.ensures c.class_by-class.ensures)
-    (λ c. by-none land land-laws land-rounds _ _ land-follows _ c.land_figure.ensures c.in-OutOfRange.is))
+    (λ c. c.if_foot.ensures ∙ by-figure land land-laws land-rounds _ _ land-follows _ c.land_figure.ensures c.in-Some.is c.land_reading.ensures c.class_by-class.ensures)
+    (λ c. by-none land land-laws land-rounds _ _ land-follows _ c.land_figure.ensures c.in-None.is))

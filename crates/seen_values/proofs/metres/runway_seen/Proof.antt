@@ -11,5 +11,5 @@ runway_seen_spec =
     tie.close
     (tie.spec
     (λ c κs. search rules) (λ c κs. search rules) (λ c. search rules) (λ c κs. search rules) (λ c κs. search rules) (λ c. search rules)
-    (λ c. c.if_foot.ensures ∙ by-range _ _ runway-follows _ c.runway_figure.ensures c.in-Is.is c.runway_reading.ensures c.class_by-class.ensures)
-    (λ c. by-no-range _ _ runway-follows _ c.runway_figure.ensures c.in-OutOfRange.is))
+    (λ c. c.if_foot.ensures ∙ by-range _ _ runway-follows _ c.runway_figure.ensures c.in-Some.is c.runway_reading.ensures c.class_by-class.ensures)
+    (λ c. by-no-range _ _ runway-follows _ c.runway_figure.ensures c.in-None.is))

@@ -14,5 +14,5 @@ sea_seen_spec =
     tie.close
     (tie.spec
     (λ c κs. search rules) (λ c κs. search rules) (λ c. search rules) (λ c κs. search rules) (λ c κs. search rules) (λ c. search rules)
-    (λ c. c.if_foot.ensures ∙ by-figure sea sea-laws sea-rounds _ _ sea-follows _ c.sea_figure.ensures c.in-Is.is c.sea_reading.ensures c.class_by-class.ensures)
-    (λ c. by-none sea sea-laws sea-rounds _ _ sea-follows _ c.sea_figure.ensures c.in-OutOfRange.is))
+    (λ c. c.if_foot.ensures ∙ by-figure sea sea-laws sea-rounds _ _ sea-follows _ c.sea_figure.ensures c.in-Some.is c.sea_reading.ensures c.class_by-class.ensures)
+    (λ c. by-none sea sea-laws sea-rounds _ _ sea-follows _ c.sea_figure.ensures c.in-None.is))

@@ -13,5 +13,5 @@ steps_seen_spec =
     tie.close
     (tie.spec
     (λ c κs. search rules) (λ c κs. search rules) (λ c. search rules) (λ c κs. search rules) (λ c κs. search rules) (λ c. search rules)
-    (λ c. c.if_foot.ensures ∙ by-figure layer_steps steps-laws steps-rounds _ _ steps-follows _ c.steps_figure.ensures c.in-Is.is c.steps_reading.ensures c.class_by-class.ensures)
-    (λ c. by-none layer_steps steps-laws steps-rounds _ _ steps-follows _ c.steps_figure.ensures c.in-OutOfRange.is))
+    (λ c. c.if_foot.ensures ∙ by-figure layer_steps steps-laws steps-rounds _ _ steps-follows _ c.steps_figure.ensures c.in-Some.is c.steps_reading.ensures c.class_by-class.ensures)
+    (λ c. by-none layer_steps steps-laws steps-rounds _ _ steps-follows _ c.steps_figure.ensures c.in-None.is))

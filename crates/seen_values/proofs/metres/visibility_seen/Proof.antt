@@ -14,5 +14,5 @@ visibility_seen_spec =
     tie.close
     (tie.spec
     (λ c κs. search rules) (λ c κs. search rules) (λ c. search rules) (λ c κs. search rules) (λ c κs. search rules) (λ c. search rules)
-    (λ c. c.if_foot.ensures ∙ by-figure visibility visibility-laws visibility-rounds _ _ visibility-follows _ c.visibility_figure.ensures c.in-Is.is c.visibility_reading.ensures c.class_by-class.ensures)
-    (λ c. by-none visibility visibility-laws visibility-rounds _ _ visibility-follows _ c.visibility_figure.ensures c.in-OutOfRange.is))
+    (λ c. c.if_foot.ensures ∙ by-figure visibility visibility-laws visibility-rounds _ _ visibility-follows _ c.visibility_figure.ensures c.in-Some.is c.visibility_reading.ensures c.class_by-class.ensures)
+    (λ c. by-none visibility visibility-laws visibility-rounds _ _ visibility-follows _ c.visibility_figure.ensures c.in-None.is))

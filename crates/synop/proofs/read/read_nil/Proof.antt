@@ -18,9 +18,9 @@ read_nil_spec =
     c.refuse.ensures ∙ nil-then a.text.now a.at a.report _ _ (when-group _ _ _ _ (sym c.in-Group.is ∙ c.next_group-next.ensures)))
     (λ c.
     let a = c.args in
-    c.refuse-in-Junk.ensures
-    ∙ nil-over a.text.now a.at a.report _ (when-end _ _ _ (sym c.in-End.is ∙ c.next_group-next.ensures)) (sym c.in-Junk.is ∙ c.tail-tail.ensures))
+    c.refuse-in-Some.ensures
+    ∙ nil-over a.text.now a.at a.report _ (when-end _ _ _ (sym c.in-End.is ∙ c.next_group-next.ensures)) (sym c.in-Some.is ∙ c.tail-tail.ensures))
     (λ c.
     let a = c.args in
     c.accept.ensures
-    ∙ nil-over a.text.now a.at a.report _ (when-end _ _ _ (sym c.in-End.is ∙ c.next_group-next.ensures)) (sym c.in-Clear.is ∙ c.tail-tail.ensures)))
+    ∙ nil-over a.text.now a.at a.report _ (when-end _ _ _ (sym c.in-End.is ∙ c.next_group-next.ensures)) (sym c.in-None.is ∙ c.tail-tail.ensures)))

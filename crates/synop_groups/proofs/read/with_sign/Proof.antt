@@ -10,5 +10,5 @@ with_sign_spec =
     tie.close
     (tie.spec
     (λ c κs. search rules) (λ c. search rules) (λ c. search rules)
-    (λ c. signed _ _ c.requires c.signed_of-s.ensures c.in-Is.is)
-    (λ c. absurd (unsigned _ _ c.requires c.signed_of-s.ensures c.in-TooLarge.is)))
+    (λ c. signed _ _ c.requires c.signed_of-s.ensures c.in-Some.is)
+    (λ c. absurd (unsigned _ _ c.requires c.signed_of-s.ensures c.in-None.is)))

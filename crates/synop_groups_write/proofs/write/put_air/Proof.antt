@@ -13,10 +13,10 @@ put_air_spec =
     tie.close
     (tie.spec
     (λ c. search rules) (λ c. search rules) (λ c κs. tt)
-    (λ c. unfold show_air in rw c.in-Missing.is (write-none _ _))
+    (λ c. unfold show_air in rw c.in-None.is (write-none _ _))
     (λ c. search rules)
     (λ c.
     let d = c in
-    let back = to_z-of_z w32 d.in-Is.t (search rules) in
+    let back = to_z-of_z w32 d.in-Some.t (search rules) in
     unfold show_air in
-    rw d.in-Is.is (rw back at c.put_signed.ensures)))
+    rw d.in-Some.is (rw back at c.put_signed.ensures)))

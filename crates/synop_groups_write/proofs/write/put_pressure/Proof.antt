@@ -12,6 +12,6 @@ put_pressure_spec =
     tie.close
     (tie.spec
     (λ c. search rules) (λ c. search rules) (λ c κs. tt)
-    (λ c. unfold show_pressure in rw c.in-Missing.is (write-none _ _))
+    (λ c. unfold show_pressure in rw c.in-None.is (write-none _ _))
     (λ c. search rules)
-    (λ c. unfold show_pressure number_text in rw c.in-Is.is c.put_coded.ensures))
+    (λ c. unfold show_pressure number_text in rw c.in-Some.is c.put_coded.ensures))

@@ -1,5 +1,6 @@
 -- `section::read_groups` meets its contract: the reading from a position on stays what the groups are read as.
 -- Assumes nothing.
+use Rattle.std.specs.Prelude.{Ok}
 use borrow.Author.Rules.{rules}
 use Prim.Native.Nat.{ℕ, ◌+◌, ◌-◌, ◌<◌}
 use native.Mathlib.Omega.{arith}
@@ -9,7 +10,6 @@ use lib.ListN.{length}
 use types.Run.{miss}
 use Rattle.text.proofs.Groups.{Follows, when-group, when-end, from_end}
 use Rattle.shapes.specs.Pattern.{has_any}
-use Rattle.places.specs.Engine.{Good}
 use Rattle.places.proofs.Loop.{turn-room}
 use Rattle.record.specs.declared.surface.Surface.{Surface}
 use Rattle.record.specs.declared.surface.Synop.{Synop}
@@ -42,7 +42,7 @@ module _ (c : tie.After-said_at-said Inv μ) where
   less : length c.args.text.now - c.in-Group.end < length c.args.text.now - c.loop-at.at
   less = omega (arith, follows c.before.before.before.before)
 
-  again : {y : Said} {s : Surface} → c.said_at-said.result ≡ y → with_said y c.loop-at.surface ≡ Good s
+  again : {y : Said} {s : Surface} → c.said_at-said.result ≡ y → with_said y c.loop-at.surface ≡ Ok s
       → Inv c.args.text.now c.args.from c.args.needs c.args.earlier 0 0 c.args.from s c.in-At.place (c.in-At.count + 1) c.in-Group.end
   again tells put = goes_on _ _ _ _ _ _ _ _ c.loop-at.invariant (follows c.before.before.before.before) c.part-g.ensures c.decide-turn.ensures c.in-At.is (said-reads _ _ _ _ _ c.said_at-said.ensures tells put) (row-endless _ _)
 

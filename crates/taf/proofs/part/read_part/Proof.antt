@@ -50,7 +50,7 @@ read_part_spec =
     (λ c. search rules) (λ c κs. search rules)
     (λ c. omega (arith, group-ahead c.loop-start.invariant part_said _ c.meet-met.ensures refl c.in-Says.is))
     (λ c κs. search rules)
-    (λ c. search rules) (λ c κs. search rules) (λ c. less c.before.before) (λ c. on c.before.before c.in-Correction.is (rw c.with_correction-leg.ensures (unfold part_said in refl)))
+    (λ c. search rules) (λ c. less c.before) (λ c. on c.before c.in-Correction.is (unfold part_said in refl))
     (λ c. search rules) (λ c κs. search rules) (λ c. less c.before.before) (λ c. on c.before.before c.in-Station.is (rw c.station_of-leg.ensures (unfold part_said in refl)))
     (λ c. search rules) (λ c. less c.before) (λ c. on c.before c.in-Time.is (unfold part_said in refl))
     (λ c. search rules) (λ c. less c.before) (λ c. on c.before c.in-Nil.is (unfold part_said in refl))

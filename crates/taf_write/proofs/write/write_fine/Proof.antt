@@ -7,26 +7,17 @@ use mathlib.Core.Path.{◌≡◌, refl, sym}
 use mathlib.Core.List.{List, [], ◌∷◌, ◌++◌}
 use lib.ListN.{length, take, replicate}
 use lib.Seq.{length-take-le}
-use mir.Val.{Val}
-use denote.Array.{each as owned}
-use denote.Shadow.{shadow}
 use Rattle.figures.specs.Put.{Put}
 use Rattle.text.specs.Groups.{join, written}
 use Rattle.places.proofs.Delivered.{made, delivered}
 use Rattle.record.specs.declared.aerodrome.Change.{Change}
 use Rattle.record.specs.contracts.aerodrome.Change.{the_row}
-use Rattle.record.specs.Arrays.{BodyArrays, TafArrays, Each}
-use Rattle.body.proofs.Arrays.{body-arrays}
+use Rattle.record.specs.Arrays.{BodyArrays, TafArrays}
+use Rattle.body.proofs.Arrays.{body-arrays, each-owned}
 use Rattle.taf.specs.Write.{groups_of, canonical_of}
 use Rattle.taf_laws.proofs.Canonical.{groups-sizes, length-canonical}
 use Rattle.taf_write.proofs.write.write_fine.Statement.{statement}
 use Rattle.taf_write.proofs.write.write_fine.Tie as tie
-
--- owning a list of changes tells of the arrays of each body
-each-body : (xs : List Change) (us : List Val) → shadow (owned (the_row).Denot (the_row).own_val xs us) → Each (λ (x : Change). BodyArrays x.body) xs
-each-body [] us s = tt
-each-body (x ∷ xs) [] s = absurd s
-each-body (x ∷ xs) (u ∷ us) s = (body-arrays x.body _ s.0.1.1.1.1.0, each-body xs us s.1)
 
 -- an array's length is part of its type
 arrays : (c : tie.Start) → TafArrays c.args.t
@@ -37,7 +28,7 @@ arrays c =
       letters = leg.1.0.1.1.0.1.0.1;
       body = body-arrays c.args.t.leg.body _ leg.1.1.1.1.1.1.0;
       changes = changes.1.0.1;
-      each = each-body c.args.t.changes.items _ changes.1.1;
+      each = each-owned the_row (λ (x : Change). BodyArrays x.body) (λ x us s. body-arrays x.body _ s.1.1.1.1.0) c.args.t.changes.items _ changes.1.1;
     }
 
 -- the report as it is made over the array, which has room for the longest

@@ -1,7 +1,6 @@
 -- `text::write::put_if` meets its contract: the group, or nothing.
 -- Assumes nothing.
 use borrow.Author.Rules.{rules}
-use Rattle.text.specs.Groups.{written}
 use Rattle.text.proofs.Writes.{write-none}
 use Rattle.text.proofs.write.put_if.Statement.{statement}
 use Rattle.text.proofs.write.put_if.Tie as tie

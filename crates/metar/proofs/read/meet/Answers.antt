@@ -1,0 +1,27 @@
+-- The group that was cut, by its turn and by what it says, in a record that is as the loop sees it.
+use Rattle.std.proofs.Common.{sym, ◌∙◌}
+use Rattle.text.proofs.Groups.{when-group, when-end}
+use Rattle.shapes.specs.Pattern.{has_any}
+use Rattle.metar_row.specs.Row.{row, words}
+use Rattle.metar.specs.Said.{DependsOn, report_said}
+use Rattle.body.proofs.Meets.{meets-halt, meets-fault, meets-said}
+use Rattle.metar.proofs.Steps.{row-few}
+use Rattle.metar.proofs.read.meet.Goals as goal
+
+pub returns-in_default : goal.returns-in_default
+returns-in_default c = when-end _ _ _ (sym c.in_default.is ∙ c.next_group.ensures)
+
+pub returns-in-Halt : goal.returns-in-Halt
+returns-in-Halt c =
+    let follows = when-group _ _ _ _ (sym c.in-Group.is ∙ c.next_group.ensures) in
+    meets-halt row (has_any words) report_said _ _ (DependsOn c.args.so_far.automatic c.args.so_far.body c.args.so_far.states.count) follows c.part-g.ensures c.decide.ensures c.in-Halt.is
+
+pub returns-in-Refused : goal.returns-in-Refused
+returns-in-Refused c =
+    let follows = when-group _ _ _ _ (sym c.in-Group.is ∙ c.next_group.ensures) in
+    meets-fault row (has_any words) report_said _ _ (DependsOn c.args.so_far.automatic c.args.so_far.body c.args.so_far.states.count) follows c.part-g.ensures c.decide.ensures c.in-Refused.is
+
+pub returns-in-At : goal.returns-in-At
+returns-in-At c =
+    let follows = when-group _ _ _ _ (sym c.in-Group.is ∙ c.next_group.ensures) in
+    meets-said row (has_any words) report_said _ _ (DependsOn c.args.so_far.automatic c.args.so_far.body c.args.so_far.states.count) follows c.part-g.ensures c.decide.ensures c.in-At.is row-few c.say_at-said.result c.say_at-said.ensures c.meet_said.ensures

@@ -1,8 +1,0 @@
--- `report_move::refuse` meets its contract: the record is blank.
--- Assumes nothing.
-use borrow.Author.Rules.{rules}
-use Rattle.report_move.proofs.refuse.Statement.{statement}
-use Rattle.report_move.proofs.refuse.Tie as tie
-
-pub refuse_spec : {M : Type 1} → statement M
-refuse_spec = tie.close (tie.spec (λ c κs. search rules) (λ c. rw c.blank_report-report.ensures))

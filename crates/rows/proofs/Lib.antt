@@ -1,0 +1,2 @@
+-- What the proofs of the search use.
+pub mod First

@@ -1,8 +1,0 @@
--- `trend::part::end_part` meets its contract: what the change lacks is asked of it.
--- Assumes nothing.
-use borrow.Author.Rules.{rules}
-use Rattle.trend.proofs.part.end_part.Statement.{statement}
-use Rattle.trend.proofs.part.end_part.Tie as tie
-
-pub end_part_spec : {M : Type 1} → statement M
-end_part_spec = tie.close (tie.spec (λ c κs. search rules) (λ c κs. search rules) (λ c. rw (c.end_verdict-verdict.ensures, c.lacks.ensures)))
