@@ -52,23 +52,16 @@ fn read_body(
     };
     let read = read_part(edition, text, at, n + 1, outset);
     let change = change_of(opening, read.leg);
-    let next = read.next;
-    match next {
-        Next::End(verdict) => {
-            let mut ahead = none(verdict, n + 1);
-            ahead.items[n] = change;
-            ahead
-        }
+    let mut ahead = match read.next {
+        Next::End(verdict) => none(verdict, n + 1),
         Next::Change {
             opening: other,
             period: its,
             at: behind,
-        } => {
-            let mut ahead = read_change(edition, text, behind, n + 1, other, its);
-            ahead.items[n] = change;
-            ahead
-        }
-    }
+        } => read_change(edition, text, behind, n + 1, other, its),
+    };
+    ahead.items[n] = change;
+    ahead
 }
 
 // A change from behind its word on, n changes before it: TEMPO at once after PROB30 or PROB40 belongs to the word.
